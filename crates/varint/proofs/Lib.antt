@@ -1,0 +1,5 @@
+pub mod GroupLaws
+pub mod PastLaws
+pub mod PutLaws
+pub mod ShortestLaws
+pub mod VarintLaws

@@ -1,0 +1,98 @@
+-- Laws of the shortest form of a number: how it unfolds, how long it is, what its bytes are. Assumes nothing.
+use Prim.Native.Nat.{ℕ, zero, suc, pred, _+_, _-_, _*_, _/_, _%_, _^_, _≤_, _<_}
+use mathlib.Core.Path.{_≡_, refl, ap, _∙_}
+use mathlib.Core.Bool.{Bool, true, false}
+use mathlib.Core.List.{List, [], _∷_}
+use native.Mathlib.Omega.{arith}
+use native.Mathlib.Nat.{one-le-pow, mul-suc, mod-eq-of-lt}
+use native.Mathlib.Numerals.{add-one}
+use borrow.Author.Tests.{lt-ltb, le-ltb, ltb-true, ltb-false}
+use lib.ListN.{length, getD, set}
+use lib.Seq.{sets}
+use lib.Count.{leadingZeros, leading-top}
+use lib.Pow.{pow-add, pow-mono}
+use lib.Dec.{ltb}
+use Rattle.varint.specs.Shortest.{shortest, varintBytes}
+
+-- below 128 the number is its own byte
+pub shortest-last : (n v : ℕ) → v < 128 → shortest (suc n) v ≡ v ∷ []
+unfolding shortest
+shortest-last n v h = simp (lt-ltb v 128 h)
+
+-- from 128 on there is one more byte behind the first
+pub shortest-more : (n v : ℕ) → 128 ≤ v → shortest (suc n) v ≡ (128 + v % 128) ∷ shortest n (v / 128)
+unfolding shortest
+shortest-more n v h = simp (le-ltb v 128 h)
+
+-- a number is below 128, or is not
+pub below-or-not : {A : Type 0} (v : ℕ) → (v < 128 → A) → (128 ≤ v → A) → A
+below-or-not {A} v f g = go (ltb v 128) refl
+  where
+    go : (t : Bool) → ltb v 128 ≡ t → A
+    go true e = f (ltb-true v 128 e)
+    go false e = g (ltb-false v 128 e)
+
+-- a number with bits in the group m and in none above it takes m + 1 bytes
+pub shortest-length : (n m v : ℕ) → 128 ^ m ≤ v → v < 128 ^ suc m → m < n → length (shortest n v) ≡ suc m
+shortest-length zero m v a b h = absurd (omega arith)
+shortest-length (suc n) zero v a b h = ap length (shortest-last n v b)
+shortest-length (suc n) (suc m) v a b h =
+    ap length (shortest-more n v (omega (arith, one-le-pow m 128 (omega arith))))
+    ∙ ap suc (shortest-length n m (v / 128) (omega arith) (omega arith) (omega arith))
+
+-- a number that m + 1 groups hold takes no more bytes
+pub shortest-at-most : (n m v : ℕ) → v < 128 ^ suc m → length (shortest n v) ≤ suc m
+unfolding shortest
+shortest-at-most zero m v h = omega arith
+shortest-at-most (suc n) zero v h = rw (shortest-last n v h) (omega arith)
+shortest-at-most (suc n) (suc m) v h =
+    below-or-not v (λ a. rw (shortest-last n v a) (omega arith))
+    (λ a. rw (shortest-more n v a) (omega (arith, shortest-at-most n m (v / 128) (omega arith))))
+
+-- at least one byte, and at most the n that are allowed
+pub shortest-some : (n v : ℕ) → 0 < length (shortest (suc n) v)
+shortest-some n v = below-or-not v (λ a. rw (shortest-last n v a) (omega arith)) (λ a. rw (shortest-more n v a) (omega arith))
+
+pub shortest-within : (n v : ℕ) → length (shortest n v) ≤ n
+unfolding shortest
+shortest-within zero v = omega arith
+shortest-within (suc n) v =
+    below-or-not v (λ a. rw (shortest-last n v a) (omega arith))
+    (λ a. rw (shortest-more n v a) (omega (arith, shortest-within n (v / 128))))
+
+-- each is a byte
+pub shortest-bytes : (n v k : ℕ) → getD (shortest n v) k 0 < 256
+unfolding shortest
+shortest-bytes zero v k = omega arith
+shortest-bytes (suc n) v zero =
+    below-or-not v (λ a. rw (shortest-last n v a) (omega arith)) (λ a. rw (shortest-more n v a) (omega arith))
+shortest-bytes (suc n) v (suc k) =
+    below-or-not v (λ a. rw (shortest-last n v a) (omega arith)) (λ a. rw (shortest-more n v a) (shortest-bytes n (v / 128) k))
+
+-- seven bits a group
+group-bits : (k : ℕ) → 2 ^ (7 * k) ≡ 128 ^ k
+group-bits zero = refl
+group-bits (suc k) = rw (mul-suc 7 k, pow-add 2 (7 * k) 7, group-bits k) (omega arith)
+
+-- the length by the count of leading zeros
+pub length-by-zeros : (v : ℕ) → 0 < v → v < 2 ^ 64 → (70 - leadingZeros 64 v) / 7 ≡ length (varintBytes v)
+length-by-zeros v p h =
+    let t = leading-top 64 v p h in
+    let q = t .0 / 7 in
+    let low : 2 ^ (7 * q) ≤ 2 ^ (t .0) = pow-mono (omega arith) in
+    let high : 2 ^ suc (t .0) ≤ 2 ^ (7 * suc q) = pow-mono (omega arith) in
+    let long = shortest-length 10 q v (omega (arith, group-bits q)) (omega (arith, group-bits (suc q))) (omega arith) in
+    omega arith
+
+-- a turn of the writing loop: the first byte is stored, and the others are left
+pub written-turn : (m i x : ℕ) (buf : List ℕ) → 128 ≤ x → x < 128 ^ suc m →
+    (x / 128 < 128 ^ suc (pred m))
+    × (sets (set buf i (128 + x % 128)) (i + 1) (shortest (suc (pred m)) (x / 128)) ≡ sets buf i (shortest (suc m) x))
+    × (i + 1 + length (shortest (suc (pred m)) (x / 128)) ≡ i + length (shortest (suc m) x))
+written-turn zero i x buf a h = absurd (omega arith)
+written-turn (suc m) i x buf a h = rw (shortest-more (suc m) x a) (omega arith, rw (add-one i) refl, omega arith)
+
+-- the end of the writing loop: the last byte is stored
+pub written-last : (m i x : ℕ) (buf : List ℕ) → x < 128 →
+    (i + 1 ≡ i + length (shortest (suc m) x)) × (set buf i (x % 128) ≡ sets buf i (shortest (suc m) x))
+written-last m i x buf h = rw (shortest-last m x h, mod-eq-of-lt h) (omega arith, refl)

@@ -1,0 +1,6 @@
+pub mod Past
+pub mod Put
+pub mod Shortest
+pub mod Varint
+pub mod VarintRules
+pub mod Numbers

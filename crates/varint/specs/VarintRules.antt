@@ -1,0 +1,18 @@
+-- What reading and writing a varint come to together.
+use Prim.Native.Nat.{ℕ, _+_, _^_, _≤_, _<_}
+use mathlib.Core.Path.{_≡_}
+use mathlib.Core.List.{List, _++_}
+use lib.ListN.{length}
+use Rattle.varint.specs.declared.Varint.the-variants.{Number}
+use Rattle.varint.specs.Varint.{varintAt}
+use Rattle.varint.specs.Shortest.{varintBytes}
+
+-- what is written reads back, whatever stands before it and behind it
+abbrev pub ReadsBack : Type 0
+ReadsBack =
+    (v : ℕ) (p q : List ℕ) →
+    v < 2 ^ 64 → varintAt (p ++ varintBytes v ++ q) (length p) ≡ Number v (length p + length (varintBytes v))
+
+-- no varint that reads as v is shorter than the one written for v
+abbrev pub NoneShorter : Type 0
+NoneShorter = (s : List ℕ) (at v next : ℕ) → varintAt s at ≡ Number v next → at + length (varintBytes v) ≤ next

@@ -1,0 +1,63 @@
+// Varints of the Protocol Buffers encoding: read at a place of a byte string, measured, written.
+ghost use mathlib.Core.Path.{_≡_};
+ghost use Prim.Native.Nat.{_^_, _<_};
+ghost use Rattle.varint.specs.Varint.{groups, low64, onto, varintAt};
+
+pub mod write;
+
+// What stands at a place: a number and the place behind it, or no varint.
+pub enum Varint {
+    Number { value: u64, next: usize },
+    Bad,
+}
+
+// A cast of a byte that asks nothing.
+fn wide(b: u8) -> u64
+    ensures { λ r. ⌜ r ≡ b ⌝ }
+{
+    b as u64
+}
+
+// The tenth group, on top of the 63 bits of the first nine: only its lowest bit is kept.
+fn last_group(s: &[u8], at: usize, low: u64) -> Varint
+    requires { ⌜ low < 2 ^ 63 ⌝ }
+    ensures { λ r. ⌜ r ≡ low64 (onto low (2 ^ 63) (groups 1 (now (s .entry)) at)) ⌝ }
+{
+    if s.len() <= at {
+        return Varint::Bad;
+    }
+    let b = wide(s[at]);
+    if 128 <= b {
+        return Varint::Bad;
+    }
+    Varint::Number {
+        value: low + b % 2 * 0x8000_0000_0000_0000,
+        next: at + 1,
+    }
+}
+
+pub fn read_varint(s: &[u8], at: usize) -> Varint
+    ensures { λ r. ⌜ r ≡ varintAt (now (s .entry)) at ⌝ }
+{
+    let mut value: u64 = 0;
+    let mut weight: u64 = 1;
+    let mut i = at;
+    let mut k: usize = 0;
+    while k < 9 {
+        if s.len() <= i {
+            return Varint::Bad;
+        }
+        let b = wide(s[i]);
+        i += 1;
+        if b < 128 {
+            return Varint::Number {
+                value: value + b * weight,
+                next: i,
+            };
+        }
+        value += b % 128 * weight;
+        weight *= 128;
+        k += 1;
+    }
+    last_group(s, i, value)
+}
