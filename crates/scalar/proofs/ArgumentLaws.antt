@@ -1,0 +1,56 @@
+-- Doubles and floats are carried with every bit kept, NaNs too (document 01): one law over the format, and its two cases.
+use Prim.Native.Nat.{ℕ, _*_, _%_, _^_, _≤_, _<_}
+use mathlib.Core.Path.{_≡_, refl, sym, ap, _∙_}
+use mathlib.Core.Bool.{Bool, true, false, not, cond}
+use mathlib.Core.List.{List, [], _∷_}
+use lib.Dec.{T}
+use lib.Ieee.{Float, Format, binary32, binary64, ofBits, toBits, nanBits, isNan, top, ones, hid}
+use lib.Ieee.Bits.{toBits-ofBits, nanBits-is, nanBits-above}
+use borrow.Author.Tests.{lt-ltb, le-ltb}
+use Rattle.scalar.specs.declared.argument.Argument.{Argument}
+use Rattle.scalar.specs.declared.argument.Argument.the-variants as Va
+use Rattle.scalar.specs.Argument.{carried, doubleOf, floatOf, typeOf, valuesOf}
+
+module _ (f : Format) (n : ℕ) where
+  -- with the sign taken off, a NaN's bits are above the infinity's, and no other's
+  pub is-nan : ones f * hid f < n % top f → nanBits f n ≡ true
+  is-nan h = nanBits-above f n ∙ lt-ltb (ones f * hid f) (n % top f) h
+
+  pub no-nan : n % top f ≤ ones f * hid f → nanBits f n ≡ false
+  no-nan h = nanBits-above f n ∙ le-ltb (ones f * hid f) (n % top f) h
+
+  -- `f64::from_bits` and `f32::from_bits` ask it so
+  pub asked : nanBits f n ≡ false → T (not (nanBits f n))
+  asked e = rw e tt
+
+module _ (f : Format) (raw : ℕ → Argument) (number : Float → Argument) where
+  -- both cases have a type number: the argument has it
+  pub typed : (k : ℕ) → ((n : ℕ) → typeOf (raw n) ≡ k) → ((d : Float) → typeOf (number d) ≡ k) → (n : ℕ) → typeOf (carried f raw number n) ≡ k
+  typed k a b n = go (nanBits f n)
+    where
+      go : (t : Bool) → typeOf (cond t (raw n) (number (ofBits f n))) ≡ k
+      go true = a n
+      go false = b (ofBits f n)
+
+  -- both cases hold bits: those of the argument are the ones that came
+  pub kept : ((n : ℕ) → valuesOf (raw n) ≡ n ∷ []) → ((d : Float) → valuesOf (number d) ≡ toBits f d ∷ []) →
+      (n : ℕ) → n < 2 * top f → valuesOf (carried f raw number n) ≡ n ∷ []
+  kept a b n h = go (nanBits f n) (sym (nanBits-is f n))
+    where
+      go : (t : Bool) → isNan (ofBits f n) ≡ t → valuesOf (cond t (raw n) (number (ofBits f n))) ≡ n ∷ []
+      go true e = a n
+      go false e = b (ofBits f n) ∙ ap (λ (m : ℕ). m ∷ []) (toBits-ofBits f n h (rw e tt))
+
+-- a double is of Scalar type 5 and has the bits that it came with
+pub double-type : (n : ℕ) → typeOf (doubleOf n) ≡ 5
+double-type = typed binary64 Va.DoubleNan Va.Double 5 (λ n. refl) (λ d. refl)
+
+pub double-kept : (n : ℕ) → n < 2 ^ 64 → valuesOf (doubleOf n) ≡ n ∷ []
+double-kept = kept binary64 Va.DoubleNan Va.Double (λ n. refl) (λ d. refl)
+
+-- a float is of Scalar type 6 and has the bits that it came with
+pub float-type : (n : ℕ) → typeOf (floatOf n) ≡ 6
+float-type = typed binary32 Va.FloatNan Va.Float 6 (λ n. refl) (λ d. refl)
+
+pub float-kept : (n : ℕ) → n < 2 ^ 32 → valuesOf (floatOf n) ≡ n ∷ []
+float-kept = kept binary32 Va.FloatNan Va.Float (λ n. refl) (λ d. refl)

@@ -1,0 +1,4 @@
+pub mod ArgumentLaws
+pub mod FixedLaws
+pub mod SignedLaws
+pub mod ZigzagLaws

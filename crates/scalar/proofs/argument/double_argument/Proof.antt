@@ -1,0 +1,23 @@
+-- The test is the one by which `nanBits` holds.
+use mathlib.Core.Path.{_≡_}
+use mathlib.Core.Bool.{false}
+use native.Mathlib.Omega.{arith}
+use lib.Ieee.{binary64, nanBits}
+use Rattle.scalar.proofs.ArgumentLaws.{is-nan, no-nan, asked}
+use Rattle.scalar.proofs.argument.double_argument.Statement.{statement}
+use Rattle.scalar.proofs.argument.double_argument.Tie as tie
+
+number : (c : tie.Else1) → nanBits binary64 (c .before .args .bits) ≡ false
+number c = no-nan binary64 (c .before .args .bits) (omega arith)
+
+from-bits : tie.Need-float-from-bits-t5
+from-bits c = asked binary64 (c .before .args .bits) (number c)
+
+returns : tie.Need-returns
+returns c = simp (is-nan binary64 (c .before .args .bits) (omega arith))
+
+returns-2 : tie.Need-returns-2
+returns-2 c = simp (number c)
+
+pub double-argument-spec : {M : Type 1} → statement M
+double-argument-spec = tie.close (tie.spec from-bits returns returns-2)

@@ -1,0 +1,4 @@
+pub mod Argument
+pub mod Fixed
+pub mod Zigzag
+pub mod Numbers
