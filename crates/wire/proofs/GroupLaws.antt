@@ -1,0 +1,140 @@
+-- Skipping a group, one turn of the loop at a time. Assumes nothing.
+use Prim.Native.Nat.{ℕ, zero, suc, _+_, _-_, _≤_, _<_}
+use native.Mathlib.Omega.{arith}
+use native.Mathlib.Numerals.{sub-one}
+use mathlib.Core.Path.{_≡_, refl, sym, ap, subst, _∙_}
+use mathlib.Core.List.{List}
+use lib.ListN.{length}
+use borrow.Author.Tests.{eq-eqb, ne-eqb}
+use Rattle.varint.specs.Varint.{low64}
+use Rattle.varint.proofs.GroupLaws.{groups-end}
+use Rattle.wire.specs.Tag.{tagOf, tagAt}
+use Rattle.wire.specs.Group.{andThen, skipValue, groupField, groupFields, groupEnd}
+use Rattle.wire.specs.Past.{PastTag, PastSkip}
+use Rattle.wire.specs.declared.tag.Tag.{Tag}
+use Rattle.wire.specs.declared.group.Skip.{Skip}
+use Rattle.wire.proofs.PastLaws.{tag-past, skip-past, group-past}
+
+-- at the end of the bytes there is no tag
+pub tag-end : (s : List ℕ) (at : ℕ) → length s ≤ at → tagAt s at ≡ Tag.Bad
+tag-end s at h = ap (λ x. tagOf (low64 x)) (groups-end 10 s at h)
+
+-- the fields of a group with `depth - 1` groups left for those in it
+abbrev pub rest : ℕ → ℕ → List ℕ → ℕ → ℕ → Skip
+rest depth most s p number = groupFields (λ n q. groupEnd (depth - 1) s q n) most s p number
+
+-- where the loop stands: what is left at p answers for the whole group
+pub record Skipping (depth : ℕ) (s : List ℕ) (at number p : ℕ) : Type 0 where
+  pub deep : 0 < depth
+  pub most : ℕ
+  pub enough : length s ≤ p + most
+  pub whole : rest depth most s p number ≡ groupEnd depth s at number
+
+pub shut : (s : List ℕ) (at number : ℕ) → groupEnd 0 s at number ≡ Skip.Bad
+unfolding groupEnd
+shut s at number = refl
+
+before-suc : (m : ℕ) → m ≡ suc m - 1
+before-suc m = omega arith
+
+opened : (depth : ℕ) (s : List ℕ) (at number : ℕ) → 0 < depth → rest depth (length s) s at number ≡ groupEnd depth s at number
+unfolding groupEnd
+opened zero s at number h = absurd (omega arith)
+opened (suc d) s at number h =
+    ap (λ (k : ℕ). groupFields (λ n q. groupEnd k s q n) (length s) s at number) (sym (before-suc d))
+
+pub starts : (depth : ℕ) (s : List ℕ) (at number : ℕ) → 0 < depth → Skipping depth s at number at
+starts depth s at number h =
+    record { deep = h; most = length s; enough = omega arith; whole = opened depth s at number h }
+
+unroll : (inner : ℕ → ℕ → Skip) (most : ℕ) (s : List ℕ) (p number : ℕ) → 0 < most →
+    groupFields inner most s p number ≡ groupField inner (λ q. groupFields inner (most - 1) s q number) s number (tagAt s p)
+unfolding groupFields
+unroll inner zero s p number h = absurd (omega arith)
+unroll inner (suc m) s p number h =
+    ap (λ (k : ℕ). groupField inner (λ q. groupFields inner k s q number) s number (tagAt s p)) (before-suc m)
+
+fields-end : (inner : ℕ → ℕ → Skip) (most : ℕ) (s : List ℕ) (p number : ℕ) → length s ≤ p → groupFields inner most s p number ≡ Skip.Bad
+unfolding groupFields
+fields-end inner zero s p number h = refl
+fields-end inner (suc m) s p number h = rw (tag-end s p h)
+
+pub unended : {depth : ℕ} {s : List ℕ} {at number p : ℕ} → Skipping depth s at number p → length s ≤ p → Skip.Bad ≡ groupEnd depth s at number
+unended {depth} {s} {at} {number} {p} k h =
+    sym (fields-end (λ n q. groupEnd (depth - 1) s q n) (k .most) s p number h) ∙ k .whole
+
+module _ {depth : ℕ} {s : List ℕ} {at number p : ℕ} (k : Skipping depth s at number p) (inside : p < length s) where
+  abbrev inner : ℕ → ℕ → Skip
+  inner n q = groupEnd (depth - 1) s q n
+
+  abbrev more : ℕ → Skip
+  more q = rest depth (k .most - 1) s q number
+
+  turn : (t : Tag) → tagAt s p ≡ t → groupField inner more s number t ≡ groupEnd depth s at number
+  turn t e =
+      sym
+      (unroll inner (k .most) s p number (omega (arith, k .enough))
+      ∙ ap (groupField inner more s number) e)
+      ∙ k .whole
+
+  pub no-tag : tagAt s p ≡ Tag.Bad → Skip.Bad ≡ groupEnd depth s at number
+  no-tag e = turn Tag.Bad e
+
+  module _ {n w next : ℕ} (e : tagAt s p ≡ Tag.Field n w next) where
+    pub ended : w ≡ 4 → n ≡ number → Skip.At next ≡ groupEnd depth s at number
+    ended h g = sym (simp (eq-eqb w 4 h, eq-eqb n number g)) ∙ turn (Tag.Field n w next) e
+
+    pub misended : w ≡ 4 → (n ≡ number → ⊥) → Skip.Bad ≡ groupEnd depth s at number
+    misended h g = sym (simp (eq-eqb w 4 h, ne-eqb n number g)) ∙ turn (Tag.Field n w next) e
+
+    into : (w ≡ 4 → ⊥) → w ≡ 3 → andThen (inner n next) more ≡ groupEnd depth s at number
+    into h g = sym (simp (ne-eqb w 4 h, eq-eqb w 3 g)) ∙ turn (Tag.Field n w next) e
+
+    over : (w ≡ 4 → ⊥) → (w ≡ 3 → ⊥) → andThen (skipValue s w next) more ≡ groupEnd depth s at number
+    over h g = sym (simp (ne-eqb w 4 h, ne-eqb w 3 g)) ∙ turn (Tag.Field n w next) e
+
+    next-past : p < next
+    next-past = tag-inside (tag-past s p)
+      where
+        tag-inside : PastTag p (length s) (tagAt s p) → p < next
+        tag-inside = rw e (λ h. h .0)
+
+    -- a skip from the tag's end on that answers for the group: a bad one, or the loop's next place
+    stops : (x : Skip) → andThen x more ≡ groupEnd depth s at number → x ≡ Skip.Bad → Skip.Bad ≡ groupEnd depth s at number
+    stops x h b = ap (λ (y : Skip). andThen y more) (sym b) ∙ h
+
+    advances : (x : Skip) → PastSkip next (length s) x → {q : ℕ} → x ≡ Skip.At q → p < q
+    advances x h {q} b = go (rw b at h)
+      where
+        go : PastSkip next (length s) (Skip.At q) → p < q
+        go g = omega (arith, next-past)
+
+    goes-on : (x : Skip) → andThen x more ≡ groupEnd depth s at number → PastSkip next (length s) x → {q : ℕ} → x ≡ Skip.At q →
+        Skipping depth s at number q
+    goes-on x h g {q} b =
+        record {
+          deep = k .deep;
+          most = k .most - 1;
+          enough = omega (arith, k .enough, advances x g b);
+          whole = ap (λ (y : Skip). andThen y more) (sym b) ∙ h;
+        }
+
+    -- the field is an inner group
+    pub inner-bad : (w ≡ 4 → ⊥) → w ≡ 3 → inner n next ≡ Skip.Bad → Skip.Bad ≡ groupEnd depth s at number
+    inner-bad h g = stops (inner n next) (into h g)
+
+    pub inner-past : {q : ℕ} → inner n next ≡ Skip.At q → p < q
+    inner-past = advances (inner n next) (group-past (depth - 1) s next n)
+
+    pub inner-on : (w ≡ 4 → ⊥) → w ≡ 3 → {q : ℕ} → inner n next ≡ Skip.At q → Skipping depth s at number q
+    inner-on h g = goes-on (inner n next) (into h g) (group-past (depth - 1) s next n)
+
+    -- the field has a value
+    pub value-bad : (w ≡ 4 → ⊥) → (w ≡ 3 → ⊥) → skipValue s w next ≡ Skip.Bad → Skip.Bad ≡ groupEnd depth s at number
+    value-bad h g = stops (skipValue s w next) (over h g)
+
+    pub value-past : {q : ℕ} → skipValue s w next ≡ Skip.At q → p < q
+    value-past = advances (skipValue s w next) (skip-past s w next)
+
+    pub value-on : (w ≡ 4 → ⊥) → (w ≡ 3 → ⊥) → {q : ℕ} → skipValue s w next ≡ Skip.At q → Skipping depth s at number q
+    value-on h g = goes-on (skipValue s w next) (over h g) (skip-past s w next)

@@ -1,0 +1,5 @@
+pub mod TagLaws
+pub mod ValueLaws
+pub mod PastLaws
+pub mod GroupLaws
+pub mod FieldLaws

@@ -1,0 +1,52 @@
+-- `wire::field::tagged` meets its contract. Assumes nothing.
+use mathlib.Core.Path.{sym, ap, _∙_}
+use Rattle.wire.specs.Field.{maxDepth, ofValue, ofGroup}
+use Rattle.wire.proofs.FieldLaws.{field-group, field-value, group-ends}
+use borrow.Author.Needs.{needs}
+use Rattle.wire.proofs.field.tagged.Statement.{statement}
+use Rattle.wire.proofs.field.tagged.Tie as tie
+
+sub-t13 : tie.Need-sub-t13
+sub-t13 c =
+    let a = c .before .before .before .before .before .before .args in
+    group-ends maxDepth (a .s .now) (a .at) (a .n) (sym (c .before .before .before .skip-group .ensures) ∙ c .before .next .given .1)
+
+returns : tie.Need-returns
+returns c =
+    let a = c .before .before .before .before .before .before .args in
+    ap (ofGroup (a .n) (a .at)) (sym (c .before .next .given .1) ∙ c .before .before .before .skip-group .ensures)
+    ∙ field-group (a .s .now) (a .n) (a .wire) (a .at) (c .before .before .before .before .if1 .taken)
+
+returns-2 : tie.Need-returns-2
+returns-2 c =
+    let a = c .before .before .before .before .before .args in
+    ap (ofGroup (a .n) (a .at)) (sym (c .enum-told .given .1) ∙ c .before .before .skip-group .ensures)
+    ∙ field-group (a .s .now) (a .n) (a .wire) (a .at) (c .before .before .before .if1 .taken)
+
+returns-3 : tie.Need-returns-3
+returns-3 c =
+    let a = c .before .before .before .before .before .before .args in
+    ap (ofValue (a .n) (a .wire)) (sym (c .before .v .given .1) ∙ c .before .before .before .read-value .ensures)
+    ∙ field-value (a .s .now) (a .n) (a .wire) (a .at) (c .before .before .before .before .if1 .left)
+
+returns-4 : tie.Need-returns-4
+returns-4 c =
+    let a = c .before .before .before .before .before .args in
+    ap (ofValue (a .n) (a .wire)) (sym (c .enum-told2 .given .1) ∙ c .before .before .read-value .ensures)
+    ∙ field-value (a .s .now) (a .n) (a .wire) (a .at) (c .before .before .before .if1 .left)
+
+pub tagged-spec : {M : Type 1} → statement M
+tagged-spec =
+    tie.close
+    (tie.spec
+    (λ c κs. search needs)
+    (λ c. search needs)
+    sub-t13
+    (λ c. search needs)
+    returns
+    returns-2
+    (λ c κs. search needs)
+    (λ c. search needs)
+    (λ c. search needs)
+    returns-3
+    returns-4)

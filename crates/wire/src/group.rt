@@ -1,0 +1,64 @@
+// Skipping a group: its fields up to the end tag that carries its number.
+ghost use mathlib.Core.Path.{_≡_};
+ghost use Rattle.wire.specs.Group.{groupEnd, skipValue};
+use crate::tag::Tag;
+use crate::value::Value;
+
+// The place behind what was skipped, or a bad field on the way.
+pub enum Skip {
+    At(usize),
+    Bad,
+}
+
+fn skip_value(s: &[u8], wire: u64, at: usize) -> Skip
+    ensures { λ r. ⌜ r ≡ skipValue (now (s .entry)) wire at ⌝ }
+{
+    match crate::value::read_value(s, wire, at) {
+        Value::Good {
+            number: _,
+            start: _,
+            len: _,
+            next,
+        } => Skip::At(next),
+        Value::Bad => Skip::Bad,
+    }
+}
+
+// Skips the group `number`, whose start tag ends at `at`, with at most `depth` groups one in another,
+// itself among them.
+pub fn skip_group(s: &[u8], at: usize, number: u64, depth: u64) -> Skip
+    ensures { λ r. ⌜ r ≡ groupEnd depth (now (s .entry)) at number ⌝ }
+{
+    if depth == 0 {
+        return Skip::Bad;
+    }
+    let mut p = at;
+    while p < s.len() {
+        let Tag::Field {
+            number: n,
+            wire: w,
+            next,
+        } = crate::tag::read_tag(s, p)
+        else {
+            return Skip::Bad;
+        };
+        if w == 4 {
+            if n == number {
+                return Skip::At(next);
+            }
+            return Skip::Bad;
+        }
+        if w == 3 {
+            let Skip::At(q) = skip_group(s, next, n, depth - 1) else {
+                return Skip::Bad;
+            };
+            p = q;
+        } else {
+            let Skip::At(q) = skip_value(s, w, next) else {
+                return Skip::Bad;
+            };
+            p = q;
+        }
+    }
+    Skip::Bad
+}
