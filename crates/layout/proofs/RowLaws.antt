@@ -1,0 +1,48 @@
+-- Finding a row, and what it takes, case by case. Assumes nothing.
+use Prim.Native.Nat.{ℕ, suc, _+_, _/_, _%_, _^_, _≤_, _<_}
+use native.Mathlib.Numerals.{add-one}
+use mathlib.Core.Bool.{true, false}
+use mathlib.Core.Path.{_≡_, refl, sym, ap, _∙_}
+use mathlib.Core.List.{List, [], _∷_}
+use lib.ListN.{length, getD, drop, drop-of-length-le}
+use lib.Seq.{drop-cons}
+use lib.Dec.{eqb}
+use borrow.Author.Tests.{lt-ltb, le-ltb, eq-eqb, ne-eqb}
+use Rattle.layout.specs.Row.{numberOf, wireOf, listedOf, noRow, rowFor, listed, takes, slotCount}
+
+module _ (rows : List (List ℕ)) (number i : ℕ) where
+  pub row-hit : i < length rows → numberOf (getD rows i []) ≡ number → getD rows i [] ≡ rowFor (drop i rows) number
+  unfolding rowFor
+  row-hit h e = rw (drop-cons rows i [] h) (simp (eq-eqb (numberOf (getD rows i [])) number e))
+
+  pub row-miss : i < length rows → (numberOf (getD rows i []) ≡ number → ⊥) →
+      rowFor (drop (i + 1) rows) number ≡ rowFor (drop i rows) number
+  unfolding rowFor
+  row-miss h e = rw (add-one, drop-cons rows i [] h) (simp (ne-eqb (numberOf (getD rows i [])) number e))
+
+  pub row-end : length rows ≤ i → noRow ≡ rowFor (drop i rows) number
+  unfolding rowFor
+  row-end h = rw (drop-of-length-le rows h)
+
+module _ (values value : ℕ) where
+  pub listed-any : values ≡ 0 → true ≡ listed values value
+  listed-any h = simp (eq-eqb values 0 h)
+
+  pub listed-high : (values ≡ 0 → ⊥) → 16 ≤ value % 2 ^ 32 → false ≡ listed values value
+  listed-high h g = simp (ne-eqb values 0 h, le-ltb (value % 2 ^ 32) 16 g)
+
+  pub listed-bit : (values ≡ 0 → ⊥) → value % 2 ^ 32 < 16 → eqb (values / 2 ^ (value % 2 ^ 32) % 2) 1 ≡ listed values value
+  listed-bit h g = simp (ne-eqb values 0 h, lt-ltb (value % 2 ^ 32) 16 g)
+
+module _ (row : List ℕ) (number wire value : ℕ) where
+  pub takes-no-slot : slotCount ≤ number → false ≡ takes row number wire value
+  takes-no-slot h = simp (le-ltb number slotCount h)
+
+  pub takes-other : number < slotCount → (numberOf row ≡ number → ⊥) → false ≡ takes row number wire value
+  takes-other h e = simp (lt-ltb number slotCount h, ne-eqb (numberOf row) number e)
+
+  pub takes-wire : number < slotCount → numberOf row ≡ number → (wireOf row ≡ wire → ⊥) → false ≡ takes row number wire value
+  takes-wire h e f = simp (lt-ltb number slotCount h, eq-eqb (numberOf row) number e, ne-eqb (wireOf row) wire f)
+
+  pub takes-listed : number < slotCount → numberOf row ≡ number → wireOf row ≡ wire → listed (listedOf row) value ≡ takes row number wire value
+  takes-listed h e f = simp (lt-ltb number slotCount h, eq-eqb (numberOf row) number e, eq-eqb (wireOf row) wire f)

@@ -1,0 +1,5 @@
+pub mod Table
+pub mod Row
+pub mod Slots
+pub mod Fields
+pub mod Numbers
