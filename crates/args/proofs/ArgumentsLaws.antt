@@ -1,0 +1,209 @@
+-- Going through all arguments, one turn of the loop at a time. Assumes nothing.
+use Prim.Native.Nat.{ℕ, zero, suc, _+_, _-_, _≤_, _<_}
+use native.Mathlib.Omega.{arith}
+use mathlib.Core.Bool.{Bool, true, false, cond}
+use mathlib.Core.Path.{_≡_, refl, sym, ap, _∙_}
+use mathlib.Core.List.{List, [], _∷_}
+use lib.ListN.{length, getD}
+use lib.Dec.{ltb, eqb}
+use borrow.Author.Tests.{lt-ltb, le-ltb, eq-eqb, ne-eqb, eqb-true, eqb-false}
+use Rattle.scalar.specs.declared.argument.Argument.{Argument}
+use Rattle.scalar.specs.declared.argument.Argument.the-variants as Va
+use Rattle.args.specs.Arguments.{nextArgument, andMore, argumentsFrom, argumentsAt, anyTypeOf, noArguments, badArguments, counted, withType, together, argumentsIn, asked}
+use Rattle.args.specs.declared.arguments.NextArgument.{NextArgument}
+use Rattle.args.specs.declared.arguments.Arguments.{Arguments}
+use Rattle.args.proofs.PlaceLaws.{PastNext, next-past, next-end}
+
+-- one argument more, by its Any type
+module _ (x : Arguments) (t : ℕ) where
+  pub type-bad : t ≡ 0 → badArguments ≡ withType x t
+  type-bad h = simp (eq-eqb t 0 h)
+
+  pub type-scalar : (t ≡ 0 → ⊥) → t < 2 → counted x (x .kind) (x .index) ≡ withType x t
+  type-scalar h g = simp (ne-eqb t 0 h, lt-ltb t 2 g)
+
+  pub type-later : (t ≡ 0 → ⊥) → 2 ≤ t → (x .kind ≡ 0 → ⊥) → counted x (x .kind) (x .index) ≡ withType x t
+  type-later h g k = simp (ne-eqb t 0 h, le-ltb t 2 g, ne-eqb (x .kind) 0 k)
+
+  pub type-first : (t ≡ 0 → ⊥) → 2 ≤ t → x .kind ≡ 0 → counted x t (x .count) ≡ withType x t
+  type-first h g k = simp (ne-eqb t 0 h, le-ltb t 2 g, eq-eqb (x .kind) 0 k)
+
+  count-up : (b c : Bool) → (cond b (counted x (x .kind) (x .index)) (cond c (counted x t (x .count)) (counted x (x .kind) (x .index)))) .count ≡ x .count + 1
+  count-up true c = refl
+  count-up false true = refl
+  count-up false false = refl
+
+  good-kept : (b c : Bool) → (cond b (counted x (x .kind) (x .index)) (cond c (counted x t (x .count)) (counted x (x .kind) (x .index)))) .good ≡ x .good
+  good-kept true c = refl
+  good-kept false true = refl
+  good-kept false false = refl
+
+  -- an argument that is no bad one is counted and spoils nothing
+  pub type-count : (t ≡ 0 → ⊥) → withType x t .count ≡ x .count + 1
+  type-count h = rw (ne-eqb t 0 h) (count-up (ltb t 2) (eqb (x .kind) 0))
+
+  pub type-good : (t ≡ 0 → ⊥) → withType x t .good ≡ x .good
+  type-good h = rw (ne-eqb t 0 h) (good-kept (ltb t 2) (eqb (x .kind) 0))
+
+  pub good-type : withType x t .good ≡ true → t ≡ 0 → ⊥
+  good-type g h = let e : withType x t .good ≡ false = ap (λ (y : Arguments). y .good) (sym (type-bad h)) in
+      let z : _≡_ {A = ℕ} 0 1 = cc in omega arith
+
+  pub bad-type : x .good ≡ true → withType x t .good ≡ false → t ≡ 0
+  bad-type y g = go (eqb t 0) refl
+    where
+      go : (b : Bool) → eqb t 0 ≡ b → t ≡ 0
+      go true e = eqb-true t 0 e
+      go false e = absurd (let u = type-good (eqb-false t 0 e) in let z : _≡_ {A = ℕ} 0 1 = cc in omega arith)
+
+before-suc : (m : ℕ) → m ≡ suc m - 1
+before-suc m = omega arith
+
+from-none : (most : ℕ) (s : List ℕ) (p : ℕ) → nextArgument s p ≡ NextArgument.End → argumentsFrom most s p ≡ []
+unfolding argumentsFrom
+from-none zero s p e = refl
+from-none (suc m) s p e = ap (andMore (λ next. argumentsFrom m s next)) e
+
+from-found : (most : ℕ) (s : List ℕ) (p : ℕ) {a : Argument} {next : ℕ} → 0 < most → nextArgument s p ≡ NextArgument.Found a next →
+    argumentsFrom most s p ≡ a ∷ argumentsFrom (most - 1) s next
+unfolding argumentsFrom
+from-found zero s p g e = absurd (omega arith)
+from-found (suc m) s p {a} {next} g e =
+    ap (andMore (λ q. argumentsFrom m s q)) e ∙ ap (λ (k : ℕ). a ∷ argumentsFrom k s next) (before-suc m)
+
+pub advances : (s : List ℕ) (p : ℕ) {a : Argument} {next : ℕ} → nextArgument s p ≡ NextArgument.Found a next → (p < next) × (next ≤ length s)
+advances s p {a} {next} e = go (next-past s p)
+  where
+    go : PastNext p (length s) (nextArgument s p) → (p < next) × (next ≤ length s)
+    go = rw e (λ h. h)
+
+together-none : (x : Arguments) → together x [] ≡ x
+unfolding together
+together-none x = refl
+
+together-bad : (x : Arguments) (a : Argument) (rest : List Argument) → anyTypeOf a ≡ 0 → together x (a ∷ rest) ≡ badArguments
+unfolding together
+together-bad x a rest h = simp (eq-eqb (anyTypeOf a) 0 h)
+
+together-on : (x : Arguments) (a : Argument) (rest : List Argument) → (anyTypeOf a ≡ 0 → ⊥) →
+    together x (a ∷ rest) ≡ together (withType x (anyTypeOf a)) rest
+unfolding together
+together-on x a rest h =
+    ap (λ (b : Bool). cond b badArguments (together (withType x (anyTypeOf a)) rest)) (ne-eqb (anyTypeOf a) 0 h)
+
+-- where the loop stands: what is left at p, on top of x, answers for all
+pub record Walking (s : List ℕ) (from p : ℕ) (x : Arguments) : Type 0 where
+  pub most : ℕ
+  pub enough : length s ≤ p + most
+  pub good : x .good ≡ true
+  pub small : x .count ≤ p
+  pub whole : together x (argumentsFrom most s p) ≡ argumentsIn s from
+
+pub starts : (s : List ℕ) (from : ℕ) → Walking s from from (noArguments from (length s))
+starts s from = record { most = length s; enough = omega arith; good = refl; small = omega arith; whole = refl }
+
+module _ {s : List ℕ} {from p : ℕ} {x : Arguments} (k : Walking s from p x) where
+  pub none-left : nextArgument s p ≡ NextArgument.End → x ≡ argumentsIn s from
+  none-left e = sym (together-none x) ∙ ap (together x) (sym (from-none (k .most) s p e)) ∙ k .whole
+
+  pub ends : length s ≤ p → x ≡ argumentsIn s from
+  ends h = none-left (next-end s p h)
+
+  module _ (inside : p < length s) {a : Argument} {next : ℕ} (e : nextArgument s p ≡ NextArgument.Found a next)
+      (t : ℕ) (u : t ≡ anyTypeOf a) where
+    turn : together x (a ∷ argumentsFrom (k .most - 1) s next) ≡ argumentsIn s from
+    turn = ap (together x) (sym (from-found (k .most) s p (omega (arith, k .enough)) e)) ∙ k .whole
+
+    pub spoiled : withType x t .good ≡ false → withType x t ≡ argumentsIn s from
+    spoiled g =
+        let h = bad-type x t (k .good) g in
+        sym (type-bad x t h) ∙ sym (together-bad x a (argumentsFrom (k .most - 1) s next) (sym u ∙ h)) ∙ turn
+
+    pub goes-on : withType x t .good ≡ true → Walking s from next (withType x t)
+    goes-on g =
+        let h = good-type x t g in
+        record {
+          most = k .most - 1;
+          enough = omega (arith, k .enough, advances s p e);
+          good = g;
+          small = omega (arith, k .small, type-count x t h, advances s p e);
+          whole =
+              ap (λ (m : ℕ). together (withType x m) (argumentsFrom (k .most - 1) s next)) u
+              ∙ sym (together-on x a (argumentsFrom (k .most - 1) s next) (λ z. h (u ∙ z)))
+              ∙ turn;
+        }
+
+-- looking for the argument with an index: how many are left to pass at p
+pub record Counting (s : List ℕ) (from index p left : ℕ) : Type 0 where
+  pub most : ℕ
+  pub enough : length s ≤ p + most
+  pub whole : getD (argumentsFrom most s p) left (Va.Refused 9) ≡ getD (argumentsAt s from) index (Va.Refused 9)
+
+pub count-starts : (s : List ℕ) (from index : ℕ) → Counting s from index from index
+count-starts s from index = record { most = length s; enough = omega arith; whole = refl }
+
+-- an object and an array are refused 8, and any other argument is handed out as it is, a refusal too
+pub asked-composite : (a : Argument) → 1 < anyTypeOf a → Va.Refused 8 ≡ asked a
+asked-composite (Va.Signed z) h = absurd (omega arith)
+asked-composite (Va.Unsigned n) h = absurd (omega arith)
+asked-composite Va.Null h = absurd (omega arith)
+asked-composite (Va.Octets start len) h = absurd (omega arith)
+asked-composite (Va.Double d) h = absurd (omega arith)
+asked-composite (Va.DoubleNan n) h = absurd (omega arith)
+asked-composite (Va.Float d) h = absurd (omega arith)
+asked-composite (Va.FloatNan n) h = absurd (omega arith)
+asked-composite (Va.Bool b) h = absurd (omega arith)
+asked-composite (Va.String start len) h = absurd (omega arith)
+asked-composite Va.Object h = refl
+asked-composite Va.Array h = refl
+asked-composite (Va.Refused n) h = absurd (omega arith)
+
+refused-kept : (b : Bool) (a : Argument) → a ≡ cond b a a
+refused-kept true a = refl
+refused-kept false a = refl
+
+pub asked-plain : (a : Argument) → anyTypeOf a ≤ 1 → a ≡ asked a
+asked-plain (Va.Signed z) h = refl
+asked-plain (Va.Unsigned n) h = refl
+asked-plain Va.Null h = refl
+asked-plain (Va.Octets start len) h = refl
+asked-plain (Va.Double d) h = refl
+asked-plain (Va.DoubleNan n) h = refl
+asked-plain (Va.Float d) h = refl
+asked-plain (Va.FloatNan n) h = refl
+asked-plain (Va.Bool b) h = refl
+asked-plain (Va.String start len) h = refl
+asked-plain Va.Object h = absurd (omega arith)
+asked-plain Va.Array h = absurd (omega arith)
+asked-plain (Va.Refused n) h = refused-kept (eqb n 0) (Va.Refused n)
+
+module _ {s : List ℕ} {from index p left : ℕ} (k : Counting s from index p left) where
+  pub count-none : nextArgument s p ≡ NextArgument.End → Va.Refused 9 ≡ getD (argumentsAt s from) index (Va.Refused 9)
+  count-none e =
+      ap (λ (l : List Argument). getD l left (Va.Refused 9)) (sym (from-none (k .most) s p e)) ∙ k .whole
+
+  pub count-end : length s ≤ p → Va.Refused 9 ≡ getD (argumentsAt s from) index (Va.Refused 9)
+  count-end h = count-none (next-end s p h)
+
+  module _ (inside : p < length s) {a : Argument} {next : ℕ} (e : nextArgument s p ≡ NextArgument.Found a next) where
+    turn-at : getD (a ∷ argumentsFrom (k .most - 1) s next) left (Va.Refused 9) ≡ getD (argumentsAt s from) index (Va.Refused 9)
+    turn-at =
+        ap (λ (l : List Argument). getD l left (Va.Refused 9)) (sym (from-found (k .most) s p (omega (arith, k .enough)) e))
+        ∙ k .whole
+
+    pub count-hit : left ≡ 0 → a ≡ getD (argumentsAt s from) index (Va.Refused 9)
+    count-hit h =
+        ap (λ (n : ℕ). getD (a ∷ argumentsFrom (k .most - 1) s next) n (Va.Refused 9)) (sym h) ∙ turn-at
+
+    pub count-on : (left ≡ 0 → ⊥) → Counting s from index next (left - 1)
+    count-on h =
+        record {
+          most = k .most - 1;
+          enough = omega (arith, k .enough, advances s p e);
+          whole = passed left h ∙ turn-at;
+        }
+      where
+        passed : (n : ℕ) → (n ≡ 0 → ⊥) →
+            getD (argumentsFrom (k .most - 1) s next) (n - 1) (Va.Refused 9) ≡ getD (a ∷ argumentsFrom (k .most - 1) s next) n (Va.Refused 9)
+        passed zero z = absurd (z refl)
+        passed (suc m) z = ap (λ (j : ℕ). getD (argumentsFrom (k .most - 1) s next) j (Va.Refused 9)) (sym (before-suc m))

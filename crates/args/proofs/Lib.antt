@@ -1,0 +1,5 @@
+pub mod PartLaws
+pub mod ValueLaws
+pub mod PlaceLaws
+pub mod ArgumentsLaws
+pub mod TypedLaws

@@ -1,0 +1,126 @@
+-- Looking for the next args field, one turn of the loop at a time. Assumes nothing.
+use Prim.Native.Nat.{ℕ, zero, suc, _+_, _-_, _≤_, _<_}
+use native.Mathlib.Omega.{arith}
+use mathlib.Core.Bool.{Bool, true, false, cond}
+use mathlib.Core.Path.{_≡_, refl, sym, ap, _∙_}
+use mathlib.Core.List.{List}
+use lib.ListN.{length}
+use lib.Dec.{ltb, eqb}
+use borrow.Author.Tests.{lt-ltb, le-ltb, eq-eqb, ne-eqb, ltb-true}
+use Rattle.varint.proofs.PastLaws.{both}
+use Rattle.wire.specs.Field.{fieldAt}
+use Rattle.wire.specs.Past.{PastField}
+use Rattle.wire.specs.declared.field.Field.{Field}
+use Rattle.wire.proofs.PastLaws.{field-past}
+use Rattle.args.specs.Arguments.{ofField, placeFrom, argPlace, ofPlace, nextArgument}
+use Rattle.args.specs.declared.arguments.ArgPlace.{ArgPlace}
+use Rattle.args.specs.declared.arguments.NextArgument.{NextArgument}
+
+-- where the loop stands: what is left at p answers for the whole
+pub record Seeking (s : List ℕ) (at p : ℕ) : Type 0 where
+  pub most : ℕ
+  pub enough : length s ≤ p + most
+  pub whole : placeFrom most s p ≡ argPlace s at
+
+pub starts : (s : List ℕ) (at : ℕ) → Seeking s at at
+starts s at = record { most = length s; enough = omega arith; whole = refl }
+
+place-end : (most : ℕ) (s : List ℕ) (p : ℕ) → length s ≤ p → placeFrom most s p ≡ ArgPlace.End
+unfolding placeFrom
+place-end zero s p h = refl
+place-end (suc m) s p h = simp (le-ltb p (length s) h)
+
+pub ends : {s : List ℕ} {at p : ℕ} → Seeking s at p → length s ≤ p → ArgPlace.End ≡ argPlace s at
+ends {s} {at} {p} k h = sym (place-end (k .most) s p h) ∙ k .whole
+
+before-suc : (m : ℕ) → m ≡ suc m - 1
+before-suc m = omega arith
+
+unroll : (most : ℕ) (s : List ℕ) (p : ℕ) → 0 < most → p < length s →
+    placeFrom most s p ≡ ofField (λ next. placeFrom (most - 1) s next) (fieldAt s p)
+unfolding placeFrom
+unroll zero s p g h = absurd (omega arith)
+unroll (suc m) s p g h =
+    simp (lt-ltb p (length s) h) (ap (λ (k : ℕ). ofField (λ next. placeFrom k s next) (fieldAt s p)) (before-suc m))
+
+module _ {s : List ℕ} {at p : ℕ} (k : Seeking s at p) (inside : p < length s) where
+  turn : (f : Field) → fieldAt s p ≡ f → ofField (λ next. placeFrom (k .most - 1) s next) f ≡ argPlace s at
+  turn f e =
+      sym
+      (unroll (k .most) s p (omega (arith, k .enough)) inside
+      ∙ ap (ofField (λ next. placeFrom (k .most - 1) s next)) e)
+      ∙ k .whole
+
+  pub no-field : fieldAt s p ≡ Field.Bad → ArgPlace.Bad ≡ argPlace s at
+  no-field e = turn Field.Bad e
+
+  module _ {number wire v start len next : ℕ} (e : fieldAt s p ≡ Field.Good number wire v start len next) where
+    pub advances : p < next
+    advances = go (field-past s p)
+      where
+        go : PastField p (length s) (fieldAt s p) → p < next
+        go = rw e (λ h. h .2)
+
+    pub found : number ≡ 2 → wire ≡ 2 → ArgPlace.At start len next ≡ argPlace s at
+    found h g = sym (simp (eq-eqb number 2 h, eq-eqb wire 2 g)) ∙ turn (Field.Good number wire v start len next) e
+
+    on : placeFrom (k .most - 1) s next ≡ argPlace s at → Seeking s at next
+    on w = record { most = k .most - 1; enough = omega (arith, k .enough, advances); whole = w }
+
+    pub other-wire : number ≡ 2 → (wire ≡ 2 → ⊥) → Seeking s at next
+    other-wire h g = on (sym (simp (eq-eqb number 2 h, ne-eqb wire 2 g)) ∙ turn (Field.Good number wire v start len next) e)
+
+    pub other-number : (number ≡ 2 → ⊥) → Seeking s at next
+    other-number h = on (sym (simp (ne-eqb number 2 h)) ∙ turn (Field.Good number wire v start len next) e)
+
+-- the next argument ends past the place asked, and within the bytes
+abbrev PastPlace : ℕ → ℕ → ArgPlace → Type 0
+PastPlace at end (ArgPlace.At start len next) = (at < next) × (next ≤ end)
+PastPlace at end ArgPlace.End = Unit {0}
+PastPlace at end ArgPlace.Bad = at < end
+
+abbrev pub PastNext : ℕ → ℕ → NextArgument → Type 0
+PastNext at end (NextArgument.Found a next) = (at < next) × (next ≤ end)
+PastNext at end NextArgument.End = Unit {0}
+
+further : (at p end : ℕ) → at ≤ p → (x : ArgPlace) → PastPlace p end x → PastPlace at end x
+further at p end h (ArgPlace.At start len next) g = (omega arith, g .1)
+further at p end h ArgPlace.End g = tt
+further at p end h ArgPlace.Bad g = omega arith
+
+ofField-past : (at end : ℕ) → at < end → (f : Field) → PastField at end f → (more : ℕ → ArgPlace) →
+    ((q : ℕ) → PastPlace q end (more q)) → PastPlace at end (ofField more f)
+ofField-past at end i (Field.Good number wire v start len next) h more m =
+    both (PastPlace at end) (eqb number 2) _ _
+    (λ _.
+    both (PastPlace at end) (eqb wire 2) _ _ (λ _. (h .2, h .3))
+    (λ _. further at next end (omega arith) (more next) (m next)))
+    (λ _. further at next end (omega arith) (more next) (m next))
+ofField-past at end i Field.Bad h more m = i
+
+place-past : (most : ℕ) (s : List ℕ) (at : ℕ) → PastPlace at (length s) (placeFrom most s at)
+unfolding placeFrom
+place-past zero s at = tt
+place-past (suc most) s at =
+    both (PastPlace at (length s)) (ltb at (length s)) _ _
+    (λ e.
+    ofField-past at (length s) (ltb-true at (length s) e) (fieldAt s at) (field-past s at) (λ next. placeFrom most s next)
+    (place-past most s))
+    (λ _. tt)
+
+ofPlace-past : (s : List ℕ) (at : ℕ) (x : ArgPlace) → PastPlace at (length s) x → PastNext at (length s) (ofPlace s x)
+ofPlace-past s at (ArgPlace.At start len next) h = h
+ofPlace-past s at ArgPlace.End h = tt
+ofPlace-past s at ArgPlace.Bad h = (h, omega arith)
+
+pub next-past : (s : List ℕ) (at : ℕ) → PastNext at (length s) (nextArgument s at)
+unfolding nextArgument
+next-past s at = ofPlace-past s at (argPlace s at) (place-past (length s) s at)
+
+pub next-end : (s : List ℕ) (at : ℕ) → length s ≤ at → nextArgument s at ≡ NextArgument.End
+unfolding nextArgument
+next-end s at h = ap (ofPlace s) (place-end (length s) s at h)
+
+pub next-placed : (s : List ℕ) (at : ℕ) (x : ArgPlace) → x ≡ argPlace s at → ofPlace s x ≡ nextArgument s at
+unfolding nextArgument
+next-placed s at x e = ap (ofPlace s) e

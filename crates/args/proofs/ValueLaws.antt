@@ -1,0 +1,59 @@
+-- The value of an argument, case by case. Assumes nothing.
+use Prim.Native.Nat.{ℕ}
+use mathlib.Core.Bool.{Bool, true, false, cond}
+use mathlib.Core.Path.{_≡_, refl, sym, ap, _∙_}
+use mathlib.Core.List.{List}
+use borrow.Author.Tests.{eq-eqb, ne-eqb}
+use Rattle.scalar.specs.declared.argument.Argument.{Argument}
+use Rattle.scalar.specs.declared.argument.Argument.the-variants as Va
+use Rattle.layout.specs.declared.slots.Slots.{Slots}
+use Rattle.args.specs.Part.{startOf, lenOf, valueOf, low32}
+use Rattle.args.proofs.PartLaws.{yes, no as without}
+use Rattle.args.specs.Value.{bad, present, bytesOf, ofType, scalarOf, ofAnyType, anyOf}
+
+pub present-no : (count : ℕ) (a : Argument) → count ≡ 0 → bad ≡ present count a
+present-no count a h = simp (eq-eqb count 0 h)
+
+pub present-yes : (count : ℕ) (a : Argument) → (count ≡ 0 → ⊥) → a ≡ present count a
+present-yes count a h = simp (ne-eqb count 0 h)
+
+module _ (b : Bool) (x : Slots) where
+  abbrev chosen : Argument
+  chosen = cond b (Va.Octets (startOf x 1) (lenOf x 1)) (Va.String (startOf x 1) (lenOf x 1))
+
+  pub bytes-bad : x .good ≡ false → bad ≡ bytesOf b x
+  bytes-bad g = without chosen bad g
+
+  pub bytes-octets : x .good ≡ true → b ≡ true → Va.Octets (startOf x 1) (lenOf x 1) ≡ bytesOf b x
+  bytes-octets g e = yes _ _ e ∙ yes chosen bad g
+
+  pub bytes-string : x .good ≡ true → b ≡ false → Va.String (startOf x 1) (lenOf x 1) ≡ bytesOf b x
+  bytes-string g e = without _ _ e ∙ yes chosen bad g
+
+module _ (s : List ℕ) (x : Slots) where
+  pub scalar-bad : x .good ≡ false → bad ≡ scalarOf s x
+  unfolding scalarOf
+  scalar-bad g = without (ofType s x (low32 (valueOf x 1))) bad g
+
+  pub scalar-good : x .good ≡ true → ofType s x (low32 (valueOf x 1)) ≡ scalarOf s x
+  unfolding scalarOf
+  scalar-good g = yes (ofType s x (low32 (valueOf x 1))) bad g
+
+  pub any-bad : x .good ≡ false → bad ≡ anyOf s x
+  unfolding anyOf
+  any-bad g = without (ofAnyType s x (low32 (valueOf x 1))) bad g
+
+  pub any-good : x .good ≡ true → ofAnyType s x (low32 (valueOf x 1)) ≡ anyOf s x
+  unfolding anyOf
+  any-good g = yes (ofAnyType s x (low32 (valueOf x 1))) bad g
+
+  -- an unlisted type
+  pub type-none : (t : ℕ) → (t ≡ 1 → ⊥) → (t ≡ 2 → ⊥) → (t ≡ 3 → ⊥) → (t ≡ 4 → ⊥) → (t ≡ 5 → ⊥) → (t ≡ 6 → ⊥) → (t ≡ 7 → ⊥) →
+      (t ≡ 8 → ⊥) → bad ≡ ofType s x t
+  unfolding ofType
+  type-none t a b c d e f g h =
+      simp (ne-eqb t 1 a, ne-eqb t 2 b, ne-eqb t 3 c, ne-eqb t 4 d, ne-eqb t 5 e, ne-eqb t 6 f, ne-eqb t 7 g, ne-eqb t 8 h)
+
+  pub any-type-none : (t : ℕ) → (t ≡ 1 → ⊥) → (t ≡ 2 → ⊥) → (t ≡ 3 → ⊥) → bad ≡ ofAnyType s x t
+  unfolding ofAnyType
+  any-type-none t a b c = simp (ne-eqb t 1 a, ne-eqb t 2 b, ne-eqb t 3 c)

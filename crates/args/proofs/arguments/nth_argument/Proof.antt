@@ -1,0 +1,57 @@
+-- `args::arguments::nth_argument` meets its contract. Assumes nothing.
+use borrow.Author.Needs.{needs}
+use Prim.Native.Nat.{_-_}
+use native.Mathlib.Nat.{pos-of-ne-zero}
+use native.Mathlib.Omega.{arith}
+use lib.ListN.{length}
+use Rattle.args.specs.Arguments.{asked}
+use Rattle.args.proofs.ArgumentsLaws.{Counting, count-starts, count-none, count-end, count-hit, count-on, advances}
+use mathlib.Core.Path.{sym, ap, _∙_}
+use Rattle.args.proofs.arguments.nth_argument.Statement.{statement}
+use Rattle.args.proofs.arguments.nth_argument.Tie as tie
+
+abbrev Inv-loop : tie.InvT-loop
+Inv-loop s from index p₀ left₀ p left = Counting s from index p left
+
+abbrev μ-loop : tie.MeasureT-loop
+μ-loop s from index p₀ left₀ p left = length s - p
+
+loop-holds : tie.Need-loop-holds Inv-loop μ-loop
+loop-holds c = let a = c .before .args in count-starts (a .s .now) (a .from) (a .index)
+
+returns : tie.Need-returns Inv-loop μ-loop
+returns c =
+    ap asked (count-none (c .before .before .before .before .loop .inv) (sym (c .before .before .next-argument .ensures) ∙ c .enum-told .given .1))
+
+returns-2 : tie.Need-returns-2 Inv-loop μ-loop
+returns-2 c = c .handed .ensures ∙ ap asked (count-hit (c .before .before .before .before .before .before .before .loop .inv) (c .before .before .before .before .before .before .loop-test .taken) (sym (c .before .before .before .before .before .next-argument .ensures) ∙ c .before .before .before .value .given .1) (c .before .if1 .taken))
+
+sub-left : tie.Need-sub-left Inv-loop μ-loop
+sub-left c = pos-of-ne-zero (c .if1 .left)
+
+loop-less : tie.Need-loop-less Inv-loop μ-loop
+loop-less c = let a = c .before .before .before .before .before .before .before .before .args in omega (arith, c .before .before .before .before .before .loop-test .taken, advances (a .s .now) (c .before .before .before .before .before .before .loop .p) (sym (c .before .before .before .before .next-argument .ensures) ∙ c .before .before .value .given .1))
+
+loop-again : tie.Need-loop-again Inv-loop μ-loop
+loop-again c = count-on (c .before .before .before .before .before .before .loop .inv) (c .before .before .before .before .before .loop-test .taken) (sym (c .before .before .before .before .next-argument .ensures) ∙ c .before .before .value .given .1) (c .if1 .left)
+
+returns-3 : tie.Need-returns-3 Inv-loop μ-loop
+returns-3 c = ap asked (count-end (c .before .loop .inv) (c .loop-test .left))
+
+pub nth-argument-spec : {M : Type 1} → statement M
+nth-argument-spec =
+    tie.close
+    (tie.spec
+    Inv-loop
+    μ-loop
+    loop-holds
+    (λ c κs. tt)
+    (λ c. search needs)
+    (λ c. search needs)
+    returns
+    (λ c κs. tt)
+    returns-2
+    sub-left
+    loop-less
+    loop-again
+    returns-3)

@@ -1,0 +1,125 @@
+-- The arguments of a message, in order. Execute and StmtExecute carry them in field 2, each an Any.
+use Prim.Native.Nat.{ℕ, zero, suc, _+_}
+use mathlib.Core.Bool.{Bool, true, false, cond}
+use mathlib.Core.List.{List, [], _∷_}
+use lib.ListN.{length, getD}
+use lib.Dec.{ltb, eqb}
+use Rattle.wire.specs.Field.{fieldAt}
+use Rattle.wire.specs.declared.field.Field.{Field}
+use Rattle.scalar.specs.Argument.{reasonOf, valuesOf}
+use Rattle.scalar.specs.declared.argument.Argument.{Argument}
+use Rattle.scalar.specs.declared.argument.Argument.the-variants as Va
+use Rattle.args.specs.Value.{bad, argumentIn}
+use Rattle.args.specs.declared.arguments.ArgPlace.{ArgPlace}
+use Rattle.args.specs.declared.arguments.NextArgument.{NextArgument}
+use Rattle.args.specs.declared.arguments.Arguments.{Arguments}
+
+-- one field: an args field (number 2, wire type 2) is what is looked for, and `more` goes on behind any other
+abbrev pub ofField : (ℕ → ArgPlace) → Field → ArgPlace
+ofField more (Field.Good number wire v start len next) =
+    cond (eqb number 2) (cond (eqb wire 2) (ArgPlace.At start len next) (more next)) (more next)
+ofField more Field.Bad = ArgPlace.Bad
+
+-- the first args field among at most `most` fields from the place `at` on
+unfoldable pub placeFrom : ℕ → List ℕ → ℕ → ArgPlace
+placeFrom zero s at = ArgPlace.End
+placeFrom (suc most) s at =
+    let more = ofField (λ next. placeFrom most s next) (fieldAt s at) in
+    cond (ltb at (length s)) more ArgPlace.End
+
+abbrev pub argPlace : List ℕ → ℕ → ArgPlace
+argPlace s at = placeFrom (length s) s at
+
+abbrev pub ofPlace : List ℕ → ArgPlace → NextArgument
+ofPlace s (ArgPlace.At start len next) = NextArgument.Found (argumentIn s start len) next
+ofPlace s ArgPlace.End = NextArgument.End
+ofPlace s ArgPlace.Bad = NextArgument.Found bad (length s)
+
+-- the next argument at or behind the place `at`; behind a bad field there is none
+unfoldable pub nextArgument : List ℕ → ℕ → NextArgument
+nextArgument s at = ofPlace s (argPlace s at)
+
+abbrev pub andMore : (ℕ → List Argument) → NextArgument → List Argument
+andMore more (NextArgument.Found a next) = a ∷ more next
+andMore more NextArgument.End = []
+
+-- at most `most` arguments from the place `at` on: going from one to the next
+unfoldable pub argumentsFrom : ℕ → List ℕ → ℕ → List Argument
+argumentsFrom zero s at = []
+argumentsFrom (suc most) s at = andMore (λ next. argumentsFrom most s next) (nextArgument s at)
+
+-- the arguments of a message whose bytes go from the place `from` to the end of s; each has a byte at least
+abbrev pub argumentsAt : List ℕ → ℕ → List Argument
+argumentsAt s from = argumentsFrom (length s) s from
+
+-- document 01's type of an Any: 1 scalar, 2 object, 3 array; 0 for a bad one
+abbrev pub anyTypeOf : Argument → ℕ
+anyTypeOf (Va.Signed z) = 1
+anyTypeOf (Va.Unsigned n) = 1
+anyTypeOf Va.Null = 1
+anyTypeOf (Va.Octets start len) = 1
+anyTypeOf (Va.Double d) = 1
+anyTypeOf (Va.DoubleNan n) = 1
+anyTypeOf (Va.Float d) = 1
+anyTypeOf (Va.FloatNan n) = 1
+anyTypeOf (Va.Bool b) = 1
+anyTypeOf (Va.String start len) = 1
+anyTypeOf Va.Object = 2
+anyTypeOf Va.Array = 3
+anyTypeOf (Va.Refused n) = 0
+
+abbrev pub noArguments : ℕ → ℕ → Arguments
+noArguments start end = record { good = true; count = 0; kind = 0; index = 0; start = start; end = end }
+
+abbrev pub badArguments : Arguments
+badArguments = record { good = false; count = 0; kind = 0; index = 0; start = 0; end = 0 }
+
+-- the same with one more, whose kind and index are kept where it is the first object or array
+abbrev pub counted : Arguments → ℕ → ℕ → Arguments
+counted x kind index =
+    record { good = x .good; count = x .count + 1; kind = kind; index = index; start = x .start; end = x .end }
+
+-- one argument more, by its Any type: a bad one spoils all
+abbrev pub withType : Arguments → ℕ → Arguments
+withType x t =
+    cond (eqb t 0) badArguments
+    (cond (ltb t 2) (counted x (x .kind) (x .index))
+    (cond (eqb (x .kind) 0) (counted x t (x .count)) (counted x (x .kind) (x .index))))
+
+-- all of them, in order, up to a bad one
+unfoldable pub together : Arguments → List Argument → Arguments
+together x [] = x
+together x (a ∷ rest) =
+    let more = together (withType x (anyTypeOf a)) rest in
+    cond (eqb (anyTypeOf a) 0) badArguments more
+
+abbrev pub argumentsIn : List ℕ → ℕ → Arguments
+argumentsIn s from = together (noArguments from (length s)) (argumentsAt s from)
+
+-- as it is handed out: itself, or refused by its number, "of an object or array 8"
+abbrev pub asked : Argument → Argument
+asked a = cond (eqb (reasonOf a) 0) a (Va.Refused (reasonOf a))
+
+-- document 01's number and values for the next argument: its own, and the place behind it
+abbrev pub nextReason : NextArgument → ℕ
+nextReason (NextArgument.Found a next) = reasonOf a
+nextReason NextArgument.End = 9
+
+abbrev pub nextValues : NextArgument → List ℕ
+nextValues (NextArgument.Found a next) = next ∷ valuesOf a
+nextValues NextArgument.End = []
+
+-- and for the place of an args field: a bad field makes a bad payload, 6
+abbrev pub placeReason : ArgPlace → ℕ
+placeReason (ArgPlace.At start len next) = 0
+placeReason ArgPlace.End = 9
+placeReason ArgPlace.Bad = 6
+
+abbrev pub placeValues : ArgPlace → List ℕ
+placeValues (ArgPlace.At start len next) = start ∷ len ∷ next ∷ []
+placeValues ArgPlace.End = []
+placeValues ArgPlace.Bad = []
+
+-- the argument with an index, from 0: "past the last argument 9"
+abbrev pub nthArgument : List ℕ → ℕ → ℕ → Argument
+nthArgument s from index = asked (getD (argumentsAt s from) index (Va.Refused 9))

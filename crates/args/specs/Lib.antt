@@ -1,0 +1,4 @@
+pub mod Part
+pub mod Value
+pub mod Arguments
+pub mod Typed

@@ -1,0 +1,206 @@
+// The way through the arguments of a message, and what all of them together say.
+ghost use mathlib.Core.Path.{_≡_};
+ghost use Prim.Native.Nat.{_^_, _<_};
+ghost use Rattle.args.specs.Arguments.{
+  anyTypeOf,
+  argPlace,
+  argumentsIn,
+  asked,
+  badArguments,
+  nextArgument,
+  noArguments,
+  nthArgument,
+  withType,
+};
+use scalar::argument::Argument;
+use wire::field::Field;
+
+// Where the next args field stands: its value's place and length and the place behind it; none left; or
+// a bad field on the way.
+pub enum ArgPlace {
+    At {
+        start: usize,
+        len: usize,
+        next: usize,
+    },
+    End,
+    Bad,
+}
+
+// The next argument and the place behind it, or no more.
+pub enum NextArgument {
+    Found { value: Argument, next: usize },
+    End,
+}
+
+// The arguments in the bytes from `start` to `end`: how many there are, and the first object (kind 2) or
+// array (kind 3) among them with its index (kind 0: none). `good` says that each one is.
+pub struct Arguments {
+    pub good: bool,
+    pub count: usize,
+    pub kind: u64,
+    pub index: usize,
+    pub start: usize,
+    pub end: usize,
+}
+
+impl Arguments {
+    pub fn none(start: usize, end: usize) -> Arguments
+        ensures { λ r. ⌜ r ≡ noArguments start end ⌝ }
+    {
+        Arguments {
+            good: true,
+            count: 0,
+            kind: 0,
+            index: 0,
+            start,
+            end,
+        }
+    }
+
+    pub fn bad() -> Arguments
+        ensures { λ r. ⌜ r ≡ badArguments ⌝ }
+    {
+        Arguments {
+            good: false,
+            count: 0,
+            kind: 0,
+            index: 0,
+            start: 0,
+            end: 0,
+        }
+    }
+
+    // One argument more, of this Any type.
+    fn with_type(self, t: u64) -> Arguments
+        requires { ⌜ self .count < 2 ^ 63 ⌝ }
+        ensures { λ r. ⌜ r ≡ withType self t ⌝ }
+    {
+        if t == 0 {
+            return Arguments::bad();
+        }
+        let mut x = self;
+        x.count += 1;
+        if t < 2 {
+            return x;
+        }
+        if x.kind != 0 {
+            return x;
+        }
+        x.kind = t;
+        x.index = x.count - 1;
+        x
+    }
+}
+
+fn next_place(s: &[u8], at: usize) -> ArgPlace
+    ensures { λ r. ⌜ r ≡ argPlace (now (s .entry)) at ⌝ }
+{
+    let mut p = at;
+    while p < s.len() {
+        let Field::Good {
+            number,
+            wire,
+            value: _,
+            start,
+            len,
+            next,
+        } = wire::field::read_field(s, p)
+        else {
+            return ArgPlace::Bad;
+        };
+        if number == 2 {
+            if wire == 2 {
+                return ArgPlace::At { start, len, next };
+            }
+        }
+        p = next;
+    }
+    ArgPlace::End
+}
+
+// The next argument of a message whose bytes end with s, at or behind the place `at`.
+pub fn next_argument(s: &[u8], at: usize) -> NextArgument
+    ensures { λ r. ⌜ r ≡ nextArgument (now (s .entry)) at ⌝ }
+{
+    match next_place(s, at) {
+        ArgPlace::At { start, len, next } => NextArgument::Found {
+            value: crate::value::read_argument(s, start, len),
+            next,
+        },
+        ArgPlace::End => NextArgument::End,
+        ArgPlace::Bad => NextArgument::Found {
+            value: Argument::Refused(6),
+            next: s.len(),
+        },
+    }
+}
+
+// The Any type of an argument: 1 scalar, 2 object, 3 array; 0 for a bad one.
+pub fn any_type(a: Argument) -> u64
+    ensures { λ r. ⌜ r ≡ anyTypeOf a ⌝ }
+{
+    match a {
+        Argument::Signed(_) => 1,
+        Argument::Unsigned(_) => 1,
+        Argument::Null => 1,
+        Argument::Octets { start: _, len: _ } => 1,
+        Argument::Double(_) => 1,
+        Argument::DoubleNan(_) => 1,
+        Argument::Float(_) => 1,
+        Argument::FloatNan(_) => 1,
+        Argument::Bool(_) => 1,
+        Argument::String { start: _, len: _ } => 1,
+        Argument::Object => 2,
+        Argument::Array => 3,
+        Argument::Refused(_) => 0,
+    }
+}
+
+// The arguments of a message whose bytes go from `from` to the end of s.
+pub fn read_arguments(s: &[u8], from: usize) -> Arguments
+    ensures { λ r. ⌜ r ≡ argumentsIn (now (s .entry)) from ⌝ }
+{
+    let mut x = Arguments::none(from, s.len());
+    let mut p = from;
+    while p < s.len() {
+        let NextArgument::Found { value, next } = next_argument(s, p) else {
+            return x;
+        };
+        x = x.with_type(any_type(value));
+        if !x.good {
+            return x;
+        }
+        p = next;
+    }
+    x
+}
+
+// An argument as it is handed out: an object or array is refused 8.
+fn handed(a: Argument) -> Argument
+    ensures { λ r. ⌜ r ≡ asked a ⌝ }
+{
+    if 1 < any_type(a) {
+        return Argument::Refused(8);
+    }
+    a
+}
+
+// The argument with this index, counted from 0, of a message whose bytes go from `from` to the end of s.
+pub fn nth_argument(s: &[u8], from: usize, index: usize) -> Argument
+    ensures { λ r. ⌜ r ≡ nthArgument (now (s .entry)) from index ⌝ }
+{
+    let mut p = from;
+    let mut left = index;
+    while p < s.len() {
+        let NextArgument::Found { value, next } = next_argument(s, p) else {
+            return Argument::Refused(9);
+        };
+        if left == 0 {
+            return handed(value);
+        }
+        left -= 1;
+        p = next;
+    }
+    Argument::Refused(9)
+}

@@ -1,0 +1,4 @@
+// The arguments of a message: one by one, and all together.
+pub mod arguments;
+pub mod part;
+pub mod value;
