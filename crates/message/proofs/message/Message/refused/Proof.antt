@@ -1,0 +1,10 @@
+-- `message::message::Message::refused` meets its contract. Assumes nothing.
+use borrow.Author.Needs.{needs}
+use Rattle.message.proofs.message.Message.refused.Statement.{statement}
+use Rattle.message.proofs.message.Message.refused.Tie as tie
+
+returns : tie.Need-returns
+returns c = rw (c .none .ensures)
+
+pub refused-spec : {M : Type 1} → statement M
+refused-spec = tie.close (tie.spec (λ c κs. search needs) returns)

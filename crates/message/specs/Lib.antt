@@ -1,0 +1,7 @@
+pub mod Head
+pub mod Message
+pub mod Simple
+pub mod Execute
+pub mod Prepare
+pub mod Frame
+pub mod Numbers
