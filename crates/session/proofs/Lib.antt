@@ -1,0 +1,6 @@
+pub mod LoopLaws
+pub mod EntryLaws
+pub mod PlaceLaws
+pub mod StepLaws
+pub mod SumLaws
+pub mod TableLaws

@@ -1,0 +1,56 @@
+-- `session::Session::find_stmt` meets its contract. Assumes nothing.
+use Prim.Native.Nat.{_-_}
+use native.Mathlib.Omega.{arith}
+use mathlib.Core.Path.{sym, _∙_}
+use borrow.Author.Needs.{needs}
+use Rattle.session.specs.Entry.{isStmt, noStmt}
+use Rattle.session.specs.Tables.{maxStmts}
+use Rattle.session.proofs.LoopLaws.{length-mapped, Looking, looks, no-place, placed, looks-on}
+use Rattle.session.proofs.Session.find_stmt.Statement.{statement}
+use Rattle.session.proofs.Session.find_stmt.Tie as tie
+
+abbrev Inv-loop : tie.InvT-loop
+Inv-loop id self i₀ i = Looking (isStmt id) maxStmts (self .stmts) i
+
+abbrev μ-loop : tie.MeasureT-loop
+μ-loop id self i₀ i = maxStmts - i
+
+loop-holds : tie.Need-loop-holds Inv-loop μ-loop
+loop-holds c = looks (search length-mapped)
+
+mul-is-stmt : tie.Need-mul-is-stmt Inv-loop μ-loop
+mul-is-stmt c = omega arith
+
+element-copy-out-is-stmt : tie.Need-element-copy-out-is-stmt Inv-loop μ-loop
+element-copy-out-is-stmt c = omega arith
+
+returns : tie.Need-returns Inv-loop μ-loop
+returns c = placed (c .before .before .before .before .loop .inv) noStmt (c .before .before .before .loop-test .taken) (sym (c .before .is-stmt .ensures) ∙ c .if1 .taken)
+
+add-i : tie.Need-add-i Inv-loop μ-loop
+add-i c = omega arith
+
+loop-less : tie.Need-loop-less Inv-loop μ-loop
+loop-less c = omega arith
+
+loop-again : tie.Need-loop-again Inv-loop μ-loop
+loop-again c = looks-on (c .before .before .before .before .loop .inv) noStmt (c .before .before .before .loop-test .taken) (sym (c .before .is-stmt .ensures) ∙ c .if1 .left)
+
+returns-2 : tie.Need-returns-2 Inv-loop μ-loop
+returns-2 c = no-place (c .before .loop .inv) (c .loop-test .left)
+
+pub find-stmt-spec : {M : Type 1} → statement M
+find-stmt-spec =
+    tie.close
+    (tie.spec
+    Inv-loop
+    μ-loop
+    loop-holds
+    mul-is-stmt
+    element-copy-out-is-stmt
+    (λ c κs. search needs)
+    returns
+    add-i
+    loop-less
+    loop-again
+    returns-2)

@@ -1,0 +1,5 @@
+pub mod Lists
+pub mod Entry
+pub mod Tables
+pub mod Sound
+pub mod Numbers

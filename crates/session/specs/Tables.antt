@@ -1,0 +1,127 @@
+-- What an operation does to the tables of a session (document 01, "Steps", "Endings"). Where a table is full, or an id is not
+-- live, that table stays as it is: refusals are decided before.
+use Prim.Native.Nat.{ℕ}
+use mathlib.Core.Bool.{Bool, false, true, _||_}
+use mathlib.Core.List.{List}
+use lib.ListN.{replicate}
+use Rattle.session.specs.declared.Stmt.{Stmt}
+use Rattle.session.specs.declared.Cursor.{Cursor}
+use Rattle.session.specs.declared.Session.{Session}
+use Rattle.session.specs.declared.Place.{Place}
+use Rattle.session.specs.Lists.{first, put, entryAt, changed, always, sumBy, howMany, orPlace}
+use Rattle.session.specs.Entry.{noStmt, noCursor, newStmt, newCursor, isStmt, freeStmt, isCursor, onStmt, freeCursor, raise, owes}
+
+abbrev pub maxStmts : ℕ
+maxStmts = 64
+
+abbrev pub maxCursors : ℕ
+maxCursors = 16
+
+abbrev pub fresh : Session
+fresh = record { stmts = replicate maxStmts noStmt; cursors = replicate maxCursors noCursor; closed = false }
+
+-- the place of the live statement of an id
+abbrev pub stmtAt : Session → ℕ → Place
+stmtAt s id = first (isStmt id) (s .stmts) 0
+
+-- the first place whose cursor passes a test: the live cursor of an id, the live cursor on a statement, a free place
+abbrev pub placeOf : (Cursor → Bool) → Session → Place
+placeOf p s = first p (s .cursors) 0
+
+abbrev pub cursorAt : Session → ℕ → Place
+cursorAt s id = placeOf (isCursor id) s
+
+abbrev pub cursorOn : Session → ℕ → Place
+cursorOn s stmt = placeOf (onStmt stmt) s
+
+-- the live statement, the live cursor of an id, the live cursor on a statement; the empty entry where there is none
+abbrev pub liveStmt : Session → ℕ → Stmt
+liveStmt s id = entryAt (s .stmts) (stmtAt s id) noStmt
+
+abbrev pub liveCursor : Session → ℕ → Cursor
+liveCursor s id = entryAt (s .cursors) (cursorAt s id) noCursor
+
+abbrev pub carried : Session → ℕ → Cursor
+carried s stmt = entryAt (s .cursors) (cursorOn s stmt) noCursor
+
+-- "A new entry takes the lowest free place, freed ones included; a replaced id keeps its place."
+abbrev pub stmtPlace : Session → ℕ → Place
+stmtPlace s id = orPlace (stmtAt s id) (first freeStmt (s .stmts) 0)
+
+abbrev pub cursorPlace : Session → ℕ → Place
+cursorPlace s id = orPlace (cursorAt s id) (placeOf freeCursor s)
+
+-- an opening ends: every cursor that passes the test leaves its place empty
+abbrev pub ends : (Cursor → Bool) → List Cursor → List Cursor
+ends p cs = changed p (λ c. noCursor) cs
+
+abbrev pub endedBy : (Cursor → Bool) → Session → Session
+endedBy p s = record { stmts = s .stmts; cursors = ends p (s .cursors); closed = s .closed }
+
+-- "Close: ends the cursor."
+abbrev pub ended : Session → ℕ → Session
+ended s id = endedBy (isCursor id) s
+
+-- "Execute: ends the statement's cursor."
+abbrev pub endedOn : Session → ℕ → Session
+endedOn s stmt = endedBy (onStmt stmt) s
+
+-- "Prepare: an id in use is replaced, and its cursor ends."
+abbrev pub prepared : Session → ℕ → ℕ → Session
+prepared s id placeholders =
+    record {
+      stmts = put (s .stmts) (stmtPlace s id) (newStmt id placeholders);
+      cursors = ends (onStmt id) (s .cursors);
+      closed = s .closed;
+    }
+
+-- "Deallocate: frees the statement, ends its cursor."
+abbrev pub freed : Session → ℕ → Session
+freed s id =
+    record {
+      stmts = changed (isStmt id) (λ t. noStmt) (s .stmts);
+      cursors = ends (onStmt id) (s .cursors);
+      closed = s .closed;
+    }
+
+-- "Open: a cursor id in use ends first", and the new cursor takes its place
+abbrev pub opened : Session → ℕ → ℕ → ℕ → ℕ → Session
+opened s id stmt rows sent =
+    record {
+      stmts = s .stmts;
+      cursors = put (s .cursors) (cursorPlace s id) (newCursor id stmt rows sent);
+      closed = s .closed;
+    }
+
+-- "Fetch: the next min(fetch_rows, remaining) rows" of the live cursor of an id
+abbrev pub fetched : Session → ℕ → ℕ → Session
+fetched s id count =
+    record { stmts = s .stmts; cursors = changed (isCursor id) (raise count) (s .cursors); closed = s .closed }
+
+-- everything ends, and the session is closed, or stays as it is
+abbrev pub emptied : Session → Bool → Session
+emptied s close =
+    record {
+      stmts = changed always (λ t. noStmt) (s .stmts);
+      cursors = ends always (s .cursors);
+      closed = close || s .closed;
+    }
+
+-- "Reset: ends everything."
+abbrev pub reset : Session → Session
+reset s = emptied s false
+
+-- "Session close: the same, and the session is closed."
+abbrev pub closedNow : Session → Session
+closedNow s = emptied s true
+
+-- "Owed is reported less sent, summed over the cursor table."
+abbrev pub owed : Session → ℕ
+owed s = sumBy owes (s .cursors)
+
+-- how many statements and cursors are live
+abbrev pub stmtCount : Session → ℕ
+stmtCount s = howMany (λ t. t .live) (s .stmts)
+
+abbrev pub cursorCount : Session → ℕ
+cursorCount s = howMany (λ c. c .live) (s .cursors)
