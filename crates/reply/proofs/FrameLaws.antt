@@ -1,0 +1,58 @@
+-- Laws of the frames: how long an Error's payload is, and frames put at the front of a buffer. Assumes nothing.
+use Prim.Native.Nat.{ℕ, _+_, _*_, _<_}
+use mathlib.Core.Path.{_≡_, refl, ap}
+use mathlib.Core.List.{List, [], _∷_, _++_}
+use native.Mathlib.Omega.{arith}
+use lib.ListN.{length, length-append}
+use Rattle.varint.specs.Shortest.{varintBytes}
+use Rattle.varint.proofs.ShortestLaws.{shortest-last}
+use Rattle.reply.specs.Text.{ascii}
+use Rattle.reply.specs.Puts.{Puts}
+use Rattle.reply.specs.Frame.{fourBytes, frame, numberField, bytesField, errorPayload, errorFrame}
+use Rattle.reply.proofs.PutsLaws.{puts-as, puts-then}
+
+-- ---- lengths
+
+pub empty-length : (kind : ℕ) → length (frame kind []) ≡ 5
+empty-length kind = refl
+
+pub number-parts : (num v : ℕ) → length (numberField num v) ≡ length (varintBytes (num * 8)) + length (varintBytes v)
+unfolding numberField
+number-parts num v = length-append (varintBytes (num * 8)) (varintBytes v)
+
+pub bytes-parts : (num : ℕ) (bs : List ℕ) →
+    length (bytesField num bs) ≡ length (varintBytes (num * 8 + 2)) + length (varintBytes (length bs)) + length bs
+unfolding bytesField
+bytes-parts num bs = simp length-append
+
+pub payload-parts : (code : ℕ) (m : List ℕ) →
+    length (errorPayload code m)
+    ≡ length (numberField 1 0) + length (numberField 2 code) + length (bytesField 3 m) + length (bytesField 4 (ascii "HY000"))
+unfolding errorPayload
+payload-parts code m = simp length-append
+
+one-byte : (v : ℕ) → v < 128 → length (varintBytes v) ≡ 1
+one-byte v h = ap length (shortest-last 9 v h)
+
+pub payload-length : (code : ℕ) (m : List ℕ) →
+    length (errorPayload code m) ≡ 11 + length (varintBytes code) + length (varintBytes (length m)) + length m
+payload-length code m =
+    omega (
+      arith,
+      payload-parts code m,
+      number-parts 1 0,
+      number-parts 2 code,
+      bytes-parts 3 m,
+      bytes-parts 4 (ascii "HY000"),
+      one-byte 8 (omega arith),
+      one-byte 0 (omega arith),
+      one-byte 16 (omega arith),
+      one-byte 26 (omega arith),
+      one-byte 34 (omega arith),
+      one-byte 5 (omega arith),
+    )
+
+-- the head, and behind it the payload
+pub error-framed : (code : ℕ) (m : List ℕ) {b b₁ b₂ : List ℕ} {r q size : ℕ} → Puts b 0 (fourBytes size ++ (1 ∷ [])) r b₁ →
+    Puts b₁ r (errorPayload code m) q b₂ → size ≡ length (errorPayload code m) + 1 → Puts b 0 (errorFrame code m) q b₂
+error-framed code m f g e = puts-as (ap (λ (s : ℕ). fourBytes s ++ (1 ∷ errorPayload code m)) e) (puts-then f g)

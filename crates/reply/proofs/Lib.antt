@@ -1,0 +1,6 @@
+pub mod DecimalLaws
+pub mod FrameLaws
+pub mod FramesLaws
+pub mod PutsLaws
+pub mod ReplyLaws
+pub mod TextLaws

@@ -1,0 +1,14 @@
+-- `reply::code_of` meets its contract: past the table the definition answers 0 too. Assumes nothing.
+use borrow.Author.Needs.{needs}
+use native.Mathlib.Omega.{arith}
+use mathlib.Core.Path.{sym}
+use lib.ListN.{List·getD-eq-default}
+use Rattle.reply.specs.Reply.{codes}
+use Rattle.reply.proofs.code_of.Statement.{statement}
+use Rattle.reply.proofs.code_of.Tie as tie
+
+returns : tie.Need-returns
+returns c = sym (List·getD-eq-default codes 0 {n = c .before .args .reason} (omega arith))
+
+pub code-of-spec : {M : Type 1} → statement M
+code-of-spec = tie.close (tie.spec returns (λ c. search needs) (λ c. search needs) (λ c. search needs))

@@ -1,0 +1,23 @@
+-- `reply::frame::write_empty` meets its contract. Assumes nothing.
+use borrow.Author.Needs.{needs}
+use native.Mathlib.Omega.{arith}
+use mathlib.Core.List.{[]}
+use Rattle.reply.specs.Frame.{frame}
+use Rattle.reply.proofs.PutsLaws.{puts-none, puts-room}
+use Rattle.reply.proofs.frame.write_empty.Statement.{statement}
+use Rattle.reply.proofs.frame.write_empty.Tie as tie
+
+returns : tie.Need-returns
+returns c = puts-none (frame (c .before .before .args .kind) []) (omega arith)
+
+returns-2 : tie.Need-returns-2
+returns-2 c = puts-room (omega arith) (c .before .before .put-head .ensures)
+
+pub write-empty-spec : {M : Type 1} → statement M
+write-empty-spec =
+    tie.close
+    (tie.spec
+    returns
+    (λ c κs. search needs)
+    (λ c. search needs)
+    returns-2)

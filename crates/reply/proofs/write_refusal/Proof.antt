@@ -1,0 +1,46 @@
+-- `reply::write_refusal` meets its contract: the text stands at the front of the array, and what is lent of it is the text. Assumes nothing.
+use borrow.Author.Needs.{needs}
+use native.Mathlib.Omega.{arith}
+use Prim.Native.Nat.{ℕ, _≤_}
+use mathlib.Core.Path.{ap, sym}
+use lib.ListN.{length, replicate}
+use lib.Seq.{length-take-le}
+use Rattle.reply.specs.declared.Reply.{Reply}
+use Rattle.reply.specs.Reply.{messageOf}
+use Rattle.reply.specs.Frame.{errorFrame}
+use Rattle.reply.proofs.PutsLaws.{if-room-as, front, front-within}
+use Rattle.reply.proofs.TextLaws.{text-within}
+use Rattle.reply.proofs.write_refusal.Statement.{statement}
+use Rattle.reply.proofs.write_refusal.Tie as tie
+
+room : (r : Reply) → length (messageOf r) ≤ length (replicate {A = ℕ} 128 0)
+room r = omega (arith, text-within (r .reason) (r .number) (r .kind))
+
+array-share-prefix-text : tie.Need-array-share-prefix-text
+array-share-prefix-text c =
+    let a = c .before .before .before .before .args .reply in
+    front-within (room a) (c .before .put-text .ensures)
+
+slice-aggregate-write-error : tie.Need-slice-aggregate-write-error
+slice-aggregate-write-error c =
+    let a = c .before .before .before .before .before .args .reply in
+    let t = c .before .before in
+    sym (length-take-le (t .put-text .result) _ (front-within (room a) (t .put-text .ensures)))
+
+returns : tie.Need-returns
+returns c =
+    let w = c .before .before in
+    let t = w .before .before .before in
+    let a = t .before .before .before .args .reply in
+    if-room-as (ap (errorFrame (a .code)) (front (room a) (t .put-text .ensures))) (w .write-error .ensures)
+
+pub write-refusal-spec : {M : Type 1} → statement M
+write-refusal-spec =
+    tie.close
+    (tie.spec
+    (λ c κs. search needs)
+    array-share-prefix-text
+    slice-aggregate-write-error
+    (λ c κs. search needs)
+    (λ c. search needs)
+    returns)
