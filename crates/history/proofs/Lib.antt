@@ -1,0 +1,5 @@
+pub mod ListLaws
+pub mod TableLaws
+pub mod OpeningLaws
+pub mod HistoryLaws
+pub mod SampleLaws

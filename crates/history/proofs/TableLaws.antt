@@ -1,0 +1,139 @@
+-- What the cursor table weighs after an accepted message, under every weight. Assumes nothing.
+use Prim.Native.Nat.{ℕ, _+_, _-_, _≤_, min}
+use native.Mathlib.Omega.{arith}
+use mathlib.Core.Bool.{Bool, true, false, cond, not, _&&_, true≢false}
+use mathlib.Core.Path.{_≡_, refl, sym, _∙_}
+use mathlib.Core.List.{List}
+use lib.ListN.{getD, set}
+use lib.Dec.{eqb}
+use borrow.Author.Tests.{not-true}
+use Rattle.varint.proofs.PastLaws.{both}
+use Rattle.session.specs.declared.Cursor.{Cursor}
+use Rattle.session.specs.declared.Place.{Place}
+use Rattle.session.specs.Lists.{first, orPlace, sumBy, howMany, put, changed, change}
+use Rattle.session.specs.Entry.{noCursor, newCursor, isCursor, freeCursor, raise}
+use Rattle.session.specs.Tables.{ends}
+use Rattle.session.proofs.PlaceLaws.{Taken, taken}
+use Rattle.session.proofs.PlaceLaws.Taken.{own, new}
+use Rattle.session.proofs.SumLaws.{sum-same, sum-map, sum-add, sum-set, and-true}
+use Rattle.rules.specs.Refusal.{noPlace}
+use Rattle.history.proofs.ListLaws.{sum-absent, sum-only}
+
+-- a weight of a cursor id, a statement id, the rows reported and the rows sent
+abbrev pub Weight : Type 0
+Weight = ℕ → ℕ → ℕ → ℕ → ℕ
+
+-- live cursors alone weigh
+abbrev pub weigh : Weight → Cursor → ℕ
+weigh w c = cond (c .live) (w (c .id) (c .stmt) (c .rows) (c .sent)) 0
+
+abbrev pub table : Weight → List Cursor → ℕ
+table w cs = sumBy (weigh w) cs
+
+-- nothing where a test of the ids passes; nothing where it does not
+abbrev pub off : (ℕ → ℕ → Bool) → Weight → Weight
+off p w id stmt rows sent = cond (not (p id stmt)) (w id stmt rows sent) 0
+
+abbrev pub on : (ℕ → ℕ → Bool) → Weight → Weight
+on p w id stmt rows sent = cond (p id stmt) (w id stmt rows sent) 0
+
+-- ---- endings
+
+module _ (p : Cursor → Bool) (q : ℕ → ℕ → Bool) (w : Weight) (agree : (c : Cursor) → c .live ≡ true → p c ≡ q (c .id) (c .stmt)) where
+  gone : (c : Cursor) → p c ≡ true → (l : Bool) → c .live ≡ l → 0 ≡ weigh (off q w) c
+  gone c t true e = rw (e, sym (agree c e) ∙ t)
+  gone c t false e = rw e
+
+  stays : (c : Cursor) → p c ≡ false → (l : Bool) → c .live ≡ l → weigh w c ≡ weigh (off q w) c
+  stays c t true e = rw (e, sym (agree c e) ∙ t)
+  stays c t false e = rw e
+
+  ends-one : (c : Cursor) → weigh w (change p (λ c. noCursor) c) ≡ weigh (off q w) c
+  ends-one c =
+      both (λ x. weigh w x ≡ weigh (off q w) c) (p c) noCursor c (λ t. gone c t (c .live) refl) (λ t. stays c t (c .live) refl)
+
+  pub ends-weigh : (cs : List Cursor) → table w (ends p cs) ≡ table (off q w) cs
+  ends-weigh cs =
+      sum-map (weigh w) (change p (λ c. noCursor)) cs
+      ∙ sum-same (λ c. weigh w (change p (λ c. noCursor) c)) (weigh (off q w)) ends-one cs
+
+-- ---- an opening
+
+module _ (q : ℕ → ℕ → Bool) (w : Weight) where
+  split-one : (c : Cursor) → weigh (off q w) c + weigh (on q w) c ≡ weigh w c
+  split-one c = go (c .live) (q (c .id) (c .stmt)) (w (c .id) (c .stmt) (c .rows) (c .sent))
+    where
+      go : (l b : Bool) (n : ℕ) → cond l (cond (not b) n 0) 0 + cond l (cond b n 0) 0 ≡ cond l n 0
+      go true true n = omega arith
+      go true false n = omega arith
+      go false b n = omega arith
+
+  -- what ends and what does not
+  pub split : (cs : List Cursor) → table (off q w) cs + table (on q w) cs ≡ table w cs
+  split cs =
+      sym (sum-add (weigh (off q w)) (weigh (on q w)) cs)
+      ∙ sum-same (λ c. weigh (off q w) c + weigh (on q w) c) (weigh w) split-one cs
+
+-- the cursor of an id is what a test of the ids takes
+module _ (q : ℕ → ℕ → Bool) (id : ℕ) (own-id : (k stmt : ℕ) → q k stmt ≡ eqb k id) (w : Weight) where
+  pub unless-own : (c : Cursor) → isCursor id c ≡ false → weigh (on q w) c ≡ 0
+  unless-own c e = go (c .live) refl (eqb (c .id) id) (own-id (c .id) (c .stmt)) e
+    where
+      go : (l : Bool) → c .live ≡ l → (b : Bool) → q (c .id) (c .stmt) ≡ b → (l && b) ≡ false → weigh (on q w) c ≡ 0
+      go true f true g z = absurd (true≢false z)
+      go true f false g z = rw (f, g)
+      go false f b g z = rw f
+
+  own-weigh : (c : Cursor) → isCursor id c ≡ true → weigh (on q w) c ≡ weigh w c
+  own-weigh c e = rw (own-id (c .id) (c .stmt), and-true (c .live) (eqb (c .id) id) e .1)
+
+  module _ (cs : List Cursor) (once : howMany (isCursor id) cs ≤ 1) (stmt rows sent : ℕ) where
+    abbrev opening : Cursor
+    opening = newCursor id stmt rows sent
+
+    open-at : (i : ℕ) → Taken (isCursor id) freeCursor noCursor cs i →
+        table w (set cs i opening) ≡ table (off q w) cs + w id stmt rows sent
+    open-at i (own l) =
+        omega (
+          arith,
+          sum-set (weigh w) opening noCursor cs i (l .inside),
+          sum-only (isCursor id) (weigh (on q w)) unless-own noCursor refl cs i once l,
+          own-weigh (getD cs i noCursor) (l .passing),
+          split q w cs,
+        )
+    open-at i (new l none) =
+        omega (
+          arith,
+          sum-set (weigh w) opening noCursor cs i (l .inside),
+          sum-absent (isCursor id) (weigh (on q w)) unless-own cs none,
+          free,
+          split q w cs,
+        )
+      where
+        free : weigh w (getD cs i noCursor) ≡ 0
+        free = rw (not-true (getD cs i noCursor .live) (l .passing))
+
+    pub open-weigh : (at : Place) → orPlace (first (isCursor id) cs 0) (first freeCursor cs 0) ≡ at → noPlace at ≡ false →
+        table w (put cs at opening) ≡ table (off q w) cs + w id stmt rows sent
+    open-weigh (Place.At i) e z = open-at i (taken (isCursor id) freeCursor noCursor cs i e)
+    open-weigh Place.Nothing e z = absurd (true≢false z)
+
+-- ---- a fetch
+
+-- the cursor of an id sends n rows more, and no more than it has
+abbrev pub plus : ℕ → ℕ → Weight → Weight
+plus k n w id stmt rows sent = cond (eqb id k) (w id stmt rows (sent + min n (rows - sent))) (w id stmt rows sent)
+
+module _ (k n : ℕ) (w : Weight) where
+  raise-one : (c : Cursor) → weigh w (change (isCursor k) (raise n) c) ≡ weigh (plus k n w) c
+  raise-one c = go (c .live) refl (eqb (c .id) k) refl
+    where
+      go : (l : Bool) → c .live ≡ l → (b : Bool) → eqb (c .id) k ≡ b → weigh w (change (isCursor k) (raise n) c) ≡ weigh (plus k n w) c
+      go true e true f = rw (e, f)
+      go true e false f = rw (e, f)
+      go false e b f = rw e
+
+  pub fetch-weigh : (cs : List Cursor) → table w (changed (isCursor k) (raise n) cs) ≡ table (plus k n w) cs
+  fetch-weigh cs =
+      sum-map (weigh w) (change (isCursor k) (raise n)) cs
+      ∙ sum-same (λ c. weigh w (change (isCursor k) (raise n) c)) (weigh (plus k n w)) raise-one cs
