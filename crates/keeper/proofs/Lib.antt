@@ -1,0 +1,4 @@
+pub mod ReasonLaws
+pub mod RowsLaws
+pub mod DecisionLaws
+pub mod StepLaws

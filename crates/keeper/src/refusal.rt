@@ -1,0 +1,232 @@
+// The refusals of a look and of an engine report.
+ghost use mathlib.Core.Path.{_≡_};
+ghost use mathlib.Core.Bool.{cond, not, _&&_, _||_};
+ghost use lib.Dec.{eqb, leb};
+ghost use Rattle.session.specs.Tables.{liveCursor};
+ghost use Rattle.rules.specs.Kind.{fails, suits, wanted, within, workOf};
+ghost use Rattle.rules.specs.Read.{Read};
+ghost use Rattle.rules.specs.Refusal.{lookReason, noPlace, reportReason, stepReason};
+ghost use Rattle.keeper.specs.Reason.{bindingReason, fetchReason, openReason, other, tableReason};
+use args::arguments::Arguments;
+use message::message::Message;
+use rules::Report;
+use session::Cursor;
+use session::Place;
+use session::Session;
+use session::Stmt;
+
+// The work that a message wants of the engine.
+pub(crate) fn work_of(m: Message) -> u64
+    ensures { λ r. ⌜ r ≡ workOf m ⌝ }
+{
+    let kind = m.kind;
+    match kind {
+        40 => rules::PREPARE,
+        41 => rules::EXECUTE,
+        43 => rules::OPEN,
+        45 => rules::FETCH,
+        _ => 0,
+    }
+}
+
+// A table without a place for a new entry is refused by this number.
+fn full_reason(place: Place, reason: u64) -> u64
+    ensures { λ r. ⌜ r ≡ cond (noPlace place) reason 0 ⌝ }
+{
+    match place {
+        Place::At(_) => 0,
+        Place::Nothing => reason,
+    }
+}
+
+// 7, 8, 9.
+fn binding_reason(stmt: Stmt, args: Arguments) -> u64
+    ensures { λ r. ⌜ r ≡ bindingReason stmt args ⌝ }
+{
+    if !stmt.live {
+        return 7;
+    }
+    if args.kind != 0 {
+        return 8;
+    }
+    if args.count < stmt.placeholders as usize {
+        return 9;
+    }
+    0
+}
+
+// The statement's cursor has another id.
+fn is_other(carried: Cursor, id: u32) -> bool
+    ensures { λ r. ⌜ r ≡ other id carried ⌝ }
+{
+    carried.live && carried.id != id
+}
+
+fn open_reason(session: Session, m: Message) -> u64
+    requires { ⌜ Read m ⌝ }
+    ensures { λ r. ⌜ r ≡ openReason session m ⌝ }
+{
+    let stmt = m.stmt as u32;
+    let cursor = m.cursor as u32;
+    let args = m.args;
+    let reason = binding_reason(session.live_stmt(stmt), args);
+    if reason != 0 {
+        return reason;
+    }
+    if is_other(session.carried(stmt), cursor) {
+        return 12;
+    }
+    full_reason(session.cursor_place(cursor), 14)
+}
+
+// 10, 11.
+fn fetch_reason(cursor: Cursor) -> u64
+    ensures { λ r. ⌜ r ≡ fetchReason cursor ⌝ }
+{
+    if !cursor.live {
+        return 10;
+    }
+    if cursor.rows <= cursor.sent {
+        return 11;
+    }
+    0
+}
+
+// A statement or cursor that is not live is refused by this number.
+fn live_reason(live: bool, reason: u64) -> u64
+    ensures { λ r. ⌜ r ≡ cond (not live) reason 0 ⌝ }
+{
+    if live { 0 } else { reason }
+}
+
+// The refusals that depend on the tables. `cursor` is the live cursor that the message names.
+fn table_reason(session: Session, m: Message, cursor: Cursor) -> u64
+    requires { ⌜ Read m ⌝ }
+    requires { ⌜ cursor ≡ liveCursor session (m .cursor) ⌝ }
+    ensures { λ r. ⌜ r ≡ tableReason session m ⌝ }
+{
+    let kind = m.kind;
+    let stmt = m.stmt as u32;
+    let args = m.args;
+    match kind {
+        40 => full_reason(session.stmt_place(stmt), 13),
+        41 => binding_reason(session.live_stmt(stmt), args),
+        42 => live_reason(session.live_stmt(stmt).live, 7),
+        43 => open_reason(session, m),
+        44 => live_reason(cursor.live, 10),
+        45 => fetch_reason(cursor),
+        _ => 0,
+    }
+}
+
+// What a look refuses, 0 for nothing.
+pub(crate) fn look_reason(session: Session, m: Message, cursor: Cursor) -> u64
+    requires { ⌜ Read m ⌝ }
+    requires { ⌜ cursor ≡ liveCursor session (m .cursor) ⌝ }
+    ensures { λ r. ⌜ r ≡ lookReason session m ⌝ }
+{
+    let reason = m.reason;
+    if reason == 1 {
+        return 1;
+    }
+    if reason == 2 {
+        return 2;
+    }
+    if session.closed {
+        return 4;
+    }
+    if reason != 0 {
+        return reason;
+    }
+    table_reason(session, m, cursor)
+}
+
+// A failure of the engine, with a code of 32 bits that is not 0.
+fn has_failed(r: Report) -> bool
+    ensures { λ b. ⌜ b ≡ fails r ⌝ }
+{
+    if r.kind != rules::FAILED {
+        return false;
+    }
+    if r.a == 0 {
+        return false;
+    }
+    r.a <= 0xffff_ffff
+}
+
+// The columns and rows of a result are within their limits.
+fn is_result(columns: u64, rows: u64) -> bool
+    ensures { λ b. ⌜ b ≡ (leb columns 4096 && leb rows 4294967295 && (not (eqb columns 0) || eqb rows 0)) ⌝ }
+{
+    if 4096 < columns {
+        return false;
+    }
+    if 0xffff_ffff < rows {
+        return false;
+    }
+    if columns != 0 {
+        return true;
+    }
+    rows == 0
+}
+
+fn is_within(r: Report) -> bool
+    ensures { λ b. ⌜ b ≡ within r ⌝ }
+{
+    let kind = r.kind;
+    match kind {
+        rules::PREPARED => r.a <= 65535,
+        rules::RESULT => is_result(r.a, r.b),
+        _ => kind == rules::DONE,
+    }
+}
+
+// The report that a message with work wants.
+fn wanted_kind(m: Message) -> u64
+    ensures { λ r. ⌜ r ≡ wanted m ⌝ }
+{
+    let kind = m.kind;
+    match kind {
+        40 => rules::PREPARED,
+        45 => rules::DONE,
+        _ => rules::RESULT,
+    }
+}
+
+fn is_suited(m: Message, r: Report) -> bool
+    ensures { λ b. ⌜ b ≡ suits m r ⌝ }
+{
+    if r.kind != wanted_kind(m) {
+        return false;
+    }
+    is_within(r)
+}
+
+// 15 and 16.
+fn report_reason(m: Message, report: Report) -> u64
+    ensures { λ r. ⌜ r ≡ reportReason m report ⌝ }
+{
+    if work_of(m) == 0 {
+        return 0;
+    }
+    if has_failed(report) {
+        return 16;
+    }
+    if is_suited(m, report) {
+        return 0;
+    }
+    15
+}
+
+// What a step refuses but 3.
+pub(crate) fn step_reason(session: Session, m: Message, report: Report, cursor: Cursor) -> u64
+    requires { ⌜ Read m ⌝ }
+    requires { ⌜ cursor ≡ liveCursor session (m .cursor) ⌝ }
+    ensures { λ r. ⌜ r ≡ stepReason session m report ⌝ }
+{
+    let reason = look_reason(session, m, cursor);
+    if reason != 0 {
+        return reason;
+    }
+    report_reason(m, report)
+}
