@@ -1,0 +1,224 @@
+-- Field lists read in bytes and in a byte string that holds these bytes: they are alike but for the places. Assumes nothing.
+use Prim.Native.Nat.{ℕ, zero, suc, _+_, _-_, _≤_, _<_}
+use native.Mathlib.Omega.{arith}
+use mathlib.Core.Bool.{Bool, true, false, cond}
+use mathlib.Core.Path.{_≡_, refl, sym, ap, subst, _∙_}
+use mathlib.Core.List.{List}
+use lib.ListN.{length, getD, set, take, replicate, length-set}
+use lib.Seq.{getD-set-same, getD-set-other, length-take-le}
+use lib.Dec.{eqb}
+use borrow.Author.Tests.{eqb-true, eqb-false}
+use Rattle.wire.specs.Field.{fieldAt}
+use Rattle.wire.specs.Past.{PastField}
+use Rattle.wire.specs.declared.field.Field.{Field}
+use Rattle.wire.proofs.PastLaws.{field-past}
+use Rattle.layout.specs.Row.{isRepeated, rowFor, takes}
+use Rattle.layout.specs.Slots.{noSlots, badSlots}
+use Rattle.layout.specs.Fields.{useOf, noted, fieldList, hasRequired, checked, fieldsAt}
+use Rattle.layout.specs.declared.slots.Slots.{Slots}
+use Rattle.layout.specs.declared.fields.Use.{Use}
+use Rattle.layout.proofs.FieldsLaws.{Listing, starts, ends, no-field, advances, goes-on, kept-slot, checked-good, checked-bad}
+use Rattle.args.specs.Part.{embedded, countOf, startOf, lenOf}
+use Rattle.args.proofs.PartLaws.{part-within}
+use Rattle.writer.proofs.TailLaws.{less-or-not, Tail, tail-length, Stands, stands-length, stands-take}
+use Rattle.writer.proofs.MovedLaws.{movedField, field-moved}
+
+-- x is read in n bytes, and y in a byte string that holds them at the place d
+pub record Alike (rows : List (List ℕ)) (d n : ℕ) (x y : Slots) : Type 0 where
+  pub good : y .good ≡ x .good
+  pub count : y .count ≡ x .count
+  pub value : y .value ≡ x .value
+  pub len : y .len ≡ x .len
+  pub slots : (length (x .start) ≡ 10) × (length (y .start) ≡ 10) × (length (x .len) ≡ 10)
+  pub inside : (k : ℕ) → startOf x k + lenOf x k ≤ n
+  -- a field that is kept and occurs
+  pub start : (k : ℕ) → isRepeated (rowFor rows k) ≡ false → (countOf x k ≡ 0 → ⊥) → startOf y k ≡ d + startOf x k
+
+zeros : (n k : ℕ) → _≡_ {A = ℕ} (getD (replicate n 0) k 0) 0
+zeros zero k = refl
+zeros (suc n) zero = refl
+zeros (suc n) (suc k) = zeros n k
+
+-- an index is the one that was set, or another
+pub same-or-not : {A : Type 0} (k i : ℕ) → (k ≡ i → A) → ((k ≡ i → ⊥) → A) → A
+same-or-not {A} k i f g = go (eqb k i) refl
+  where
+    go : (b : Bool) → eqb k i ≡ b → A
+    go true e = f (eqb-true k i e)
+    go false e = g (eqb-false k i e)
+
+-- a field that is only counted is a repeated one
+counted-repeated : (rows : List (List ℕ)) (number w v : ℕ) → useOf rows number w v ≡ Use.Counted → isRepeated (rowFor rows number) ≡ true
+counted-repeated rows number w v = go (takes (rowFor rows number) number w v) (isRepeated (rowFor rows number))
+  where
+    go : (a b : Bool) → cond a (cond b Use.Counted Use.Kept) Use.Unknown ≡ Use.Counted → b ≡ true
+    go true true e = refl
+    go true false e = absurd (let z : _≡_ {A = ℕ} 0 1 = cc in omega arith)
+    go false b e = absurd (let z : _≡_ {A = ℕ} 0 1 = cc in omega arith)
+
+module _ (rows : List (List ℕ)) (d n : ℕ) where
+  pub none-alike : Alike rows d n noSlots noSlots
+  none-alike =
+      record {
+        good = refl;
+        count = refl;
+        value = refl;
+        len = refl;
+        slots = (refl, refl, refl);
+        inside = λ k. omega (arith, zeros 10 k);
+        start = λ k _ h. absurd (h (zeros 10 k));
+      }
+
+  pub bad-alike : Alike rows d n badSlots badSlots
+  bad-alike =
+      record {
+        good = refl;
+        count = refl;
+        value = refl;
+        len = refl;
+        slots = (refl, refl, refl);
+        inside = λ k. omega (arith, zeros 10 k);
+        start = λ k _ h. absurd (h (zeros 10 k));
+      }
+
+  pub alike-as : {x y x′ y′ : Slots} → x ≡ x′ → y ≡ y′ → Alike rows d n x y → Alike rows d n x′ y′
+  alike-as {x} {y} {x′} {y′} e f a = subst (λ (z : Slots). Alike rows d n x′ z) f (subst (λ (z : Slots). Alike rows d n z y) e a)
+
+  -- one field more
+  module _ {x y : Slots} (a : Alike rows d n x y) (number w v st ln : ℕ) (in-n : st + ln ≤ n) where
+    noted-alike : (u : Use) → useOf rows number w v ≡ u → Alike rows d n (noted u x number v st ln) (noted u y number v (d + st) ln)
+    noted-alike Use.Unknown e = a
+    noted-alike Use.Counted e =
+        record {
+          good = a .good;
+          count = ap (λ (l : List ℕ). set l number (getD l number 0 + 1)) (a .count);
+          value = a .value;
+          len = a .len;
+          slots = a .slots;
+          inside = a .inside;
+          start = λ k r h.
+              same-or-not k number
+              (λ z.
+              absurd
+              (let r′ = ap (λ (m : ℕ). isRepeated (rowFor rows m)) z in
+              let r″ = counted-repeated rows number w v e in
+              let z : _≡_ {A = ℕ} 0 1 = cc in
+              omega arith))
+              (λ z. a .start k r (λ o. h (getD-set-other (x .count) number k (countOf x number + 1) 0 z ∙ o)));
+        }
+    noted-alike Use.Kept e =
+        record {
+          good = a .good;
+          count = ap (λ (l : List ℕ). set l number (getD l number 0 + 1)) (a .count);
+          value = ap (λ (l : List ℕ). set l number v) (a .value);
+          len = ap (λ (l : List ℕ). set l number ln) (a .len);
+          slots = (
+            length-set (x .start) number st ∙ a .slots .0,
+            length-set (y .start) number (d + st) ∙ a .slots .1,
+            length-set (x .len) number ln ∙ a .slots .2,
+          );
+          inside = λ k.
+              same-or-not k number
+              (λ z.
+              omega (
+                arith,
+                ap (λ (m : ℕ). getD (set (x .start) number st) m 0) z,
+                ap (λ (m : ℕ). getD (set (x .len) number ln) m 0) z,
+                getD-set-same (x .start) number st 0 small,
+                getD-set-same (x .len) number ln 0 small-len,
+              ))
+              (λ z.
+              omega (
+                arith,
+                getD-set-other (x .start) number k st 0 z,
+                getD-set-other (x .len) number k ln 0 z,
+                a .inside k,
+              ));
+          start = λ k r h.
+              same-or-not k number
+              (λ z.
+              ap (λ (m : ℕ). getD (set (y .start) number (d + st)) m 0) z
+              ∙ getD-set-same (y .start) number (d + st) 0 small-too
+              ∙ ap (λ (m : ℕ). d + m) (sym (getD-set-same (x .start) number st 0 small))
+              ∙ ap (λ (m : ℕ). d + getD (set (x .start) number st) m 0) (sym z))
+              (λ z.
+              getD-set-other (y .start) number k (d + st) 0 z
+              ∙ a .start k r (λ o. h (getD-set-other (x .count) number k (countOf x number + 1) 0 z ∙ o))
+              ∙ ap (λ (m : ℕ). d + m) (sym (getD-set-other (x .start) number k st 0 z)));
+        }
+      where
+        small : number < length (x .start)
+        small = omega (arith, kept-slot rows number w v (sym e), a .slots .0)
+
+        small-too : number < length (y .start)
+        small-too = omega (arith, kept-slot rows number w v (sym e), a .slots .1)
+
+        small-len : number < length (x .len)
+        small-len = omega (arith, kept-slot rows number w v (sym e), a .slots .2)
+
+-- two walks through a field list, one in the bytes and one in what holds them
+module _ (rows : List (List ℕ)) {s : List ℕ} {d : ℕ} {t : List ℕ} (k : Tail s d t) (from : ℕ) where
+  abbrev Same : Type 0
+  Same = Alike rows d (length t) (fieldList rows t from) (fieldList rows s (d + from))
+
+  module _ (p : ℕ) (i : p < length t) {x y : Slots} (f : Listing rows t from p x) (g : Listing rows s (d + from) (d + p) y)
+      (a : Alike rows d (length t) x y)
+      (on : (q : ℕ) → p < q → (x′ y′ : Slots) → Listing rows t from q x′ → Listing rows s (d + from) (d + q) y′ → Alike rows d (length t) x′ y′ → Same) where
+    j : d + p < length s
+    j = omega (arith, tail-length k)
+
+    by-field : (z : Field) → fieldAt t p ≡ z → Same
+    by-field Field.Bad e =
+        alike-as rows d (length t) (no-field f i e) (no-field g j (field-moved k p ∙ ap (movedField d) e)) (bad-alike rows d (length t))
+    by-field (Field.Good number w v st ln next) e =
+        let e′ = field-moved k p ∙ ap (movedField d) e in
+        let u = useOf rows number w v in
+        on next (advances f i e) (noted u x number v st ln) (noted u y number v (d + st) ln) (goes-on f i e (useOf rows number w v) refl) (goes-on g j e′ (useOf rows number w v) refl)
+        (noted-alike rows d (length t) a number w v st ln (within (field-past t p)) (useOf rows number w v) refl)
+      where
+        within : PastField p (length t) (fieldAt t p) → st + ln ≤ length t
+        within = rw e (λ h. omega arith)
+
+  walks : (most p : ℕ) → length t ≤ p + most → {x y : Slots} → Listing rows t from p x → Listing rows s (d + from) (d + p) y →
+      Alike rows d (length t) x y → Same
+  walks zero p h f g a = alike-as rows d (length t) (ends f (omega arith)) (ends g (omega (arith, tail-length k))) a
+  walks (suc most) p h f g a =
+      less-or-not p (length t) (λ i. by-field p i f g a (λ q z x′ y′. walks most q (omega arith)) (fieldAt t p) refl)
+      (λ i. alike-as rows d (length t) (ends f i) (ends g (omega (arith, tail-length k))) a)
+
+  list-alike : Same
+  list-alike =
+      walks (length t) from (omega arith) (starts rows t from) (starts rows s (d + from)) (none-alike rows d (length t))
+
+  pub fields-alike : Alike rows d (length t) (fieldsAt rows t from) (fieldsAt rows s (d + from))
+  fields-alike =
+      go (fieldList rows t from) (fieldList rows s (d + from)) list-alike (hasRequired rows (fieldList rows t from .count)) refl
+    where
+      go : (x y : Slots) → Alike rows d (length t) x y → (b : Bool) → hasRequired rows (x .count) ≡ b →
+          Alike rows d (length t) (checked rows x) (checked rows y)
+      go x y a true e =
+          alike-as rows d (length t) (checked-good rows x e) (checked-good rows y (ap (hasRequired rows) (a .count) ∙ e)) a
+      go x y a false e =
+          alike-as rows d (length t) (checked-bad rows x e) (checked-bad rows y (ap (hasRequired rows) (a .count) ∙ e))
+          (bad-alike rows d (length t))
+
+pub alike-more : {rows : List (List ℕ)} {d n m : ℕ} {x y : Slots} → n ≤ m → Alike rows d n x y → Alike rows d m x y
+alike-more h a =
+    record {
+      good = a .good;
+      count = a .count;
+      value = a .value;
+      len = a .len;
+      slots = a .slots;
+      inside = λ k. omega (arith, a .inside k);
+      start = a .start;
+    }
+
+-- a message embedded in the bytes
+pub embedded-alike : (rows : List (List ℕ)) {s : List ℕ} {d : ℕ} {t q : List ℕ} → Stands s d t q → (at n : ℕ) → at + n ≤ length t →
+    Alike rows d (length t) (embedded rows t at n) (embedded rows s (d + at) n)
+embedded-alike rows {s} {d} {t} {q} k at n h =
+    let e : d + (at + n) ≡ d + at + n = omega arith in
+    alike-as rows d (length t) (part-within rows t at n h)
+    (ap (λ (m : ℕ). fieldsAt rows (take m s) (d + at)) e ∙ part-within rows s (d + at) n (omega (arith, stands-length k)))
+    (alike-more (omega (arith, length-take-le (at + n) t h)) (fields-alike rows (stands-take k (at + n) h) at))

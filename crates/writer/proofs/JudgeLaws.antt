@@ -1,0 +1,112 @@
+-- Judging a stretch of args fields, one turn of the loop at a time; a Prepare; the kinds. Assumes nothing.
+use Prim.Native.Nat.{ℕ, zero, suc, _+_, _-_, _≤_, _<_}
+use native.Mathlib.Omega.{arith}
+use mathlib.Core.Bool.{Bool, true, false, not, cond}
+use mathlib.Core.Path.{_≡_, refl, sym, ap, _∙_}
+use mathlib.Core.List.{List}
+use lib.ListN.{length}
+use lib.Dec.{ltb, eqb}
+use borrow.Author.Tests.{lt-ltb, le-ltb, eq-eqb, ne-eqb}
+use Rattle.wire.specs.Field.{fieldAt}
+use Rattle.wire.specs.Past.{PastField}
+use Rattle.wire.specs.declared.field.Field.{Field}
+use Rattle.wire.proofs.PastLaws.{field-past}
+use Rattle.args.specs.Value.{argumentIn}
+use Rattle.args.specs.Arguments.{anyTypeOf}
+use Rattle.args.proofs.PartLaws.{yes, no as without}
+use Rattle.writer.specs.Judge.{isGood, onArg, argsFrom, goodStretch, goodBody, goodPrepare, acceptedAs}
+
+-- where the loop stands: what is left at p answers for the whole stretch
+pub record Judging (s : List ℕ) (p : ℕ) : Type 0 where
+  pub most : ℕ
+  pub enough : length s ≤ p + most
+  pub whole : argsFrom most s p ≡ goodStretch s
+
+pub starts : (s : List ℕ) → Judging s 0
+starts s = record { most = length s; enough = omega arith; whole = refl }
+
+pub judged-end : (most : ℕ) (s : List ℕ) (p : ℕ) → length s ≤ p → argsFrom most s p ≡ true
+unfolding argsFrom
+judged-end zero s p h = refl
+judged-end (suc m) s p h = simp (le-ltb p (length s) h)
+
+pub ends : {s : List ℕ} {p : ℕ} → Judging s p → length s ≤ p → true ≡ goodStretch s
+ends {s} {p} k h = sym (judged-end (k .most) s p h) ∙ k .whole
+
+before-suc : (m : ℕ) → m ≡ suc m - 1
+before-suc m = omega arith
+
+pub unroll : (most : ℕ) (s : List ℕ) (p : ℕ) → 0 < most → p < length s →
+    argsFrom most s p ≡ onArg s (λ next. argsFrom (most - 1) s next) (fieldAt s p)
+unfolding argsFrom
+unroll zero s p g h = absurd (omega arith)
+unroll (suc m) s p g h =
+    simp (lt-ltb p (length s) h) (ap (λ (k : ℕ). onArg s (λ next. argsFrom k s next) (fieldAt s p)) (before-suc m))
+
+module _ {s : List ℕ} {p : ℕ} (k : Judging s p) (inside : p < length s) where
+  turn : (f : Field) → fieldAt s p ≡ f → onArg s (λ next. argsFrom (k .most - 1) s next) f ≡ goodStretch s
+  turn f e =
+      sym
+      (unroll (k .most) s p (omega (arith, k .enough)) inside
+      ∙ ap (onArg s (λ next. argsFrom (k .most - 1) s next)) e)
+      ∙ k .whole
+
+  pub no-field : fieldAt s p ≡ Field.Bad → false ≡ goodStretch s
+  no-field e = turn Field.Bad e
+
+  module _ {number wire v start len next : ℕ} (e : fieldAt s p ≡ Field.Good number wire v start len next) where
+    pub advances : p < next
+    advances = go (field-past s p)
+      where
+        go : PastField p (length s) (fieldAt s p) → p < next
+        go = rw e (λ h. h .2)
+
+    pub other-number : (number ≡ 2 → ⊥) → false ≡ goodStretch s
+    other-number h = sym (simp (ne-eqb number 2 h)) ∙ turn (Field.Good number wire v start len next) e
+
+    pub other-wire : number ≡ 2 → (wire ≡ 2 → ⊥) → false ≡ goodStretch s
+    other-wire h g = sym (simp (eq-eqb number 2 h, ne-eqb wire 2 g)) ∙ turn (Field.Good number wire v start len next) e
+
+    pub bad-argument : number ≡ 2 → wire ≡ 2 → anyTypeOf (argumentIn s start len) ≡ 0 → false ≡ goodStretch s
+    bad-argument h g b =
+        without (argsFrom (k .most - 1) s next) false (ap not (eq-eqb (anyTypeOf (argumentIn s start len)) 0 b))
+        ∙ yes (cond (isGood (argumentIn s start len)) (argsFrom (k .most - 1) s next) false) false (eq-eqb wire 2 g)
+        ∙ yes (cond (eqb wire 2) (cond (isGood (argumentIn s start len)) (argsFrom (k .most - 1) s next) false) false) false (eq-eqb number 2 h)
+        ∙ turn (Field.Good number wire v start len next) e
+
+    pub goes-on : number ≡ 2 → wire ≡ 2 → (anyTypeOf (argumentIn s start len) ≡ 0 → ⊥) → Judging s next
+    goes-on h g b =
+        record {
+          most = k .most - 1;
+          enough = omega (arith, k .enough, advances);
+          whole =
+              yes (argsFrom (k .most - 1) s next) false (ap not (ne-eqb (anyTypeOf (argumentIn s start len)) 0 b))
+              ∙ yes (cond (isGood (argumentIn s start len)) (argsFrom (k .most - 1) s next) false) false (eq-eqb wire 2 g)
+              ∙ yes (cond (eqb wire 2) (cond (isGood (argumentIn s start len)) (argsFrom (k .most - 1) s next) false) false) false (eq-eqb number 2 h)
+              ∙ turn (Field.Good number wire v start len next) e;
+        }
+
+-- a Prepare
+module _ (t : ℕ) (body : List ℕ) where
+  pub type-three : t ≡ 3 → false ≡ goodPrepare t body
+  type-three h = simp (eq-eqb t 3 h)
+
+  pub type-high : (t ≡ 3 → ⊥) → 6 ≤ t → false ≡ goodPrepare t body
+  type-high h g = simp (ne-eqb t 3 h, le-ltb t 6 g)
+
+  pub type-listed : (t ≡ 3 → ⊥) → t < 6 → goodBody t body ≡ goodPrepare t body
+  type-listed h g = yes (goodBody t body) false (ap (λ (b : Bool). cond b false (ltb t 6)) (ne-eqb t 3 h) ∙ lt-ltb t 6 g)
+
+-- a type that is none of the eight
+pub kind-none : (kind choice : ℕ) (body args : List ℕ) → (kind ≡ 6 → ⊥) → (kind ≡ 7 → ⊥) → (kind ≡ 40 → ⊥) → (kind ≡ 41 → ⊥) →
+    (kind ≡ 42 → ⊥) → (kind ≡ 43 → ⊥) → (kind ≡ 44 → ⊥) → (kind ≡ 45 → ⊥) → false ≡ acceptedAs kind choice body args
+unfolding acceptedAs
+kind-none kind choice body args a b c d e f g h =
+    without true _ (ne-eqb kind 45 h)
+    ∙ without true _ (ne-eqb kind 44 g)
+    ∙ without (goodStretch args) _ (ne-eqb kind 43 f)
+    ∙ without true _ (ne-eqb kind 42 e)
+    ∙ without (goodStretch args) _ (ne-eqb kind 41 d)
+    ∙ without (goodPrepare choice body) _ (ne-eqb kind 40 c)
+    ∙ without true _ (ne-eqb kind 7 b)
+    ∙ without true _ (ne-eqb kind 6 a)

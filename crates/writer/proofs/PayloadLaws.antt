@@ -1,0 +1,61 @@
+-- Payloads by the message type, and fields with bytes put in two parts. Assumes nothing.
+use Prim.Native.Nat.{ℕ, _+_}
+use mathlib.Core.Path.{_≡_, refl, sym, ap, _∙_}
+use mathlib.Core.List.{List, [], _++_}
+use native.Mathlib.Nat.{add-zero}
+use lib.ListN.{length}
+use borrow.Author.Tests.{ne-eqb}
+use Rattle.reply.specs.Puts.{Puts}
+use Rattle.reply.specs.Frame.{numberField, bytesField}
+use Rattle.reply.proofs.PutsLaws.{puts-then, puts-as}
+use Rattle.args.proofs.PartLaws.{no as without}
+use Rattle.writer.specs.declared.Draft.{Draft}
+use Rattle.writer.specs.Payload.{prefixOf, executePayload, preparePayload, openPayload, fetchPayload, payloadAs}
+use Rattle.writer.proofs.SizeLaws.{bytes-prefixed}
+
+module _ (d : Draft) (body args : List ℕ) {kind : ℕ} where
+  pub as-prepare : kind ≡ 40 → payloadAs kind d body args ≡ preparePayload d body
+  unfolding payloadAs
+  as-prepare e = ap (λ (k : ℕ). payloadAs k d body args) e
+
+  pub as-execute : kind ≡ 41 → payloadAs kind d body args ≡ executePayload d args
+  unfolding payloadAs
+  as-execute e = ap (λ (k : ℕ). payloadAs k d body args) e
+
+  pub as-deallocate : kind ≡ 42 → payloadAs kind d body args ≡ numberField 1 (d .stmt)
+  unfolding payloadAs
+  as-deallocate e = ap (λ (k : ℕ). payloadAs k d body args) e
+
+  pub as-open : kind ≡ 43 → payloadAs kind d body args ≡ openPayload d args
+  unfolding payloadAs
+  as-open e = ap (λ (k : ℕ). payloadAs k d body args) e
+
+  pub as-close : kind ≡ 44 → payloadAs kind d body args ≡ numberField 1 (d .cursor)
+  unfolding payloadAs
+  as-close e = ap (λ (k : ℕ). payloadAs k d body args) e
+
+  pub as-fetch : kind ≡ 45 → payloadAs kind d body args ≡ fetchPayload d
+  unfolding payloadAs
+  as-fetch e = ap (λ (k : ℕ). payloadAs k d body args) e
+
+  pub as-none : (kind ≡ 40 → ⊥) → (kind ≡ 41 → ⊥) → (kind ≡ 42 → ⊥) → (kind ≡ 43 → ⊥) → (kind ≡ 44 → ⊥) → (kind ≡ 45 → ⊥) →
+      payloadAs kind d body args ≡ []
+  unfolding payloadAs
+  as-none a b c e f g =
+      sym
+      (without (fetchPayload d) [] (ne-eqb kind 45 g)
+      ∙ without (numberField 1 (d .cursor)) _ (ne-eqb kind 44 f)
+      ∙ without (openPayload d args) _ (ne-eqb kind 43 e)
+      ∙ without (numberField 1 (d .stmt)) _ (ne-eqb kind 42 c)
+      ∙ without (executePayload d args) _ (ne-eqb kind 41 b)
+      ∙ without (preparePayload d body) _ (ne-eqb kind 40 a))
+
+-- a prefix, and behind it the bytes that it counts
+pub puts-counted : (num : ℕ) {b b₁ b₂ : List ℕ} {at n p q : ℕ} (bs : List ℕ) → n ≡ length bs → Puts b at (prefixOf num n) p b₁ → Puts b₁ p bs q b₂ →
+    Puts b at (bytesField num bs) q b₂
+puts-counted num bs e f g =
+    puts-as (ap (λ (k : ℕ). prefixOf num k ++ bs) e ∙ bytes-prefixed num bs) (puts-then f g)
+
+-- no bytes at a place
+pub puts-empty : (b : List ℕ) (at : ℕ) → Puts b at [] at b
+puts-empty b at = record { behind = sym (add-zero at); stored = refl }

@@ -1,0 +1,103 @@
+-- How long fields and payloads are, by their parts. Assumes nothing.
+use Prim.Native.Nat.{ℕ, _+_, _*_, _≤_}
+use native.Mathlib.Omega.{arith}
+use mathlib.Core.Path.{_≡_, refl, ap}
+use mathlib.Core.Bool.{Bool, true, false, cond}
+use mathlib.Core.List.{List, _++_}
+use lib.ListN.{length, length-append}
+use Rattle.varint.specs.Shortest.{varintBytes}
+use Rattle.varint.proofs.VarintLaws.{varint-length}
+use Rattle.reply.specs.Frame.{numberField, bytesField}
+use Rattle.reply.proofs.FrameLaws.{number-parts, bytes-parts}
+use Rattle.message.specs.Prepare.{chosen}
+use Rattle.writer.specs.declared.Draft.{Draft}
+use Rattle.writer.specs.Payload.{optionalField, prefixOf, executePayload, prepareStmtPayload, preparePayload, openStmtPayload, openPayload, fetchPayload}
+
+pub number-short : (num v : ℕ) → length (numberField num v) ≤ 20
+number-short num v = omega (arith, number-parts num v, varint-length (num * 8), varint-length v)
+
+pub optional-there : {b : Bool} (num v : ℕ) → b ≡ true → optionalField b num v ≡ numberField num v
+unfolding optionalField
+optional-there num v e = ap (λ (t : Bool). optionalField t num v) e
+
+pub prefix-parts : (num n : ℕ) → length (prefixOf num n) ≡ length (varintBytes (num * 8 + 2)) + length (varintBytes n)
+prefix-parts num n = length-append (varintBytes (num * 8 + 2)) (varintBytes n)
+
+pub prefix-short : (num n : ℕ) → length (prefixOf num n) ≤ 20
+prefix-short num n = omega (arith, prefix-parts num n, varint-length (num * 8 + 2), varint-length n)
+
+-- a field with bytes is its prefix and the bytes
+pub bytes-prefixed : (num : ℕ) (bs : List ℕ) → prefixOf num (length bs) ++ bs ≡ bytesField num bs
+unfolding bytesField
+bytes-prefixed num bs = refl
+
+pub bytes-sum : (num : ℕ) (bs : List ℕ) → length (bytesField num bs) ≡ length (prefixOf num (length bs)) + length bs
+bytes-sum num bs = omega (arith, bytes-parts num bs, prefix-parts num (length bs))
+
+pub optional-short : (b : Bool) (num v : ℕ) → length (optionalField b num v) ≤ 20
+unfolding optionalField
+optional-short true num v = number-short num v
+optional-short false num v = omega arith
+
+module _ (d : Draft) (bs : List ℕ) where
+  pub execute-parts :
+      length (executePayload d bs)
+      ≡ length (numberField 1 (d .stmt)) + length bs + length (optionalField (d .hascompact) 3 (cond (d .compact) 1 0))
+  unfolding executePayload
+  execute-parts = simp length-append
+
+  pub prepare-stmt-parts :
+      length (prepareStmtPayload d bs)
+      ≡ length (numberField 1 (d .choice)) + length (prefixOf (chosen (d .choice)) (length bs)) + length bs
+  unfolding prepareStmtPayload
+  prepare-stmt-parts =
+      omega (arith, length-append (numberField 1 (d .choice)) (bytesField (chosen (d .choice)) bs), bytes-sum (chosen (d .choice)) bs)
+
+  pub prepare-parts :
+      length (preparePayload d bs)
+      ≡ length (numberField 1 (d .stmt)) + length (prefixOf 2 (length (prepareStmtPayload d bs))) + length (prepareStmtPayload d bs)
+  unfolding preparePayload
+  prepare-parts =
+      omega (
+        arith,
+        length-append (numberField 1 (d .stmt)) (bytesField 2 (prepareStmtPayload d bs)),
+        bytes-sum 2 (prepareStmtPayload d bs),
+      )
+
+  pub open-stmt-parts :
+      length (openStmtPayload d bs)
+      ≡ length (numberField 1 0) + length (prefixOf 2 (length (executePayload d bs))) + length (executePayload d bs)
+  unfolding openStmtPayload
+  open-stmt-parts =
+      omega (arith, length-append (numberField 1 0) (bytesField 2 (executePayload d bs)), bytes-sum 2 (executePayload d bs))
+
+  pub open-parts :
+      length (openPayload d bs)
+      ≡ length (numberField 1 (d .cursor)) + length (prefixOf 4 (length (openStmtPayload d bs))) + length (openStmtPayload d bs)
+      + length (optionalField (d .hasrows) 5 (d .rows))
+  unfolding openPayload
+  open-parts =
+      omega (
+        arith,
+        length-append (numberField 1 (d .cursor) ++ bytesField 4 (openStmtPayload d bs)) (optionalField (d .hasrows) 5 (d .rows)),
+        length-append (numberField 1 (d .cursor)) (bytesField 4 (openStmtPayload d bs)),
+        bytes-sum 4 (openStmtPayload d bs),
+      )
+
+  -- what stands around the arguments or the body is short
+  pub execute-short : length (executePayload d bs) ≤ length bs + 40
+  execute-short =
+      omega (arith, execute-parts, number-short 1 (d .stmt), optional-short (d .hascompact) 3 (cond (d .compact) 1 0))
+
+  pub open-stmt-short : length (openStmtPayload d bs) ≤ length bs + 80
+  open-stmt-short =
+      omega (arith, open-stmt-parts, execute-short, number-short 1 0, prefix-short 2 (length (executePayload d bs)))
+
+  pub prepare-stmt-short : length (prepareStmtPayload d bs) ≤ length bs + 40
+  prepare-stmt-short =
+      omega (arith, prepare-stmt-parts, number-short 1 (d .choice), prefix-short (chosen (d .choice)) (length bs))
+
+pub fetch-parts : (d : Draft) →
+    length (fetchPayload d) ≡ length (numberField 1 (d .cursor)) + length (optionalField (d .hasrows) 2 (d .rows))
+unfolding fetchPayload
+fetch-parts d = length-append (numberField 1 (d .cursor)) (optionalField (d .hasrows) 2 (d .rows))

@@ -1,0 +1,112 @@
+-- Writing a draft, by the ways out. Assumes nothing.
+use Prim.Native.Nat.{ℕ, _+_, _%_, _≤_, _<_}
+use native.Mathlib.Omega.{arith}
+use native.Mathlib.Nat.{mod-eq-of-lt}
+use mathlib.Core.Bool.{Bool, true, false, cond}
+use mathlib.Core.Path.{_≡_, refl, sym, ap, _∙_}
+use mathlib.Core.List.{List, [], _∷_, _++_}
+use lib.ListN.{length}
+use lib.Dec.{leb, eqb}
+use borrow.Author.Tests.{le-leb, lt-leb, eqb-true}
+use Rattle.varint.proofs.PastLaws.{both}
+use Rattle.varint.proofs.PutLaws.{put-fits}
+use Rattle.reply.specs.Puts.{Puts}
+use Rattle.reply.specs.Frame.{fourBytes, frame}
+use Rattle.reply.proofs.PutsLaws.{puts-then, puts-as}
+use Rattle.layout.specs.Table.{prepare, execute, deallocate, open', close, fetch}
+use Rattle.message.specs.Head.{maxLength}
+use Rattle.message.specs.Frame.{reset, sessionClose}
+use Rattle.args.proofs.PartLaws.{yes, no as without}
+use Rattle.writer.specs.declared.Draft.{Draft}
+use Rattle.writer.specs.declared.Sent.{Sent}
+use Rattle.writer.specs.Judge.{accepted, acceptedAs}
+use Rattle.writer.specs.Payload.{payloadOf}
+use Rattle.writer.specs.Write.{frameBytes, draftReason, sent, sentOf, leftOf}
+
+-- a type that is accepted is one of the eight, and fits a byte
+pub accepted-kind : (kind choice : ℕ) (body args : List ℕ) → acceptedAs kind choice body args ≡ true → kind < 256
+unfolding acceptedAs
+accepted-kind kind choice body args =
+    both P (eqb kind reset) _ _ (λ e _. omega (arith, eqb-true kind reset e))
+    (λ _.
+    both P (eqb kind sessionClose) _ _ (λ e _. omega (arith, eqb-true kind sessionClose e))
+    (λ _.
+    both P (eqb kind prepare) _ _ (λ e _. omega (arith, eqb-true kind prepare e))
+    (λ _.
+    both P (eqb kind execute) _ _ (λ e _. omega (arith, eqb-true kind execute e))
+    (λ _.
+    both P (eqb kind deallocate) _ _ (λ e _. omega (arith, eqb-true kind deallocate e))
+    (λ _.
+    both P (eqb kind open') _ _ (λ e _. omega (arith, eqb-true kind open' e))
+    (λ _.
+    both P (eqb kind close) _ _ (λ e _. omega (arith, eqb-true kind close e))
+    (λ _.
+    both P (eqb kind fetch) _ _ (λ e _. omega (arith, eqb-true kind fetch e))
+    (λ _ g. absurd (let z : _≡_ {A = ℕ} 0 1 = cc in omega arith)))))))))
+  where
+    P : Bool → Type 0
+    P b = b ≡ true → kind < 256
+
+pub frame-length : (kind : ℕ) (payload : List ℕ) → length (frame kind payload) ≡ length payload + 5
+frame-length kind payload = omega arith
+
+module _ (d : Draft) (body args : List ℕ) where
+  pub reason-six : accepted d body args ≡ false → draftReason d body args ≡ 6
+  unfolding draftReason
+  reason-six e = sym (without (cond (leb (length (payloadOf d body args) + 1) maxLength) 0 2) 6 e)
+
+  pub reason-two : accepted d body args ≡ true → maxLength ≤ length (payloadOf d body args) → draftReason d body args ≡ 2
+  unfolding draftReason
+  reason-two e h =
+      sym
+      (without 0 2 (lt-leb (length (payloadOf d body args) + 1) maxLength (omega arith))
+      ∙ yes (cond (leb (length (payloadOf d body args) + 1) maxLength) 0 2) 6 e)
+
+  pub reason-none : accepted d body args ≡ true → length (payloadOf d body args) < maxLength → draftReason d body args ≡ 0
+  unfolding draftReason
+  reason-none e h =
+      sym
+      (yes 0 2 (le-leb (length (payloadOf d body args) + 1) maxLength (omega arith))
+      ∙ yes (cond (leb (length (payloadOf d body args) + 1) maxLength) 0 2) 6 e)
+
+  module _ (b : List ℕ) where
+    -- the two equations of the contract
+    abbrev pub Wrote : Sent → List ℕ → Type 0
+    Wrote r b₁ = (r ≡ sentOf d body args (length b)) × (b₁ ≡ leftOf d body args b)
+
+    pub wrote-six : accepted d body args ≡ false → Wrote (sent 6 0) b
+    unfolding sentOf leftOf
+    wrote-six e = rw (reason-six e) (refl, refl)
+
+    pub wrote-two : accepted d body args ≡ true → maxLength ≤ length (payloadOf d body args) → Wrote (sent 2 0) b
+    unfolding sentOf leftOf
+    wrote-two e h = rw (reason-two e h) (refl, refl)
+
+    module _ (e : accepted d body args ≡ true) (h : length (payloadOf d body args) < maxLength) where
+      pub wrote-three : length b < length (payloadOf d body args) + 5 → Wrote (sent 3 0) b
+      unfolding sentOf leftOf
+      wrote-three g =
+          rw (reason-none e h, lt-leb (length (frameBytes d body args)) (length b) (omega (arith, frame-length (d .kind) (payloadOf d body args))))
+          (refl, refl)
+
+      -- the head, and behind it the payload
+      pub wrote-all : {b₁ b₂ : List ℕ} {p q : ℕ} → length (payloadOf d body args) + 5 ≤ length b →
+          Puts b 0 (fourBytes (length (payloadOf d body args) + 1) ++ (d .kind % 256 ∷ [])) p b₁ → Puts b₁ p (payloadOf d body args) q b₂ →
+          Wrote (sent 0 q) b₂
+      unfolding sentOf leftOf
+      wrote-all {b₁} {b₂} {p} {q} g f t =
+          rw (reason-none e h, le-leb (length (frameBytes d body args)) (length b) (omega (arith, room)))
+          (ap (λ (n : ℕ). sent 0 n) (whole .behind ∙ zero), whole .stored ∙ put-fits b 0 (frameBytes d body args) room .1)
+        where
+          whole : Puts b 0 (frameBytes d body args) q b₂
+          whole =
+              puts-as
+              (ap (λ (k : ℕ). fourBytes (length (payloadOf d body args) + 1) ++ (k ∷ payloadOf d body args))
+              (mod-eq-of-lt (accepted-kind (d .kind) (d .choice) body args e)))
+              (puts-then f t)
+
+          room : 0 + length (frameBytes d body args) ≤ length b
+          room = omega (arith, frame-length (d .kind) (payloadOf d body args))
+
+          zero : 0 + length (frameBytes d body args) ≡ length (frameBytes d body args)
+          zero = omega arith

@@ -1,0 +1,29 @@
+-- `writer::fields::put_number` meets its contract. Assumes nothing.
+use Rattle.reply.specs.Frame.{numberField}
+use Rattle.reply.proofs.PutsLaws.{puts-then}
+use Rattle.reply.proofs.FrameLaws.{number-parts}
+use native.Mathlib.Omega.{arith}
+use borrow.Author.Needs.{needs}
+use Rattle.writer.proofs.fields.put_number.Statement.{statement}
+use Rattle.writer.proofs.fields.put_number.Tie as tie
+
+put-varint-requires : tie.Need-put-varint-requires
+put-varint-requires c κs =
+    let a = c .before .before .args in
+    omega (arith, number-parts (a .num) (a .v))
+
+put-varint-requires-2 : tie.Need-put-varint-requires-2
+put-varint-requires-2 c κs =
+    let a = c .before .before .before .before .before .before .args in
+    omega (arith, number-parts (a .num) (a .v))
+
+returns : tie.Need-returns
+unfolding numberField
+returns c =
+    let g = c .before .before in
+    puts-then (g .before .before .before .before .put-varint .ensures) (g .put-varint2 .ensures)
+
+pub put-number-spec : {M : Type 1} → statement M
+put-number-spec =
+    tie.close
+    (tie.spec (λ c. search needs) put-varint-requires put-varint-requires-2 (λ c. search needs) returns)

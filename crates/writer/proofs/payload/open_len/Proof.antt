@@ -1,0 +1,44 @@
+-- `writer::payload::open_len` meets its contract. Assumes nothing.
+use Rattle.writer.specs.Payload.{prefixOf}
+use Rattle.writer.proofs.SizeLaws.{open-parts, open-stmt-short, number-short, prefix-short, optional-short}
+use Prim.Native.Nat.{ℕ}
+use lib.ListN.{length}
+use mathlib.Core.Path.{ap}
+use native.Mathlib.Omega.{arith}
+use borrow.Author.Needs.{needs}
+use Rattle.writer.proofs.payload.open_len.Statement.{statement}
+use Rattle.writer.proofs.payload.open_len.Tie as tie
+
+add-result : tie.Need-add-result
+add-result c =
+    let a = c .before .before .before .before .before .args in
+    omega (arith, number-short 1 (a .draft .cursor), prefix-short 4 (c .before .before .before .open-stmt-len .result))
+
+add-result-2 : tie.Need-add-result-2
+add-result-2 c =
+    let a = c .before .before .before .before .before .args in
+    omega (arith, number-short 1 (a .draft .cursor), prefix-short 4 (c .before .before .before .open-stmt-len .result), open-stmt-short (a .draft) (a .args .now))
+
+add-result-3 : tie.Need-add-result-3
+add-result-3 c =
+    let a = c .before .before .before .before .before .before .args in
+    omega (arith, number-short 1 (a .draft .cursor), prefix-short 4 (c .before .before .before .before .open-stmt-len .result), open-stmt-short (a .draft) (a .args .now), optional-short (a .draft .hasrows) 5 (a .draft .rows))
+
+returns : tie.Need-returns
+returns c =
+    let a = c .before .before .before .before .before .before .args in
+    omega (arith, open-parts (a .draft) (a .args .now), ap (λ (n : ℕ). length (prefixOf 4 n)) (c .before .before .before .before .open-stmt-len .ensures))
+
+pub open-len-spec : {M : Type 1} → statement M
+open-len-spec =
+    tie.close
+    (tie.spec
+    (λ c κs. search needs)
+    (λ c. search needs)
+    (λ c κs. search needs)
+    (λ c κs. search needs)
+    add-result
+    add-result-2
+    (λ c κs. search needs)
+    add-result-3
+    returns)

@@ -1,0 +1,36 @@
+-- `writer::payload::prepare_stmt_len` meets its contract. Assumes nothing.
+use Rattle.writer.specs.Payload.{prefixOf}
+use Rattle.writer.proofs.SizeLaws.{prepare-stmt-parts, number-short, prefix-short}
+use Prim.Native.Nat.{ℕ}
+use lib.ListN.{length}
+use mathlib.Core.Path.{ap}
+use native.Mathlib.Omega.{arith}
+use borrow.Author.Needs.{needs}
+use Rattle.writer.proofs.payload.prepare_stmt_len.Statement.{statement}
+use Rattle.writer.proofs.payload.prepare_stmt_len.Tie as tie
+
+add-result : tie.Need-add-result
+add-result c =
+    let a = c .before .before .before .before .args in
+    omega (arith, number-short 1 (a .draft .choice), prefix-short (c .before .before .chosen-field .result) (length (a .body .now)))
+
+add-result-2 : tie.Need-add-result-2
+add-result-2 c =
+    let a = c .before .before .before .before .args in
+    omega (arith, number-short 1 (a .draft .choice), prefix-short (c .before .before .chosen-field .result) (length (a .body .now)))
+
+returns : tie.Need-returns
+returns c =
+    let a = c .before .before .before .before .args in
+    omega (arith, prepare-stmt-parts (a .draft) (a .body .now), ap (λ (k : ℕ). length (prefixOf k (length (a .body .now)))) (c .before .before .chosen-field .ensures .0))
+
+pub prepare-stmt-len-spec : {M : Type 1} → statement M
+prepare-stmt-len-spec =
+    tie.close
+    (tie.spec
+    (λ c κs. search needs)
+    (λ c κs. search needs)
+    (λ c κs. search needs)
+    add-result
+    add-result-2
+    returns)

@@ -1,0 +1,63 @@
+-- What a draft may hold (document 01, "Writer"): arguments come as one stretch of good args fields, tags included, and nothing
+-- else; a Prepare's body is handed in encoded, with its type.
+use Prim.Native.Nat.{ℕ, zero, suc}
+use mathlib.Core.Bool.{Bool, true, false, not, cond}
+use mathlib.Core.List.{List}
+use lib.ListN.{length}
+use lib.Dec.{ltb, eqb}
+use Rattle.wire.specs.Field.{fieldAt}
+use Rattle.wire.specs.declared.field.Field.{Field}
+use Rattle.scalar.specs.declared.argument.Argument.{Argument}
+use Rattle.layout.specs.Table.{prepare, execute, deallocate, open', close, fetch}
+use Rattle.args.specs.Value.{argumentIn}
+use Rattle.args.specs.Arguments.{anyTypeOf}
+use Rattle.message.specs.Prepare.{bodyIn}
+use Rattle.message.specs.Frame.{reset, sessionClose}
+use Rattle.writer.specs.declared.Draft.{Draft}
+
+-- an argument that the reader takes; objects and arrays are well encoded too
+abbrev pub isGood : Argument → Bool
+isGood a = not (eqb (anyTypeOf a) 0)
+
+-- one field of a stretch: an args field (number 2, wire type 2) that holds a good argument, and `more` behind it
+abbrev pub onArg : List ℕ → (ℕ → Bool) → Field → Bool
+onArg s more (Field.Good number wire v start len next) =
+    cond (eqb number 2) (cond (eqb wire 2) (cond (isGood (argumentIn s start len)) (more next) false) false) false
+onArg s more Field.Bad = false
+
+-- at most `most` fields from the place `at` on, up to the end of s
+unfoldable pub argsFrom : ℕ → List ℕ → ℕ → Bool
+argsFrom zero s at = true
+argsFrom (suc most) s at =
+    let more = onArg s (λ next. argsFrom most s next) (fieldAt s at) in
+    cond (ltb at (length s)) more true
+
+-- a field has a byte at least, so there are no more fields than bytes
+abbrev pub goodStretch : List ℕ → Bool
+goodStretch s = argsFrom (length s) s 0
+
+-- Prepare types 0, 1, 2, 4, 5; there is no 3
+abbrev pub isType : ℕ → Bool
+isType t = cond (eqb t 3) false (ltb t 6)
+
+-- a body by the reader's rules: of type 5 a good StmtExecute, of any other a good field list
+abbrev pub goodBody : ℕ → List ℕ → Bool
+goodBody t body = bodyIn body t 0 (length body) .good
+
+abbrev pub goodPrepare : ℕ → List ℕ → Bool
+goodPrepare t body = cond (isType t) (goodBody t body) false
+
+-- a draft of this kind can be written, its length apart. `body` and the type count for a Prepare alone, `args` for Execute and
+-- Open alone; a kind that is none of the eight cannot be written
+unfoldable pub acceptedAs : ℕ → ℕ → List ℕ → List ℕ → Bool
+acceptedAs kind choice body args =
+    cond (eqb kind reset) true
+    (cond (eqb kind sessionClose) true
+    (cond (eqb kind prepare) (goodPrepare choice body)
+    (cond (eqb kind execute) (goodStretch args)
+    (cond (eqb kind deallocate) true
+    (cond (eqb kind open') (goodStretch args)
+    (cond (eqb kind close) true (cond (eqb kind fetch) true false)))))))
+
+abbrev pub accepted : Draft → List ℕ → List ℕ → Bool
+accepted d body args = acceptedAs (d .kind) (d .choice) body args

@@ -1,0 +1,5 @@
+pub mod Judge
+pub mod Payload
+pub mod Write
+pub mod Moved
+pub mod RoundTrip

@@ -1,0 +1,55 @@
+-- The payload of each message as it is written (document 01, "Writer" and "Layouts"): known fields in number order, shortest
+-- varints, absent optionals left out.
+use Prim.Native.Nat.{ℕ, _+_, _*_}
+use mathlib.Core.Bool.{Bool, cond}
+use mathlib.Core.List.{List, [], _++_}
+use lib.Dec.{eqb}
+use Rattle.varint.specs.Shortest.{varintBytes}
+use Rattle.reply.specs.Frame.{numberField, bytesField}
+use Rattle.layout.specs.Table.{prepare, execute, deallocate, open', close, fetch}
+use Rattle.message.specs.Prepare.{chosen}
+use Rattle.writer.specs.declared.Draft.{Draft}
+
+-- a field with a number, where it is present
+unfoldable pub optionalField : Bool → ℕ → ℕ → List ℕ
+optionalField present num v = cond present (numberField num v) []
+
+-- what stands before the n bytes of a field: its tag, of wire type 2, and their count
+abbrev pub prefixOf : ℕ → ℕ → List ℕ
+prefixOf num n = varintBytes (num * 8 + 2) ++ varintBytes n
+
+-- stmt_id, args, compact_metadata
+unfoldable pub executePayload : Draft → List ℕ → List ℕ
+executePayload d args =
+    numberField 1 (d .stmt) ++ args ++ optionalField (d .hascompact) 3 (cond (d .compact) 1 0)
+
+-- stmt_id, and the statement: its type and the body that it chooses
+unfoldable pub prepareStmtPayload : Draft → List ℕ → List ℕ
+prepareStmtPayload d body = numberField 1 (d .choice) ++ bytesField (chosen (d .choice)) body
+
+unfoldable pub preparePayload : Draft → List ℕ → List ℕ
+preparePayload d body = numberField 1 (d .stmt) ++ bytesField 2 (prepareStmtPayload d body)
+
+-- cursor_id, the statement (type 0 and an Execute), fetch_rows
+unfoldable pub openStmtPayload : Draft → List ℕ → List ℕ
+openStmtPayload d args = numberField 1 0 ++ bytesField 2 (executePayload d args)
+
+unfoldable pub openPayload : Draft → List ℕ → List ℕ
+openPayload d args =
+    numberField 1 (d .cursor) ++ bytesField 4 (openStmtPayload d args) ++ optionalField (d .hasrows) 5 (d .rows)
+
+-- cursor_id, fetch_rows
+unfoldable pub fetchPayload : Draft → List ℕ
+fetchPayload d = numberField 1 (d .cursor) ++ optionalField (d .hasrows) 2 (d .rows)
+
+-- Reset and Session close have no fields
+unfoldable pub payloadAs : ℕ → Draft → List ℕ → List ℕ → List ℕ
+payloadAs kind d body args =
+    cond (eqb kind prepare) (preparePayload d body)
+    (cond (eqb kind execute) (executePayload d args)
+    (cond (eqb kind deallocate) (numberField 1 (d .stmt))
+    (cond (eqb kind open') (openPayload d args)
+    (cond (eqb kind close) (numberField 1 (d .cursor)) (cond (eqb kind fetch) (fetchPayload d) [])))))
+
+abbrev pub payloadOf : Draft → List ℕ → List ℕ → List ℕ
+payloadOf d body args = payloadAs (d .kind) d body args
