@@ -1,0 +1,235 @@
+-- A record is read alike from any part of the input that holds it. Assumes nothing.
+use Prim.Native.Nat.{ℕ, zero, suc, _+_, _%_, _≤_, _<_}
+use native.Mathlib.Omega.{arith}
+use mathlib.Core.Bool.{Bool, true, false, cond}
+use mathlib.Core.Path.{_≡_, refl, sym, ap, _∙_}
+use mathlib.Core.List.{List, _++_, append-assoc}
+use lib.ListN.{length, getD, take, drop, length-append, length-drop, List·getD-append}
+use lib.Seq.{getD-append-add, drop-append-add, drop-append-le, take-append-le}
+use lib.Dec.{eqb, ltb}
+use borrow.Author.Tests.{lt-ltb, le-ltb, ltb-true, ltb-false}
+use Rattle.varint.specs.declared.Varint.{Varint}
+use Rattle.varint.specs.Varint.{onto, groups, low64, varintAt}
+use Rattle.varint.proofs.GroupLaws.{groups-none}
+use Rattle.trace_line.specs.declared.record.Number.{Number}
+use Rattle.trace_line.specs.declared.record.Record.{Record}
+use Rattle.trace_line.specs.Record.{numberOf, numberAt, andThen, maxFrame, maxKind, whole, oneNumber, rowsAt, twoNumbers, reportAt, kindAt, frameAt, recordAt}
+use Rattle.trace_line.proofs.RecordLaws.{unended-bad}
+use Rattle.trace_line.specs.RecordRules.{shifted, ReadsAlike, FrameAlike}
+
+-- s stands in t from the place k on
+pub record Holds (k : ℕ) (s t : List ℕ) : Type 0 where
+  pub room : k + length s ≤ length t
+  pub same : (i : ℕ) → i < length s → getD t (k + i) 0 ≡ getD s i 0
+
+-- ---- what is read of s at a place, and of t at the same place counted from its start. Where s ends too soon, t is free.
+
+-- a varint; `full`: s has all the bytes that it may take
+abbrev AlikeVarint : Bool → ℕ → Varint → Varint → Type 0
+AlikeVarint full k (Varint.Number v next) y = y ≡ Varint.Number v (k + next)
+AlikeVarint true k Varint.Bad y = y ≡ Varint.Bad
+AlikeVarint false k Varint.Bad y = Unit {0}
+
+abbrev AlikeNumber : ℕ → Number → Number → Type 0
+AlikeNumber k (Number.Value v next) y = y ≡ Number.Value v (k + next)
+AlikeNumber k Number.Short y = Unit {0}
+AlikeNumber k Number.Bad y = y ≡ Number.Bad
+
+abbrev Alike : ℕ → Record → Record → Type 0
+Alike k (Record.Whole start len report next) y = y ≡ Record.Whole (k + start) len report (k + next)
+Alike k Record.Short y = Unit {0}
+Alike k Record.Bad y = y ≡ Record.Bad
+
+-- ---- varints
+
+onto-alike : (full : Bool) (k low : ℕ) (x y : Varint) → AlikeVarint full k x y → AlikeVarint full k (onto low 128 x) (onto low 128 y)
+onto-alike full k low (Varint.Number v next) y e = ap (onto low 128) e
+onto-alike true k low Varint.Bad y e = ap (onto low 128) e
+onto-alike false k low Varint.Bad y e = tt
+
+low64-alike : (full : Bool) (k : ℕ) (x y : Varint) → AlikeVarint full k x y → AlikeVarint full k (low64 x) (low64 y)
+low64-alike full k (Varint.Number v next) y e = ap low64 e
+low64-alike true k Varint.Bad y e = ap low64 e
+low64-alike false k Varint.Bad y e = tt
+
+bad-alike : (full : Bool) (k : ℕ) → AlikeVarint full k Varint.Bad Varint.Bad
+bad-alike true k = refl
+bad-alike false k = tt
+
+-- s ends here, so it is not full
+end-alike : (full : Bool) (k : ℕ) (y : Varint) → (full ≡ true → ⊥) → AlikeVarint full k Varint.Bad y
+end-alike true k y h = absurd (h refl)
+end-alike false k y h = tt
+
+module _ (k : ℕ) (s t : List ℕ) (h : Holds k s t) where
+  next-place : (at : ℕ) → k + at + 1 ≡ k + (at + 1)
+  next-place at = omega arith
+
+  -- one group
+  group-alike : (full : Bool) (n at : ℕ) → at < length s → AlikeVarint full k (groups n s (at + 1)) (groups n t (k + (at + 1))) →
+      AlikeVarint full k (groups (suc n) s at) (groups (suc n) t (k + at))
+  unfolding groups
+  group-alike full n at g rest =
+      rw (lt-ltb at (length s) g, lt-ltb (k + at) (length t) (omega (arith, h .room)), h .same at g, next-place at)
+      (both-alike (ltb (getD s at 0) 128))
+    where
+      both-alike : (b : Bool) →
+          AlikeVarint full k
+          (cond b (Varint.Number (getD s at 0) (at + 1)) (onto (getD s at 0 % 128) 128 (groups n s (at + 1))))
+          (cond b (Varint.Number (getD s at 0) (k + (at + 1))) (onto (getD s at 0 % 128) 128 (groups n t (k + (at + 1)))))
+      both-alike true = refl
+      both-alike false = onto-alike full k (getD s at 0 % 128) (groups n s (at + 1)) (groups n t (k + (at + 1))) rest
+
+  end-group : (full : Bool) (n at : ℕ) → length s ≤ at → (full ≡ true → ⊥) →
+      AlikeVarint full k (groups (suc n) s at) (groups (suc n) t (k + at))
+  unfolding groups
+  end-group full n at g f = rw (le-ltb at (length s) g) (end-alike full k (groups (suc n) t (k + at)) f)
+
+  -- a group, or the end of s
+  group-or-end : (full : Bool) (n at : ℕ) → (full ≡ true → at + suc n ≤ length s) →
+      AlikeVarint full k (groups n s (at + 1)) (groups n t (k + (at + 1))) →
+      AlikeVarint full k (groups (suc n) s at) (groups (suc n) t (k + at))
+  group-or-end full n at f rest = go (ltb at (length s)) refl
+    where
+      go : (b : Bool) → ltb at (length s) ≡ b → AlikeVarint full k (groups (suc n) s at) (groups (suc n) t (k + at))
+      go true e = group-alike full n at (ltb-true at (length s) e) rest
+      go false e = end-group full n at (ltb-false at (length s) e) (λ y. omega (arith, f y, ltb-false at (length s) e))
+
+  groups-alike : (full : Bool) (n at : ℕ) → (full ≡ true → at + n ≤ length s) →
+      AlikeVarint full k (groups n s at) (groups n t (k + at))
+  groups-alike full zero at f = rw (groups-none s at, groups-none t (k + at)) (bad-alike full k)
+  groups-alike full (suc n) at f = group-or-end full n at f (groups-alike full n (at + 1) (λ y. omega (arith, f y)))
+
+  -- ---- numbers
+
+  -- s has fewer than ten bytes here
+  part-alike : (at : ℕ) → ltb (length s) (at + 10) ≡ true → (x y : Varint) → AlikeVarint false k x y →
+      AlikeNumber k (numberOf s at x) (numberOf t (k + at) y)
+  part-alike at e (Varint.Number v next) y f = ap (numberOf t (k + at)) f
+  part-alike at e Varint.Bad y f = rw e tt
+
+  full-alike : (at : ℕ) → ltb (length s) (at + 10) ≡ false → (x y : Varint) → AlikeVarint true k x y →
+      AlikeNumber k (numberOf s at x) (numberOf t (k + at) y)
+  full-alike at e (Varint.Number v next) y f = ap (numberOf t (k + at)) f
+  full-alike at e Varint.Bad y f =
+      rw e
+      (ap (numberOf t (k + at)) f ∙ sym (unended-bad t (k + at) (omega (arith, h .room, ltb-false (length s) (at + 10) e))))
+
+  number-alike : (at : ℕ) → AlikeNumber k (numberAt s at) (numberAt t (k + at))
+  unfolding numberAt
+  number-alike at = go (ltb (length s) (at + 10)) refl
+    where
+      go : (b : Bool) → ltb (length s) (at + 10) ≡ b → AlikeNumber k (numberOf s at (varintAt s at)) (numberOf t (k + at) (varintAt t (k + at)))
+      go true e =
+          part-alike at e (varintAt s at) (varintAt t (k + at))
+          (low64-alike false k (groups 10 s at) (groups 10 t (k + at))
+          (groups-alike false 10 at (λ y. absurd (let z : _≡_ {A = ℕ} 0 1 = cc in omega arith))))
+      go false e =
+          full-alike at e (varintAt s at) (varintAt t (k + at))
+          (low64-alike true k (groups 10 s at) (groups 10 t (k + at))
+          (groups-alike true 10 at (λ y. ltb-false (length s) (at + 10) e)))
+
+  then-alike : (x y : Number) (more more′ : ℕ → ℕ → Record) → AlikeNumber k x y →
+      ((v next : ℕ) → Alike k (more v next) (more′ v (k + next))) → Alike k (andThen x more) (andThen y more′)
+  then-alike (Number.Value v next) y more more′ e f = rw e (f v next)
+  then-alike Number.Short y more more′ e f = tt
+  then-alike Number.Bad y more more′ e f = ap (λ (z : Number). andThen z more′) e
+
+  either-alike : (b : Bool) (x y x′ y′ : Record) → Alike k x x′ → Alike k y y′ → Alike k (cond b x y) (cond b x′ y′)
+  either-alike true x y x′ y′ e f = e
+  either-alike false x y x′ y′ e f = f
+
+  -- ---- records
+
+  module _ (start len : ℕ) where
+    one-alike : (kind at : ℕ) → Alike k (oneNumber s start len kind at) (oneNumber t (k + start) len kind (k + at))
+    unfolding oneNumber
+    one-alike kind at =
+        then-alike (numberAt s at) (numberAt t (k + at)) (λ a next. whole start len kind a 0 next)
+        (λ a next. whole (k + start) len kind a 0 next) (number-alike at) (λ a next. refl)
+
+    rows-alike : (kind columns at : ℕ) → Alike k (rowsAt s start len kind columns at) (rowsAt t (k + start) len kind columns (k + at))
+    unfolding rowsAt
+    rows-alike kind columns at =
+        then-alike (numberAt s at) (numberAt t (k + at)) (λ rows next. whole start len kind columns rows next)
+        (λ rows next. whole (k + start) len kind columns rows next) (number-alike at) (λ rows next. refl)
+
+    two-alike : (kind at : ℕ) → Alike k (twoNumbers s start len kind at) (twoNumbers t (k + start) len kind (k + at))
+    unfolding twoNumbers
+    two-alike kind at =
+        then-alike (numberAt s at) (numberAt t (k + at)) (λ columns p. rowsAt s start len kind columns p)
+        (λ columns p. rowsAt t (k + start) len kind columns p) (number-alike at) (λ columns p. rows-alike kind columns p)
+
+    report-alike : (kind at : ℕ) → Alike k (reportAt s start len kind at) (reportAt t (k + start) len kind (k + at))
+    unfolding reportAt
+    report-alike kind at =
+        either-alike (ltb maxKind kind) Record.Bad (known s start at) Record.Bad (known t (k + start) (k + at)) refl
+        (either-alike (eqb kind 1) (oneNumber s start len kind at) (unprepared s start at)
+        (oneNumber t (k + start) len kind (k + at)) (unprepared t (k + start) (k + at)) (one-alike kind at)
+        (either-alike (eqb kind 2) (twoNumbers s start len kind at) (unresulting s start at)
+        (twoNumbers t (k + start) len kind (k + at)) (unresulting t (k + start) (k + at)) (two-alike kind at)
+        (either-alike (eqb kind 4) (oneNumber s start len kind at) (whole start len kind 0 0 at)
+        (oneNumber t (k + start) len kind (k + at)) (whole (k + start) len kind 0 0 (k + at)) (one-alike kind at) refl)))
+      where
+        unresulting : List ℕ → ℕ → ℕ → Record
+        unresulting l from p = cond (eqb kind 4) (oneNumber l from len kind p) (whole from len kind 0 0 p)
+
+        unprepared : List ℕ → ℕ → ℕ → Record
+        unprepared l from p = cond (eqb kind 2) (twoNumbers l from len kind p) (unresulting l from p)
+
+        known : List ℕ → ℕ → ℕ → Record
+        known l from p = cond (eqb kind 1) (oneNumber l from len kind p) (unprepared l from p)
+
+    behind-frame : k + start + len ≡ k + (start + len)
+    behind-frame = omega arith
+
+    kind-alike : Alike k (kindAt s start len) (kindAt t (k + start) len)
+    unfolding kindAt
+    kind-alike =
+        rw behind-frame
+        (then-alike (numberAt s (start + len)) (numberAt t (k + (start + len))) (λ kind at. reportAt s start len kind at)
+        (λ kind at. reportAt t (k + start) len kind at) (number-alike (start + len)) (λ kind at. report-alike kind at))
+
+    frame-alike : Alike k (frameAt s len start) (frameAt t len (k + start))
+    unfolding frameAt
+    frame-alike =
+        either-alike (ltb maxFrame len) Record.Bad (there s start) Record.Bad (there t (k + start)) refl
+        (go (ltb (length s) (start + len)) refl)
+      where
+        there : List ℕ → ℕ → Record
+        there l from = cond (ltb (length l) (from + len)) Record.Short (kindAt l from len)
+
+        go : (b : Bool) → ltb (length s) (start + len) ≡ b →
+            Alike k (cond (ltb (length s) (start + len)) Record.Short (kindAt s start len)) (there t (k + start))
+        go true e = rw e tt
+        go false e =
+            rw (e, le-ltb (length t) (k + start + len) (omega (arith, h .room, ltb-false (length s) (start + len) e))) kind-alike
+
+  record-alike : (at : ℕ) → Alike k (recordAt s at) (recordAt t (k + at))
+  unfolding recordAt
+  record-alike at =
+      then-alike (numberAt s at) (numberAt t (k + at)) (λ len start. frameAt s len start) (λ len start. frameAt t len start)
+      (number-alike at) (λ len start. frame-alike start len)
+
+-- ---- any part of the input that holds the record
+
+held : (before s behind : List ℕ) → Holds (length before) s (before ++ s ++ behind)
+held before s behind =
+    record {
+      room = rw (length-append, length-append) (omega arith);
+      same = λ i e. rw append-assoc (getD-append-add before (s ++ behind) i 0 ∙ List·getD-append s behind 0 i e);
+    }
+
+pub reads-alike : ReadsAlike
+reads-alike before s behind at whole-there = go (recordAt s at) (record-alike (length before) s (before ++ s ++ behind) (held before s behind) at) whole-there
+  where
+    go : (x : Record) → Alike (length before) x (recordAt (before ++ s ++ behind) (length before + at)) → (x ≡ Record.Short → ⊥) →
+        recordAt (before ++ s ++ behind) (length before + at) ≡ shifted (length before) x
+    go (Record.Whole start len report next) e f = e
+    go Record.Short e f = absurd (f refl)
+    go Record.Bad e f = e
+
+pub frames-alike : FrameAlike
+frames-alike before s behind start len h =
+    ap (take len) (rw append-assoc (drop-append-add before (s ++ behind) start ∙ drop-append-le start s behind (omega arith)))
+    ∙ take-append-le len (drop start s) behind (rw length-drop (omega arith))

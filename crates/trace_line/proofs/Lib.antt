@@ -1,0 +1,6 @@
+pub mod AlikeLaws
+pub mod LineLaws
+pub mod MarkLaws
+pub mod RecordLaws
+pub mod TraceLaws
+pub mod WithinLaws

@@ -1,0 +1,83 @@
+-- Records, case by case. Assumes nothing.
+use Prim.Native.Nat.{ℕ, _+_, _≤_, _<_}
+use mathlib.Core.Bool.{cond}
+use mathlib.Core.Path.{_≡_, sym, ap, _∙_}
+use mathlib.Core.List.{List}
+use lib.ListN.{length}
+use lib.Dec.{ltb}
+use borrow.Author.Tests.{lt-ltb, le-ltb, ne-eqb}
+use Rattle.varint.specs.declared.Varint.{Varint}
+use Rattle.varint.specs.Varint.{varintAt}
+use Rattle.args.proofs.PartLaws.{yes, no as without}
+use Rattle.trace_line.specs.declared.record.Number.{Number}
+use Rattle.trace_line.specs.declared.record.Record.{Record}
+use Rattle.trace_line.specs.Record.{unended, numberOf, numberAt, andThen, maxFrame, whole, oneNumber, twoNumbers, reportAt, kindAt, frameAt}
+
+-- ---- numbers
+
+module _ (s : List ℕ) (at : ℕ) where
+  pub unended-short : length s < at + 10 → Number.Short ≡ unended s at
+  unended-short h = yes Number.Short Number.Bad (lt-ltb (length s) (at + 10) h)
+
+  pub unended-bad : at + 10 ≤ length s → Number.Bad ≡ unended s at
+  unended-bad h = without Number.Short Number.Bad (le-ltb (length s) (at + 10) h)
+
+  pub number-is : {x : Varint} → x ≡ varintAt s at → numberOf s at x ≡ numberAt s at
+  unfolding numberAt
+  number-is e = ap (numberOf s at) e
+
+-- ---- a number, and what it leads to
+
+module _ (more : ℕ → ℕ → Record) {r x : Number} where
+  pub then-value : {v next : ℕ} → r ≡ Number.Value v next → r ≡ x → more v next ≡ andThen x more
+  then-value e f = ap (λ (y : Number). andThen y more) (sym e ∙ f)
+
+  pub then-short : r ≡ Number.Short → r ≡ x → Record.Short ≡ andThen x more
+  then-short e f = ap (λ (y : Number). andThen y more) (sym e ∙ f)
+
+  pub then-bad : r ≡ Number.Bad → r ≡ x → Record.Bad ≡ andThen x more
+  then-bad e f = ap (λ (y : Number). andThen y more) (sym e ∙ f)
+
+-- ---- a report, by its kind
+
+pub report-bad : (s : List ℕ) (start len kind at : ℕ) → 4 < kind → Record.Bad ≡ reportAt s start len kind at
+unfolding reportAt
+report-bad s start len kind at h = rw (lt-ltb 4 kind h)
+
+pub report-prepared : (s : List ℕ) (start len : ℕ) {kind : ℕ} (at : ℕ) → kind ≡ 1 → oneNumber s start len kind at ≡ reportAt s start len kind at
+unfolding reportAt
+report-prepared s start len at e = rw e
+
+pub report-result : (s : List ℕ) (start len : ℕ) {kind : ℕ} (at : ℕ) → kind ≡ 2 → twoNumbers s start len kind at ≡ reportAt s start len kind at
+unfolding reportAt
+report-result s start len at e = rw e
+
+pub report-failed : (s : List ℕ) (start len : ℕ) {kind : ℕ} (at : ℕ) → kind ≡ 4 → oneNumber s start len kind at ≡ reportAt s start len kind at
+unfolding reportAt
+report-failed s start len at e = rw e
+
+pub report-bare : (s : List ℕ) (start len kind at : ℕ) → kind ≤ 4 → (kind ≡ 1 → ⊥) → (kind ≡ 2 → ⊥) → (kind ≡ 4 → ⊥) →
+    whole start len kind 0 0 at ≡ reportAt s start len kind at
+unfolding reportAt
+report-bare s start len kind at h a b c = rw (le-ltb 4 kind h, ne-eqb kind 1 a, ne-eqb kind 2 b, ne-eqb kind 4 c)
+
+-- ---- a frame
+
+module _ (s : List ℕ) (len start : ℕ) where
+  abbrev there : Record
+  there = cond (ltb (length s) (start + len)) Record.Short (kindAt s start len)
+
+  pub frame-bad : maxFrame < len → Record.Bad ≡ frameAt s len start
+  unfolding frameAt
+  frame-bad h = yes Record.Bad there (lt-ltb maxFrame len h)
+
+  pub frame-short : len ≤ maxFrame → length s < start + len → Record.Short ≡ frameAt s len start
+  unfolding frameAt
+  frame-short h g =
+      yes Record.Short (kindAt s start len) (lt-ltb (length s) (start + len) g) ∙ without Record.Bad there (le-ltb maxFrame len h)
+
+  pub frame-whole : len ≤ maxFrame → start + len ≤ length s → kindAt s start len ≡ frameAt s len start
+  unfolding frameAt
+  frame-whole h g =
+      without Record.Short (kindAt s start len) (le-ltb (length s) (start + len) g)
+      ∙ without Record.Bad there (le-ltb maxFrame len h)

@@ -1,0 +1,104 @@
+-- A record lies within the bytes. Assumes nothing.
+use Prim.Native.Nat.{ℕ, _+_, _≤_, _<_}
+use native.Mathlib.Omega.{arith}
+use mathlib.Core.Bool.{cond}
+use mathlib.Core.Path.{_≡_}
+use mathlib.Core.List.{List}
+use lib.ListN.{length}
+use lib.Dec.{eqb, ltb}
+use borrow.Author.Tests.{ltb-false}
+use Rattle.varint.specs.declared.Varint.{Varint}
+use Rattle.varint.specs.Varint.{varintAt}
+use Rattle.varint.specs.Past.{Past}
+use Rattle.varint.proofs.PastLaws.{both, varint-past}
+use Rattle.trace_line.specs.declared.record.Number.{Number}
+use Rattle.trace_line.specs.declared.record.Record.{Record}
+use Rattle.trace_line.specs.Record.{numberOf, numberAt, andThen, maxFrame, maxKind, whole, oneNumber, rowsAt, twoNumbers, reportAt, kindAt, frameAt, recordAt}
+use Rattle.trace_line.specs.RecordRules.{Within, RecordsWithin}
+
+-- a number ends past its first byte and within the bytes
+abbrev PastNumber : ℕ → ℕ → Number → Type 0
+PastNumber at end (Number.Value v next) = (at < next) × (next ≤ end)
+PastNumber at end Number.Short = Unit {0}
+PastNumber at end Number.Bad = Unit {0}
+
+past-of : (s : List ℕ) (at : ℕ) (x : Varint) → Past at (length s) x → PastNumber at (length s) (numberOf s at x)
+past-of s at (Varint.Number v next) h = h
+past-of s at Varint.Bad h =
+    both (PastNumber at (length s)) (ltb (length s) (at + 10)) Number.Short Number.Bad (λ _. tt) (λ _. tt)
+
+number-past : (s : List ℕ) (at : ℕ) → PastNumber at (length s) (numberAt s at)
+unfolding numberAt
+number-past s at = past-of s at (varintAt s at) (varint-past s at)
+
+-- what a number leads to lies within the bytes, if all that any number leads to does
+module _ (s : List ℕ) (from : ℕ) where
+  then-within : (at : ℕ) (x : Number) (more : ℕ → ℕ → Record) → PastNumber at (length s) x →
+      ((v next : ℕ) → at < next → next ≤ length s → Within s from (more v next)) → Within s from (andThen x more)
+  then-within at (Number.Value v next) more p f = f v next (p .0) (p .1)
+  then-within at Number.Short more p f = tt
+  then-within at Number.Bad more p f = tt
+
+  module _ (start len : ℕ) (behind : from < start) where
+    one-within : (kind at : ℕ) → start + len < at → Within s from (oneNumber s start len kind at)
+    unfolding oneNumber
+    one-within kind at h =
+        then-within at (numberAt s at) (λ a next. whole start len kind a 0 next) (number-past s at)
+        (λ a next g e. (behind, omega arith, e))
+
+    rows-within : (kind columns at : ℕ) → start + len < at → Within s from (rowsAt s start len kind columns at)
+    unfolding rowsAt
+    rows-within kind columns at h =
+        then-within at (numberAt s at) (λ rows next. whole start len kind columns rows next) (number-past s at)
+        (λ rows next g e. (behind, omega arith, e))
+
+    two-within : (kind at : ℕ) → start + len < at → Within s from (twoNumbers s start len kind at)
+    unfolding twoNumbers
+    two-within kind at h =
+        then-within at (numberAt s at) (λ columns p. rowsAt s start len kind columns p) (number-past s at)
+        (λ columns p g e. rows-within kind columns p (omega arith))
+
+    report-within : (kind at : ℕ) → start + len < at → at ≤ length s → Within s from (reportAt s start len kind at)
+    unfolding reportAt
+    report-within kind at h e =
+        both (Within s from) (ltb maxKind kind) Record.Bad known (λ _. tt)
+        (λ _.
+        both (Within s from) (eqb kind 1) (oneNumber s start len kind at) unprepared (λ _. one-within kind at h)
+        (λ _.
+        both (Within s from) (eqb kind 2) (twoNumbers s start len kind at) unresulting (λ _. two-within kind at h)
+        (λ _.
+        both (Within s from) (eqb kind 4) (oneNumber s start len kind at) bare (λ _. one-within kind at h)
+        (λ _. (behind, h, e)))))
+      where
+        bare : Record
+        bare = whole start len kind 0 0 at
+
+        unresulting : Record
+        unresulting = cond (eqb kind 4) (oneNumber s start len kind at) bare
+
+        unprepared : Record
+        unprepared = cond (eqb kind 2) (twoNumbers s start len kind at) unresulting
+
+        known : Record
+        known = cond (eqb kind 1) (oneNumber s start len kind at) unprepared
+
+    kind-within : Within s from (kindAt s start len)
+    unfolding kindAt
+    kind-within =
+        then-within (start + len) (numberAt s (start + len)) (λ kind at. reportAt s start len kind at) (number-past s (start + len))
+        (λ kind at h e. report-within kind at h e)
+
+  frame-within : (len start : ℕ) → from < start → Within s from (frameAt s len start)
+  unfolding frameAt
+  frame-within len start h =
+      both (Within s from) (ltb maxFrame len) Record.Bad (cond (ltb (length s) (start + len)) Record.Short (kindAt s start len))
+      (λ _. tt)
+      (λ _.
+      both (Within s from) (ltb (length s) (start + len)) Record.Short (kindAt s start len) (λ _. tt)
+      (λ _. kind-within start len h))
+
+pub records-within : RecordsWithin
+unfolding recordAt
+records-within s at =
+    then-within s at at (numberAt s at) (λ len start. frameAt s len start) (number-past s at)
+    (λ len start h e. frame-within s at len start h)

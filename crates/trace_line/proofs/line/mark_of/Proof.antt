@@ -1,0 +1,24 @@
+-- `trace_line::line::mark_of` meets its contract. Assumes nothing.
+use borrow.Author.Needs.{needs}
+use mathlib.Core.Path.{_∙_}
+use Rattle.trace_line.proofs.LineLaws.{mark-none, mark-letter}
+use Rattle.trace_line.proofs.line.mark_of.Statement.{statement}
+use Rattle.trace_line.proofs.line.mark_of.Tie as tie
+
+returns : tie.Need-returns
+returns c = let a = c .before .args in mark-none (a .reply .now) (a .n) (c .if1 .taken)
+
+returns-2 : tie.Need-returns-2
+returns-2 c =
+    let e = c .before .before in
+    let a = e .before .args in
+    c .letter-of .ensures ∙ mark-letter (a .reply .now) (a .n) (e .if1 .left)
+
+pub mark-of-spec : {M : Type 1} → statement M
+mark-of-spec =
+    tie.close
+    (tie.spec
+    returns
+    (λ c. search needs)
+    (λ c κs. search needs)
+    returns-2)

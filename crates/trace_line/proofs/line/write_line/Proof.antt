@@ -1,0 +1,45 @@
+-- `trace_line::line::write_line` meets its contract: the line stands at the front of the array, and what is lent of it is
+-- the line. Assumes nothing.
+use Prim.Native.Nat.{ℕ, _≤_}
+use borrow.Author.Needs.{needs}
+use native.Mathlib.Omega.{arith}
+use mathlib.Core.Path.{sym}
+use lib.ListN.{length, replicate}
+use lib.Seq.{length-take-le}
+use Rattle.reply.proofs.PutsLaws.{front, front-within, equations-as}
+use Rattle.trace_line.specs.declared.line.Line.{Line}
+use Rattle.trace_line.specs.Line.{lineOf}
+use Rattle.trace_line.proofs.LineLaws.{line-within}
+use Rattle.trace_line.proofs.line.write_line.Statement.{statement}
+use Rattle.trace_line.proofs.line.write_line.Tie as tie
+
+room : (l : Line) → length (lineOf l) ≤ length (replicate {A = ℕ} 160 0)
+room l = omega (arith, line-within l)
+
+array-share-prefix-text : tie.Need-array-share-prefix-text
+array-share-prefix-text c =
+    let p = c .before in
+    front-within (room (p .before .before .before .args .l)) (p .put-line .ensures)
+
+slice-aggregate-write-bytes : tie.Need-slice-aggregate-write-bytes
+slice-aggregate-write-bytes c =
+    let p = c .before .before in
+    sym (length-take-le (p .put-line .result) _ (front-within (room (p .before .before .before .args .l)) (p .put-line .ensures)))
+
+returns : tie.Need-returns
+returns c =
+    let w = c .before .before in
+    let p = w .before .before .before in
+    let a = p .before .before .before .args in
+    equations-as (a .buf .now) (a .at) (front (room (a .l)) (p .put-line .ensures)) (w .write-bytes .ensures)
+
+pub write-line-spec : {M : Type 1} → statement M
+write-line-spec =
+    tie.close
+    (tie.spec
+    (λ c κs. search needs)
+    array-share-prefix-text
+    slice-aggregate-write-bytes
+    (λ c κs. search needs)
+    (λ c. search needs)
+    returns)

@@ -1,0 +1,5 @@
+pub mod Line
+pub mod LineRules
+pub mod Record
+pub mod RecordRules
+pub mod Trace

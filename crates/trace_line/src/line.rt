@@ -1,0 +1,99 @@
+// A line of the trace.
+ghost use mathlib.Core.Path.{_≡_};
+ghost use Prim.Native.Nat.{_+_, _≤_};
+ghost use Rattle.keeper.specs.Rows.{placeBehind};
+ghost use Rattle.varint.specs.Put.{putAt, written};
+ghost use Rattle.reply.specs.Decimal.{decimal};
+ghost use Rattle.reply.specs.Puts.{Puts};
+ghost use Rattle.trace_line.specs.Line.{column, letterOf, lineOf, markOf};
+use varint::write::Put;
+
+// What a line prints, in this order.
+pub struct Line {
+    pub n: u64,
+    pub reason: u64,
+    pub first: u64,
+    pub rows: u64,
+    pub mark: u8,
+    pub stmts: u64,
+    pub cursors: u64,
+    pub owed: u64,
+}
+
+// The letter of a frame's type.
+fn letter_of(kind: u8) -> u8
+    ensures { λ r. ⌜ r ≡ letterOf kind ⌝ }
+{
+    match kind {
+        0 => b'O',
+        15 => b'S',
+        14 => b'D',
+        17 => b'X',
+        1 => b'E',
+        _ => b'N',
+    }
+}
+
+// The mark of a reply of n bytes, by the type of its first frame.
+pub fn mark_of(reply: &[u8; 128], n: usize) -> u8
+    ensures { λ r. ⌜ r ≡ markOf (now (reply .entry)) n ⌝ }
+{
+    if n == 0 {
+        return b'N';
+    }
+    letter_of(reply[4])
+}
+
+// The place behind what was put.
+fn place_behind(put: Put) -> usize
+    ensures { λ r. ⌜ r ≡ placeBehind put ⌝ }
+{
+    match put {
+        Put::Next(n) => n,
+        Put::Full => 0,
+    }
+}
+
+// The decimal of v, which has at most 20 digits. Answers the place behind it.
+fn put_decimal(t: &mut [u8; 160], at: usize, v: u64) -> usize
+    requires { ⌜ at + 20 ≤ 160 ⌝ }
+    ensures { λ r. ⌜ Puts (now (t .entry)) at (decimal v) r (now (t .exit)) × (r ≤ at + 20) ⌝ }
+{
+    place_behind(reply::decimal::write_decimal(t, at, v))
+}
+
+// The decimal of v and a space behind it.
+fn put_column(t: &mut [u8; 160], at: usize, v: u64) -> usize
+    requires { ⌜ at + 21 ≤ 160 ⌝ }
+    ensures { λ r. ⌜ Puts (now (t .entry)) at (column v) r (now (t .exit)) × (r ≤ at + 21) ⌝ }
+{
+    let p = put_decimal(t, at, v);
+    t[p] = b' ';
+    p + 1
+}
+
+// The line at the front of an array. Answers its length.
+fn put_line(t: &mut [u8; 160], l: Line) -> usize
+    ensures { λ r. ⌜ Puts (now (t .entry)) 0 (lineOf l) r (now (t .exit)) ⌝ }
+{
+    let at = put_column(t, 0, l.n);
+    let at = put_column(t, at, l.reason);
+    let at = put_column(t, at, l.first);
+    let at = put_column(t, at, l.rows);
+    t[at] = l.mark;
+    t[at + 1] = b' ';
+    let at = put_column(t, at + 2, l.stmts);
+    let at = put_column(t, at, l.cursors);
+    let at = put_decimal(t, at, l.owed);
+    t[at] = b'\n';
+    at + 1
+}
+
+// The line put at the place `at`, where it fits; else the buffer stays as it was.
+pub fn write_line(buf: &mut [u8], at: usize, l: Line) -> Put
+    ensures { λ r. ⌜ (r ≡ putAt (now (buf .entry)) at (lineOf l)) × (now (buf .exit) ≡ written (now (buf .entry)) at (lineOf l)) ⌝ }
+{
+    let mut text = [0u8; 160];
+    let n = put_line(&mut text, l);
+    reply::put::write_bytes(buf, at, &text[..n])
+}

@@ -1,0 +1,159 @@
+// A record of the input: a frame and an engine report.
+ghost use mathlib.Core.Path.{_≡_};
+ghost use Prim.Native.Nat.{_+_, _≤_};
+ghost use lib.ListN.{length};
+ghost use Rattle.trace_line.specs.Record.{frameAt, kindAt, numberAt, oneNumber, recordAt, reportAt, rowsAt, twoNumbers, unended};
+use rules::Report;
+use varint::Varint;
+
+// The longest frame of a record.
+pub const MAX_FRAME: u64 = 65536;
+
+// A number and the place behind it; or the bytes end within it, or it has more than ten bytes.
+pub enum Number {
+    Value { value: u64, next: usize },
+    Short,
+    Bad,
+}
+
+// A whole record: where its frame stands, its report and the place behind it; or the bytes end before
+// it does, or it has a bad number.
+pub enum Record {
+    Whole {
+        start: usize,
+        len: usize,
+        report: Report,
+        next: usize,
+    },
+    Short,
+    Bad,
+}
+
+// Where no varint stands.
+fn why_unended(s: &[u8], at: usize) -> Number
+    ensures { λ r. ⌜ r ≡ unended (now (s .entry)) at ⌝ }
+{
+    if s.len() < at {
+        return Number::Short;
+    }
+    if s.len() - at < 10 {
+        return Number::Short;
+    }
+    Number::Bad
+}
+
+pub fn read_number(s: &[u8], at: usize) -> Number
+    ensures { λ r. ⌜ r ≡ numberAt (now (s .entry)) at ⌝ }
+{
+    match varint::read_varint(s, at) {
+        Varint::Number { value, next } => Number::Value { value, next },
+        Varint::Bad => why_unended(s, at),
+    }
+}
+
+// The report of one number.
+fn read_one(s: &[u8], start: usize, len: usize, kind: u64, at: usize) -> Record
+    ensures { λ r. ⌜ r ≡ oneNumber (now (s .entry)) start len kind at ⌝ }
+{
+    match read_number(s, at) {
+        Number::Value { value, next } => Record::Whole {
+            start,
+            len,
+            report: Report {
+                kind,
+                a: value,
+                b: 0,
+            },
+            next,
+        },
+        Number::Short => Record::Short,
+        Number::Bad => Record::Bad,
+    }
+}
+
+// The second number of a result.
+fn read_rows(s: &[u8], start: usize, len: usize, kind: u64, columns: u64, at: usize) -> Record
+    ensures { λ r. ⌜ r ≡ rowsAt (now (s .entry)) start len kind columns at ⌝ }
+{
+    match read_number(s, at) {
+        Number::Value { value, next } => Record::Whole {
+            start,
+            len,
+            report: Report {
+                kind,
+                a: columns,
+                b: value,
+            },
+            next,
+        },
+        Number::Short => Record::Short,
+        Number::Bad => Record::Bad,
+    }
+}
+
+fn read_two(s: &[u8], start: usize, len: usize, kind: u64, at: usize) -> Record
+    ensures { λ r. ⌜ r ≡ twoNumbers (now (s .entry)) start len kind at ⌝ }
+{
+    match read_number(s, at) {
+        Number::Value { value, next } => read_rows(s, start, len, kind, value, next),
+        Number::Short => Record::Short,
+        Number::Bad => Record::Bad,
+    }
+}
+
+fn read_report(s: &[u8], start: usize, len: usize, kind: u64, at: usize) -> Record
+    ensures { λ r. ⌜ r ≡ reportAt (now (s .entry)) start len kind at ⌝ }
+{
+    if rules::FAILED < kind {
+        return Record::Bad;
+    }
+    match kind {
+        rules::PREPARED => read_one(s, start, len, kind, at),
+        rules::RESULT => read_two(s, start, len, kind, at),
+        rules::FAILED => read_one(s, start, len, kind, at),
+        _ => Record::Whole {
+            start,
+            len,
+            report: Report { kind, a: 0, b: 0 },
+            next: at,
+        },
+    }
+}
+
+// What stands behind a frame that ends at `end`.
+fn read_kind(s: &[u8], start: usize, len: usize) -> Record
+    requires { ⌜ start + len ≤ length (now s) ⌝ }
+    ensures { λ r. ⌜ r ≡ kindAt (now (s .entry)) start len ⌝ }
+{
+    match read_number(s, start + len) {
+        Number::Value { value, next } => read_report(s, start, len, value, next),
+        Number::Short => Record::Short,
+        Number::Bad => Record::Bad,
+    }
+}
+
+fn read_frame(s: &[u8], len: u64, start: usize) -> Record
+    ensures { λ r. ⌜ r ≡ frameAt (now (s .entry)) len start ⌝ }
+{
+    if MAX_FRAME < len {
+        return Record::Bad;
+    }
+    let n = len as usize;
+    if s.len() < start {
+        return Record::Short;
+    }
+    if s.len() - start < n {
+        return Record::Short;
+    }
+    read_kind(s, start, n)
+}
+
+pub fn read_record(s: &[u8], at: usize) -> Record
+    ensures { λ r. ⌜ r ≡ recordAt (now (s .entry)) at ⌝ }
+{
+    match read_number(s, at) {
+        Number::Value { value, next } => read_frame(s, value, next),
+        Number::Short => Record::Short,
+        Number::Bad => Record::Bad,
+    }
+}
