@@ -19,21 +19,26 @@ returns c =
 returns-2 : tie.Need-returns-2
 returns-2 c =
     let a = c .before .before .before .before .before .before .before .args in
-    wrote-two (a .draft) (a .body .now) (a .args .now) (a .buf .now) (sym (c .before .before .before .is-accepted .ensures) ∙ not-false _ (c .before .before .if1 .left)) (omega (arith, c .before .payload-len .ensures))
+    wrote-two (a .draft) (a .body .now) (a .args .now) (a .buf .now) (sym (c .before .before .before .is-accepted .ensures) ∙ not-false _
+    (c .before .before .if1 .left)) (omega (arith, c .before .payload-len .ensures))
 
 returns-3 : tie.Need-returns-3
 returns-3 c =
     let a = c .before .before .before .before .before .before .before .before .args in
-    wrote-three (a .draft) (a .body .now) (a .args .now) (a .buf .now) (sym (c .before .before .before .before .is-accepted .ensures) ∙ not-false _ (c .before .before .before .if1 .left))
+    wrote-three (a .draft) (a .body .now) (a .args .now) (a .buf .now) (sym (c .before .before .before .before .is-accepted .ensures) ∙ not-false _
+    (c .before .before .before .if1 .left))
     (omega (arith, c .before .before .payload-len .ensures)) (omega (arith, c .before .before .payload-len .ensures))
 
 returns-4 : tie.Need-returns-4
 returns-4 c =
     let a = c .before .before .before .before .before .before .before .before .before .before .before .before .before .before .before .before .args in
     let n = c .before .before .before .before .before .before .before .before .before .before .payload-len in
-    wrote-all (a .draft) (a .body .now) (a .args .now) (a .buf .now) (sym (c .before .before .before .before .before .before .before .before .before .before .before .before .is-accepted .ensures) ∙ not-false _ (c .before .before .before .before .before .before .before .before .before .before .before .if1 .left))
+    wrote-all (a .draft) (a .body .now) (a .args .now) (a .buf .now) (sym
+    (c .before .before .before .before .before .before .before .before .before .before .before .before .is-accepted .ensures) ∙ not-false _
+    (c .before .before .before .before .before .before .before .before .before .before .before .if1 .left))
     (omega (arith, n .ensures)) (omega (arith, n .ensures))
-    (puts-as (ap (λ (m : ℕ). fourBytes (m + 1) ++ (a .draft .kind % 256 ∷ [])) (n .ensures)) (c .before .before .before .before .before .before .put-head .ensures))
+    (puts-as (ap (λ (m : ℕ). fourBytes (m + 1) ++ (a .draft .kind % 256 ∷ [])) (n .ensures))
+    (c .before .before .before .before .before .before .put-head .ensures))
     (c .before .before .put-payload .ensures)
 
 pub write-message-spec : {M : Type 1} → statement M

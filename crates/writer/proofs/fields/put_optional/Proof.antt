@@ -13,8 +13,15 @@ use Rattle.writer.proofs.fields.put_optional.Tie as tie
 
 put-number-requires : tie.Need-put-number-requires
 put-number-requires c κs =
-    let a = c .before .before .before .args in
-    (c .before .before .before .pre .0, omega (arith, c .before .before .before .pre .1, ap length (optional-there (a .num) (a .v) (c .before .if1 .taken))))
+    let a = c .before .before .before .args in (
+      c .before .before .before .pre .0,
+      omega (
+        arith,
+        c .before .before .before .pre .1,
+        ap length (optional-there (a .num) (a .v)
+            (c .before .if1 .taken)),
+      ),
+    )
 
 returns : tie.Need-returns
 returns c =

@@ -19,7 +19,9 @@ loop-holds : tie.Need-loop-holds Inv-loop μ-loop
 loop-holds c = starts (c .before .args .s .now)
 
 returns : tie.Need-returns Inv-loop μ-loop
-returns c = no-field (c .before .before .before .before .loop .inv) (c .before .before .before .loop-test .taken) (sym (c .before .before .read-field .ensures) ∙ c .enum-told .given .1)
+returns c =
+    no-field (c .before .before .before .before .loop .inv) (c .before .before .before .loop-test .taken) (sym
+    (c .before .before .read-field .ensures) ∙ c .enum-told .given .1)
 
 returns-2 : tie.Need-returns-2 Inv-loop μ-loop
 returns-2 c =
@@ -28,8 +30,10 @@ returns-2 c =
 
 returns-3 : tie.Need-returns-3 Inv-loop μ-loop
 returns-3 c =
-    other-wire (c .before .before .before .before .before .before .before .loop .inv) (c .before .before .before .before .before .before .loop-test .taken)
-    (sym (c .before .before .before .before .before .read-field .ensures) ∙ c .before .before .before .number .given .1) (c .before .if1 .left) (c .if2 .taken)
+    other-wire (c .before .before .before .before .before .before .before .loop .inv)
+    (c .before .before .before .before .before .before .loop-test .taken)
+    (sym (c .before .before .before .before .before .read-field .ensures) ∙ c .before .before .before .number .given .1) (c .before .if1 .left)
+    (c .if2 .taken)
 
 returns-4 : tie.Need-returns-4 Inv-loop μ-loop
 returns-4 c =
@@ -40,7 +44,13 @@ returns-4 c =
     (ap anyTypeOf (sym (c .before .before .read-argument .ensures)) ∙ sym (c .before .any-type .ensures) ∙ c .if3 .taken)
 
 loop-less : tie.Need-loop-less Inv-loop μ-loop
-loop-less c = omega (arith, advances (c .before .before .before .before .before .before .before .before .before .before .loop .inv) (c .before .before .before .before .before .before .before .before .before .loop-test .taken) (sym (c .before .before .before .before .before .before .before .before .read-field .ensures) ∙ c .before .before .before .before .before .before .number .given .1))
+loop-less c =
+    omega (
+      arith,
+      advances (c .before .before .before .before .before .before .before .before .before .before .loop .inv)
+          (c .before .before .before .before .before .before .before .before .before .loop-test .taken) (sym
+          (c .before .before .before .before .before .before .before .before .read-field .ensures) ∙ c .before .before .before .before .before .before .number .given .1),
+    )
 
 loop-again : tie.Need-loop-again Inv-loop μ-loop
 loop-again c =

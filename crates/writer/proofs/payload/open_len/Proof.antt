@@ -17,17 +17,35 @@ add-result c =
 add-result-2 : tie.Need-add-result-2
 add-result-2 c =
     let a = c .before .before .before .before .before .args in
-    omega (arith, number-short 1 (a .draft .cursor), prefix-short 4 (c .before .before .before .open-stmt-len .result), open-stmt-short (a .draft) (a .args .now))
+    omega (
+      arith,
+      number-short 1 (a .draft .cursor),
+      prefix-short 4 (c .before .before .before .open-stmt-len .result),
+      open-stmt-short (a .draft)
+          (a .args .now),
+    )
 
 add-result-3 : tie.Need-add-result-3
 add-result-3 c =
     let a = c .before .before .before .before .before .before .args in
-    omega (arith, number-short 1 (a .draft .cursor), prefix-short 4 (c .before .before .before .before .open-stmt-len .result), open-stmt-short (a .draft) (a .args .now), optional-short (a .draft .hasrows) 5 (a .draft .rows))
+    omega (
+      arith,
+      number-short 1 (a .draft .cursor),
+      prefix-short 4 (c .before .before .before .before .open-stmt-len .result),
+      open-stmt-short
+          (a .draft) (a .args .now),
+      optional-short (a .draft .hasrows) 5 (a .draft .rows),
+    )
 
 returns : tie.Need-returns
 returns c =
     let a = c .before .before .before .before .before .before .args in
-    omega (arith, open-parts (a .draft) (a .args .now), ap (λ (n : ℕ). length (prefixOf 4 n)) (c .before .before .before .before .open-stmt-len .ensures))
+    omega (
+      arith,
+      open-parts (a .draft) (a .args .now),
+      ap (λ (n : ℕ). length (prefixOf 4 n))
+          (c .before .before .before .before .open-stmt-len .ensures),
+    )
 
 pub open-len-spec : {M : Type 1} → statement M
 open-len-spec =

@@ -39,7 +39,8 @@ returns-6 c =
 returns-7 : tie.Need-returns-7
 returns-7 c =
     let a = c .before .before .before .args in
-    ap length (sym (as-none (a .draft) (a .body .now) (a .args .now) (c .match .rest .0 .0 .0 .0 .0 .1) (c .match .rest .0 .0 .0 .0 .1) (c .match .rest .0 .0 .0 .1) (c .match .rest .0 .0 .1) (c .match .rest .0 .1) (c .match .rest .1)))
+    ap length (sym (as-none (a .draft) (a .body .now) (a .args .now) (c .match .rest .0 .0 .0 .0 .0 .1) (c .match .rest .0 .0 .0 .0 .1)
+    (c .match .rest .0 .0 .0 .1) (c .match .rest .0 .0 .1) (c .match .rest .0 .1) (c .match .rest .1)))
 
 pub payload-len-spec : {M : Type 1} → statement M
 payload-len-spec =

@@ -17,12 +17,23 @@ add-result c =
 add-result-2 : tie.Need-add-result-2
 add-result-2 c =
     let a = c .before .before .before .before .before .args in
-    omega (arith, number-short 1 (a .draft .stmt), prefix-short 2 (c .before .before .before .prepare-stmt-len .result), prepare-stmt-short (a .draft) (a .body .now))
+    omega (
+      arith,
+      number-short 1 (a .draft .stmt),
+      prefix-short 2 (c .before .before .before .prepare-stmt-len .result),
+      prepare-stmt-short
+          (a .draft) (a .body .now),
+    )
 
 returns : tie.Need-returns
 returns c =
     let a = c .before .before .before .before .before .args in
-    omega (arith, prepare-parts (a .draft) (a .body .now), ap (λ (n : ℕ). length (prefixOf 2 n)) (c .before .before .before .prepare-stmt-len .ensures))
+    omega (
+      arith,
+      prepare-parts (a .draft) (a .body .now),
+      ap (λ (n : ℕ). length (prefixOf 2 n))
+          (c .before .before .before .prepare-stmt-len .ensures),
+    )
 
 pub prepare-len-spec : {M : Type 1} → statement M
 prepare-len-spec =

@@ -22,7 +22,12 @@ add-result-2 c =
 returns : tie.Need-returns
 returns c =
     let a = c .before .before .before .before .args in
-    omega (arith, prepare-stmt-parts (a .draft) (a .body .now), ap (λ (k : ℕ). length (prefixOf k (length (a .body .now)))) (c .before .before .chosen-field .ensures .0))
+    omega (
+      arith,
+      prepare-stmt-parts (a .draft) (a .body .now),
+      ap (λ (k : ℕ). length (prefixOf k (length (a .body .now))))
+          (c .before .before .chosen-field .ensures .0),
+    )
 
 pub prepare-stmt-len-spec : {M : Type 1} → statement M
 prepare-stmt-len-spec =

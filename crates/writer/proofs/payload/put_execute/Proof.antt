@@ -21,15 +21,25 @@ put-slice-requires c κs =
     omega (arith, execute-parts (a .draft) (a .args .now))
 
 put-optional-requires : tie.Need-put-optional-requires
-put-optional-requires c κs = let a = c .before .before .before .before .before .before .before .before .before .before .before .before .before .args in
-    (search needs, omega (arith, execute-parts (a .draft) (a .args .now), ap (λ (v : ℕ). length (optionalField (a .draft .hascompact) 3 v)) (c .bit .ensures)))
+put-optional-requires c κs =
+    let a = c .before .before .before .before .before .before .before .before .before .before .before .before .before .args in (
+      search needs,
+      omega (
+        arith,
+        execute-parts (a .draft) (a .args .now),
+        ap (λ (v : ℕ). length (optionalField (a .draft .hascompact) 3 v))
+            (c .bit .ensures),
+      ),
+    )
 
 returns : tie.Need-returns
 unfolding executePayload
 returns c =
     let a = c .before .before .before .before .before .before .before .before .before .before .before .before .before .before .before .before .args in
-    puts-then (puts-then (c .before .before .before .before .before .before .before .before .before .before .before .put-number .ensures) (c .before .before .before .before .before .before .before .put-slice .ensures))
-    (puts-as (ap (λ (v : ℕ). optionalField (a .draft .hascompact) 3 v) (c .before .before .before .bit .ensures)) (c .before .before .put-optional .ensures))
+    puts-then (puts-then (c .before .before .before .before .before .before .before .before .before .before .before .put-number .ensures)
+    (c .before .before .before .before .before .before .before .put-slice .ensures))
+    (puts-as (ap (λ (v : ℕ). optionalField (a .draft .hascompact) 3 v) (c .before .before .before .bit .ensures))
+    (c .before .before .put-optional .ensures))
 
 pub put-execute-spec : {M : Type 1} → statement M
 put-execute-spec =

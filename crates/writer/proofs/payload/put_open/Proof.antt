@@ -24,12 +24,22 @@ put-prefix-requires c κs =
 put-open-stmt-requires : tie.Need-put-open-stmt-requires
 put-open-stmt-requires c κs =
     let a = c .before .before .before .before .before .before .before .before .before .before .before .before .before .args in
-    omega (arith, open-parts (a .draft) (a .args .now), ap (λ (n : ℕ). length (prefixOf 4 n)) (c .before .before .before .before .open-stmt-len .ensures))
+    omega (
+      arith,
+      open-parts (a .draft) (a .args .now),
+      ap (λ (n : ℕ). length (prefixOf 4 n))
+          (c .before .before .before .before .open-stmt-len .ensures),
+    )
 
 put-optional-requires : tie.Need-put-optional-requires
 put-optional-requires c κs =
     let a = c .before .before .before .before .before .before .before .before .before .before .before .before .before .before .before .before .before .args in
-    omega (arith, open-parts (a .draft) (a .args .now), ap (λ (n : ℕ). length (prefixOf 4 n)) (c .before .before .before .before .before .before .before .before .open-stmt-len .ensures))
+    omega (
+      arith,
+      open-parts (a .draft) (a .args .now),
+      ap (λ (n : ℕ). length (prefixOf 4 n))
+          (c .before .before .before .before .before .before .before .before .open-stmt-len .ensures),
+    )
 
 returns : tie.Need-returns
 unfolding openPayload
@@ -37,7 +47,10 @@ returns c =
     let a = c .before .before .before .before .before .before .before .before .before .before .before .before .before .before .before .before .before .before .before .before .args in
     puts-then
     (puts-then (c .before .before .before .before .before .before .before .before .before .before .before .before .before .before .before .put-number .ensures)
-    (puts-counted 4 (openStmtPayload (a .draft) (a .args .now)) (c .before .before .before .before .before .before .before .before .before .before .before .open-stmt-len .ensures) (c .before .before .before .before .before .before .before .before .before .before .put-prefix .ensures) (c .before .before .before .before .before .before .put-open-stmt .ensures)))
+    (puts-counted 4 (openStmtPayload (a .draft) (a .args .now))
+    (c .before .before .before .before .before .before .before .before .before .before .before .open-stmt-len .ensures)
+    (c .before .before .before .before .before .before .before .before .before .before .put-prefix .ensures)
+    (c .before .before .before .before .before .before .put-open-stmt .ensures)))
     (c .before .before .put-optional .ensures)
 
 pub put-open-spec : {M : Type 1} → statement M

@@ -24,14 +24,20 @@ put-prefix-requires c κs =
 put-execute-requires : tie.Need-put-execute-requires
 put-execute-requires c κs =
     let a = c .before .before .before .before .before .before .before .before .before .before .before .before .args in
-    omega (arith, open-stmt-parts (a .draft) (a .args .now), ap (λ (n : ℕ). length (prefixOf 2 n)) (c .before .before .before .before .execute-len .ensures))
+    omega (
+      arith,
+      open-stmt-parts (a .draft) (a .args .now),
+      ap (λ (n : ℕ). length (prefixOf 2 n))
+          (c .before .before .before .before .execute-len .ensures),
+    )
 
 returns : tie.Need-returns
 unfolding openStmtPayload
 returns c =
     let a = c .before .before .before .before .before .before .before .before .before .before .before .before .before .before .before .args in
     puts-then (c .before .before .before .before .before .before .before .before .before .before .before .put-number .ensures)
-    (puts-counted 2 (executePayload (a .draft) (a .args .now)) (c .before .before .before .before .before .before .before .execute-len .ensures) (c .before .before .before .before .before .before .put-prefix .ensures) (c .before .before .put-execute .ensures))
+    (puts-counted 2 (executePayload (a .draft) (a .args .now)) (c .before .before .before .before .before .before .before .execute-len .ensures)
+    (c .before .before .before .before .before .before .put-prefix .ensures) (c .before .before .put-execute .ensures))
 
 pub put-open-stmt-spec : {M : Type 1} → statement M
 put-open-stmt-spec =

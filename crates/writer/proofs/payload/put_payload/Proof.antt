@@ -41,37 +41,44 @@ put-fetch-requires c κs =
 returns : tie.Need-returns
 returns c =
     let a = c .before .before .before .before .before .before .before .before .args in
-    puts-as (sym (as-prepare (a .draft) (a .body .now) (a .args .now) (c .before .before .before .before .match .keys1))) (c .before .before .put-prepare .ensures)
+    puts-as (sym (as-prepare (a .draft) (a .body .now) (a .args .now) (c .before .before .before .before .match .keys1)))
+    (c .before .before .put-prepare .ensures)
 
 returns-2 : tie.Need-returns-2
 returns-2 c =
     let a = c .before .before .before .before .before .before .before .before .args in
-    puts-as (sym (as-execute (a .draft) (a .body .now) (a .args .now) (c .before .before .before .before .match .keys2))) (c .before .before .put-execute .ensures)
+    puts-as (sym (as-execute (a .draft) (a .body .now) (a .args .now) (c .before .before .before .before .match .keys2)))
+    (c .before .before .put-execute .ensures)
 
 returns-3 : tie.Need-returns-3
 returns-3 c =
     let a = c .before .before .before .before .before .before .before .before .before .args in
-    puts-as (sym (as-deallocate (a .draft) (a .body .now) (a .args .now) (c .before .before .before .before .before .match .keys3))) (c .before .before .put-number .ensures)
+    puts-as (sym (as-deallocate (a .draft) (a .body .now) (a .args .now) (c .before .before .before .before .before .match .keys3)))
+    (c .before .before .put-number .ensures)
 
 returns-4 : tie.Need-returns-4
 returns-4 c =
     let a = c .before .before .before .before .before .before .before .before .args in
-    puts-as (sym (as-open (a .draft) (a .body .now) (a .args .now) (c .before .before .before .before .match .keys4))) (c .before .before .put-open .ensures)
+    puts-as (sym (as-open (a .draft) (a .body .now) (a .args .now) (c .before .before .before .before .match .keys4)))
+    (c .before .before .put-open .ensures)
 
 returns-5 : tie.Need-returns-5
 returns-5 c =
     let a = c .before .before .before .before .before .before .before .before .before .args in
-    puts-as (sym (as-close (a .draft) (a .body .now) (a .args .now) (c .before .before .before .before .before .match .keys5))) (c .before .before .put-number2 .ensures)
+    puts-as (sym (as-close (a .draft) (a .body .now) (a .args .now) (c .before .before .before .before .before .match .keys5)))
+    (c .before .before .put-number2 .ensures)
 
 returns-6 : tie.Need-returns-6
 returns-6 c =
     let a = c .before .before .before .before .before .before .before .before .args in
-    puts-as (sym (as-fetch (a .draft) (a .body .now) (a .args .now) (c .before .before .before .before .match .keys6))) (c .before .before .put-fetch .ensures)
+    puts-as (sym (as-fetch (a .draft) (a .body .now) (a .args .now) (c .before .before .before .before .match .keys6)))
+    (c .before .before .put-fetch .ensures)
 
 returns-7 : tie.Need-returns-7
 returns-7 c =
     let a = c .before .before .before .before .args in
-    puts-as (sym (as-none (a .draft) (a .body .now) (a .args .now) (c .match .rest .0 .0 .0 .0 .0 .1) (c .match .rest .0 .0 .0 .0 .1) (c .match .rest .0 .0 .0 .1) (c .match .rest .0 .0 .1) (c .match .rest .0 .1) (c .match .rest .1)))
+    puts-as (sym (as-none (a .draft) (a .body .now) (a .args .now) (c .match .rest .0 .0 .0 .0 .0 .1) (c .match .rest .0 .0 .0 .0 .1)
+    (c .match .rest .0 .0 .0 .1) (c .match .rest .0 .0 .1) (c .match .rest .0 .1) (c .match .rest .1)))
     (puts-empty (a .buf .now) (a .at))
 
 pub put-payload-spec : {M : Type 1} → statement M

@@ -24,14 +24,21 @@ put-prefix-requires c κs =
 put-prepare-stmt-requires : tie.Need-put-prepare-stmt-requires
 put-prepare-stmt-requires c κs =
     let a = c .before .before .before .before .before .before .before .before .before .before .before .before .before .args in
-    omega (arith, prepare-parts (a .draft) (a .body .now), ap (λ (n : ℕ). length (prefixOf 2 n)) (c .before .before .before .before .prepare-stmt-len .ensures))
+    omega (
+      arith,
+      prepare-parts (a .draft) (a .body .now),
+      ap (λ (n : ℕ). length (prefixOf 2 n))
+          (c .before .before .before .before .prepare-stmt-len .ensures),
+    )
 
 returns : tie.Need-returns
 unfolding preparePayload
 returns c =
     let a = c .before .before .before .before .before .before .before .before .before .before .before .before .before .before .before .before .args in
     puts-then (c .before .before .before .before .before .before .before .before .before .before .before .put-number .ensures)
-    (puts-counted 2 (prepareStmtPayload (a .draft) (a .body .now)) (c .before .before .before .before .before .before .before .prepare-stmt-len .ensures) (c .before .before .before .before .before .before .put-prefix .ensures) (c .before .before .put-prepare-stmt .ensures))
+    (puts-counted 2 (prepareStmtPayload (a .draft) (a .body .now))
+    (c .before .before .before .before .before .before .before .prepare-stmt-len .ensures)
+    (c .before .before .before .before .before .before .put-prefix .ensures) (c .before .before .put-prepare-stmt .ensures))
 
 pub put-prepare-spec : {M : Type 1} → statement M
 put-prepare-spec =

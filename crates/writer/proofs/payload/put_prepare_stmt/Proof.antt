@@ -20,11 +20,21 @@ put-number-requires c κs =
 
 put-prefix-requires : tie.Need-put-prefix-requires
 put-prefix-requires c κs = let a = c .before .before .before .before .before .before .before .before .args in
-    omega (arith, prepare-stmt-parts (a .draft) (a .body .now), ap (λ (k : ℕ). length (prefixOf k (length (a .body .now)))) (c .before .before .before .before .before .chosen-field .ensures .0))
+    omega (
+      arith,
+      prepare-stmt-parts (a .draft) (a .body .now),
+      ap (λ (k : ℕ). length (prefixOf k (length (a .body .now))))
+          (c .before .before .before .before .before .chosen-field .ensures .0),
+    )
 
 put-slice-requires : tie.Need-put-slice-requires
 put-slice-requires c κs = let a = c .before .before .before .before .before .before .before .before .before .before .before .before .args in
-    omega (arith, prepare-stmt-parts (a .draft) (a .body .now), ap (λ (k : ℕ). length (prefixOf k (length (a .body .now)))) (c .before .before .before .before .before .before .before .before .before .chosen-field .ensures .0))
+    omega (
+      arith,
+      prepare-stmt-parts (a .draft) (a .body .now),
+      ap (λ (k : ℕ). length (prefixOf k (length (a .body .now))))
+          (c .before .before .before .before .before .before .before .before .before .chosen-field .ensures .0),
+    )
 
 returns : tie.Need-returns
 unfolding prepareStmtPayload
@@ -33,7 +43,8 @@ returns c =
     let k = c .before .before .before .before .before .before .before .before .before .before .before .before .chosen-field in
     puts-as (ap (λ (n : ℕ). numberField 1 (a .draft .choice) ++ bytesField n (a .body .now)) (k .ensures .0))
     (puts-then (c .before .before .before .before .before .before .before .before .before .before .put-number .ensures)
-    (puts-counted (k .result) (a .body .now) refl (c .before .before .before .before .before .before .put-prefix .ensures) (c .before .before .put-slice .ensures)))
+    (puts-counted (k .result) (a .body .now) refl (c .before .before .before .before .before .before .put-prefix .ensures)
+    (c .before .before .put-slice .ensures)))
 
 pub put-prepare-stmt-spec : {M : Type 1} → statement M
 put-prepare-stmt-spec =

@@ -1,0 +1,152 @@
+// Messages as they are written: a line each with the reason, the length and the frame's bytes in hex.
+use libc::STDOUT_FILENO;
+use writer::Draft;
+use writer::Sent;
+
+fn wide(b: u8) -> u64 {
+    b as u64
+}
+
+// The first n bytes.
+fn print_bytes(buf: &[u8], n: usize) {
+    let mut i = 0;
+    while i < n {
+        if i < buf.len() {
+            io::print_hex(STDOUT_FILENO, wide(buf[i]), 2);
+        }
+        i += 1;
+    }
+}
+
+// A draft of this kind with these ids and nothing else.
+fn draft(kind: u64, stmt: u32, cursor: u32) -> Draft {
+    Draft {
+        kind,
+        stmt,
+        cursor,
+        hasrows: false,
+        rows: 0,
+        hascompact: false,
+        compact: false,
+        choice: 0,
+    }
+}
+
+// The answer, and the first bytes of the frame, at most `shown`.
+fn print_sent(r: Sent, buf: &[u8], shown: usize) {
+    io::print_decimal(STDOUT_FILENO, r.reason);
+    io::write_all(STDOUT_FILENO, b" ");
+    io::print_decimal(STDOUT_FILENO, r.len as u64);
+    io::write_all(STDOUT_FILENO, b" ");
+    if r.len < shown {
+        print_bytes(buf, r.len);
+    } else {
+        print_bytes(buf, shown);
+    }
+    io::write_all(STDOUT_FILENO, b"\n");
+}
+
+fn print_message(d: Draft, body: &[u8], args: &[u8]) {
+    let mut space = [0u8; 64];
+    let buf: &mut [u8] = &mut space;
+    let r = writer::write_message(d, body, args, buf);
+    print_sent(r, buf, 64);
+}
+
+// The kinds that are written from ids and rows.
+fn print_plain() {
+    print_message(draft(6, 9, 9), b"", b"");
+    print_message(draft(7, 9, 9), b"", b"");
+    print_message(draft(42, 4294967295, 9), b"", b"");
+    print_message(draft(44, 9, 128), b"", b"");
+    print_message(draft(45, 9, 1), b"", b"");
+    let mut d = draft(45, 9, 1);
+    d.hasrows = true;
+    d.rows = 2;
+    print_message(d, b"", b"");
+    d.rows = 0;
+    print_message(d, b"", b"");
+}
+
+// Execute and Open, with no argument and with the uint 7.
+fn print_execute(seven: &[u8]) {
+    let mut d = draft(41, 300, 9);
+    print_message(d, b"", b"");
+    d.hascompact = true;
+    d.compact = true;
+    print_message(d, b"", seven);
+    d.compact = false;
+    print_message(d, b"", seven);
+    let mut o = draft(43, 1, 1);
+    o.hasrows = true;
+    o.rows = 1;
+    print_message(o, b"", b"");
+    o.hascompact = true;
+    print_message(o, b"", seven);
+}
+
+fn print_prepare() {
+    let mut d = draft(40, 1, 9);
+    d.choice = 5;
+    print_message(d, b"\x0a\x01S", b"");
+    d.choice = 0;
+    print_message(d, b"", b"");
+    d.choice = 4;
+    print_message(d, b"\x08\x01", b"");
+}
+
+// Refused 6: an unknown kind, an unlisted type, a bad body, another field in the stretch, a cut one.
+fn print_bad() {
+    print_message(draft(8, 1, 1), b"", b"");
+    let mut d = draft(40, 1, 9);
+    d.choice = 3;
+    print_message(d, b"", b"");
+    d.choice = 5;
+    print_message(d, b"", b"");
+    print_message(draft(41, 1, 1), b"", b"\x18\x01");
+    print_message(
+        draft(41, 1, 1),
+        b"",
+        b"\x12\x08\x08\x01\x12\x04\x08\x02\x18",
+    );
+}
+
+// A Find body of one field, as long as `body` is, that meets or passes the frame's limit.
+fn print_long(body: &mut [u8], low: u8) {
+    if body.len() < 4 {
+        return;
+    }
+    body[0] = 0x0a;
+    body[1] = low;
+    body[2] = 0xff;
+    body[3] = 0x03;
+    let mut space = [0u8; 65540];
+    let buf: &mut [u8] = &mut space;
+    let r = writer::write_message(draft(40, 1, 0), body, b"", buf);
+    print_sent(r, buf, 13);
+}
+
+// A frame of seven bytes into a buffer of n, and all that it then holds.
+fn print_room(buf: &mut [u8]) {
+    let r = writer::write_message(draft(45, 9, 1), b"", b"", buf);
+    print_sent(r, buf, 7);
+    print_bytes(buf, buf.len());
+    io::write_all(STDOUT_FILENO, b"\n");
+}
+
+fn main() {
+    print_plain();
+    print_execute(b"\x12\x08\x08\x01\x12\x04\x08\x02\x18\x07");
+    print_prepare();
+    print_bad();
+    let mut meets = [0u8; 65519];
+    print_long(&mut meets, 0xeb);
+    let mut passes = [0u8; 65520];
+    print_long(&mut passes, 0xec);
+    let mut short = [7u8; 6];
+    print_room(&mut short);
+    let mut exact = [7u8; 7];
+    print_room(&mut exact);
+    let mut long = [7u8; 9];
+    print_room(&mut long);
+}
