@@ -3,8 +3,8 @@
 
 The input: the published examples of the Protocol Buffers encoding guide, document 01's samples of
 frames, varints, groups and scalars, and frames on both sides of each rule of reading. The expected
-output comes from the reader below, which is written from document 01 alone and shares no code with the
-library, and from the values that the guide publishes, which are asserted here.
+output comes from the reader below, which shares no code with the library (its authors wrote both, so a
+misreading that both share would not show), and from the values that the guide publishes, which are asserted here.
 
     python3 tests/reading/vectors.py        writes crates/read_samples/stdin and stdout
 """
