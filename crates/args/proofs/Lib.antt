@@ -3,3 +3,4 @@ pub mod ValueLaws
 pub mod PlaceLaws
 pub mod ArgumentsLaws
 pub mod TypedLaws
+pub mod ArrayLaws

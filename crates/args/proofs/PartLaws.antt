@@ -2,12 +2,13 @@
 use Prim.Native.Nat.{ℕ, _+_, _-_, _≤_, _<_}
 use native.Mathlib.Omega.{arith}
 use mathlib.Core.Bool.{Bool, true, false, cond}
-use mathlib.Core.Path.{_≡_, sym, ap}
+use mathlib.Core.Path.{_≡_, refl, sym, ap, subst}
 use mathlib.Core.List.{List}
 use lib.ListN.{length, take}
 use borrow.Author.Tests.{le-leb, lt-leb}
 use Rattle.layout.specs.Slots.{badSlots}
-use Rattle.layout.specs.Fields.{fieldsAt}
+use Rattle.layout.specs.Fields.{fieldsAt, Noted, Holds}
+use Rattle.layout.specs.declared.slots.Slots.{Slots}
 use Rattle.args.specs.Part.{embedded}
 
 -- a test that is known
@@ -18,8 +19,13 @@ pub no : {A : Type 0} (x y : A) {b : Bool} → b ≡ false → y ≡ cond b x y
 no x y e = ap (λ (t : Bool). cond t x y) (sym e)
 
 module _ (rows : List (List ℕ)) (s : List ℕ) (start len : ℕ) where
-  pub part-past : length s < start + len → badSlots ≡ embedded rows s start len
+  part-past : length s < start + len → badSlots ≡ embedded rows s start len
   part-past h = simp (lt-leb (start + len) (length s) h)
 
   pub part-within : start + len ≤ length s → fieldsAt rows (take (start + len) s) start ≡ embedded rows s start len
   part-within h = simp (le-leb (start + len) (length s) h)
+
+  pub holds-past : {seen : List Bool} {values starts : List ℕ} → length s < start + len → Noted badSlots seen values starts →
+      Holds (embedded rows s start len) false seen values starts
+  holds-past {seen} {values} {starts} h n =
+      subst (λ (y : Slots). Holds y false seen values starts) (part-past h) (record { answer = refl; held = n })

@@ -4,15 +4,18 @@ use native.Mathlib.Omega.{arith}
 use mathlib.Core.Bool.{Bool, true, false, cond}
 use mathlib.Core.Path.{_≡_, refl, sym, ap, _∙_}
 use mathlib.Core.List.{List}
-use lib.ListN.{length}
+use lib.ListN.{length, getD}
 use lib.Dec.{ltb, eqb}
 use borrow.Author.Tests.{lt-ltb, le-ltb, eq-eqb, ne-eqb, ltb-true}
 use Rattle.varint.proofs.PastLaws.{both}
-use Rattle.wire.specs.Field.{fieldAt}
+use Rattle.wire.specs.Value.{asLength}
+use Rattle.wire.specs.Field.{ofValue, fieldAt}
 use Rattle.wire.specs.Past.{PastField}
+use Rattle.wire.specs.declared.value.Value.{Value}
 use Rattle.wire.specs.declared.field.Field.{Field}
+use Rattle.wire.proofs.FieldLaws.{quick-wire}
 use Rattle.wire.proofs.PastLaws.{field-past}
-use Rattle.args.specs.Arguments.{ofField, placeFrom, argPlace, ofPlace, nextArgument}
+use Rattle.args.specs.Arguments.{ofField, placeOf, placeFrom, argPlace, ofPlace, nextArgument}
 use Rattle.args.specs.declared.arguments.ArgPlace.{ArgPlace}
 use Rattle.args.specs.declared.arguments.NextArgument.{NextArgument}
 
@@ -72,6 +75,20 @@ module _ {s : List ℕ} {at p : ℕ} (k : Seeking s at p) (inside : p < length s
 
     pub other-number : (number ≡ 2 → ⊥) → Seeking s at next
     other-number h = on (sym (simp (ne-eqb number 2 h)) ∙ turn (Field.Good number wire v start len next) e)
+
+-- at the end there is none; an args field at the very place is the next
+pub place-none : (s : List ℕ) (at : ℕ) → length s ≤ at → ArgPlace.End ≡ argPlace s at
+place-none s at h = ends (starts s at) h
+
+pub place-here : (s : List ℕ) (at : ℕ) → at < length s → getD s at 0 ≡ 18 → placeOf (asLength s (at + 1)) ≡ argPlace s at
+place-here s at h e = go (asLength s (at + 1)) refl
+  where
+    here : (v : Value) → asLength s (at + 1) ≡ v → fieldAt s at ≡ ofValue 2 2 v
+    here v f = sym (quick-wire s at 18 h (sym e) (omega arith) 2 (omega arith) refl (omega arith)) ∙ ap (ofValue 2 2) f
+
+    go : (v : Value) → asLength s (at + 1) ≡ v → placeOf v ≡ argPlace s at
+    go (Value.Good n start len next) f = found (starts s at) h (here (Value.Good n start len next) f) refl refl
+    go Value.Bad f = no-field (starts s at) h (here Value.Bad f)
 
 -- the next argument ends past the place asked, and within the bytes
 abbrev PastPlace : ℕ → ℕ → ArgPlace → Type 0

@@ -11,24 +11,12 @@ use Rattle.args.specs.Part.{startOf, lenOf, valueOf, low32}
 use Rattle.args.proofs.PartLaws.{yes, no as without}
 use Rattle.args.specs.Value.{bad, present, bytesOf, ofType, scalarOf, ofAnyType, anyOf}
 
-pub present-no : (count : ℕ) (a : Argument) → count ≡ 0 → bad ≡ present count a
-present-no count a h = simp (eq-eqb count 0 h)
-
-pub present-yes : (count : ℕ) (a : Argument) → (count ≡ 0 → ⊥) → a ≡ present count a
-present-yes count a h = simp (ne-eqb count 0 h)
-
 module _ (b : Bool) (x : Slots) where
   abbrev chosen : Argument
   chosen = cond b (Va.Octets (startOf x 1) (lenOf x 1)) (Va.String (startOf x 1) (lenOf x 1))
 
   pub bytes-bad : x .good ≡ false → bad ≡ bytesOf b x
   bytes-bad g = without chosen bad g
-
-  pub bytes-octets : x .good ≡ true → b ≡ true → Va.Octets (startOf x 1) (lenOf x 1) ≡ bytesOf b x
-  bytes-octets g e = yes _ _ e ∙ yes chosen bad g
-
-  pub bytes-string : x .good ≡ true → b ≡ false → Va.String (startOf x 1) (lenOf x 1) ≡ bytesOf b x
-  bytes-string g e = without _ _ e ∙ yes chosen bad g
 
 module _ (s : List ℕ) (x : Slots) where
   pub scalar-bad : x .good ≡ false → bad ≡ scalarOf s x

@@ -6,6 +6,7 @@ use lib.ListN.{length, getD}
 use lib.Dec.{ltb, eqb}
 use Rattle.wire.specs.Field.{fieldAt}
 use Rattle.wire.specs.declared.field.Field.{Field}
+use Rattle.wire.specs.declared.value.Value.{Value}
 use Rattle.scalar.specs.Argument.{reasonOf, valuesOf}
 use Rattle.scalar.specs.declared.argument.Argument.{Argument}
 use Rattle.scalar.specs.declared.argument.Argument.the-variants as Va
@@ -29,6 +30,11 @@ placeFrom (suc most) s at =
 
 abbrev pub argPlace : List ℕ → ℕ → ArgPlace
 argPlace s at = placeFrom (length s) s at
+
+-- an args field by its value
+abbrev pub placeOf : Value → ArgPlace
+placeOf (Value.Good n start len next) = ArgPlace.At start len next
+placeOf Value.Bad = ArgPlace.Bad
 
 abbrev pub ofPlace : List ℕ → ArgPlace → NextArgument
 ofPlace s (ArgPlace.At start len next) = NextArgument.Found (argumentIn s start len) next

@@ -42,10 +42,14 @@ ofType s x t =
 unfoldable pub scalarOf : List ℕ → Slots → Argument
 scalarOf s x = cond (x .good) (ofType s x (low32 (valueOf x 1))) bad
 
+-- the Scalar in n bytes of s from the place `at` on
+abbrev pub scalarIn : List ℕ → ℕ → ℕ → Argument
+scalarIn s at n = scalarOf s (embedded (rowsOf scalar) s at n)
+
 -- by the Any's type: 1 scalar, 2 object, 3 array
 unfoldable pub ofAnyType : List ℕ → Slots → ℕ → Argument
 ofAnyType s x t =
-    cond (eqb t 1) (present (countOf x 2) (scalarOf s (embedded (rowsOf scalar) s (startOf x 2) (lenOf x 2))))
+    cond (eqb t 1) (present (countOf x 2) (scalarIn s (startOf x 2) (lenOf x 2)))
     (cond (eqb t 2) Va.Object (cond (eqb t 3) Va.Array bad))
 
 unfoldable pub anyOf : List ℕ → Slots → Argument

@@ -10,10 +10,12 @@ ghost use Rattle.args.specs.Arguments.{
   nextArgument,
   noArguments,
   nthArgument,
+  placeOf,
   withType,
 };
 use scalar::argument::Argument;
 use wire::field::Field;
+use wire::value::Value;
 
 // Where the next args field stands: its value's place and length and the place behind it; none left; or
 // a bad field on the way.
@@ -35,6 +37,7 @@ pub enum NextArgument {
 
 // The arguments in the bytes from `start` to `end`: how many there are, and the first object (kind 2) or
 // array (kind 3) among them with its index (kind 0: none). `good` says that each one is.
+#[repr(C)]
 pub struct Arguments {
     pub good: bool,
     pub count: usize,
@@ -93,7 +96,10 @@ impl Arguments {
     }
 }
 
-fn next_place(s: &[u8], at: usize) -> ArgPlace
+// The tag of an args field in one byte: number 2, wire type 2.
+const ARGS_TAG: u8 = 18;
+
+fn seek_place(s: &[u8], at: usize) -> ArgPlace
     ensures { λ r. ⌜ r ≡ argPlace (now (s .entry)) at ⌝ }
 {
     let mut p = at;
@@ -117,6 +123,35 @@ fn next_place(s: &[u8], at: usize) -> ArgPlace
         p = next;
     }
     ArgPlace::End
+}
+
+// An args field whose value was read.
+fn place_of(read: Value) -> ArgPlace
+    ensures { λ r. ⌜ r ≡ placeOf read ⌝ }
+{
+    match read {
+        Value::Good {
+            number: _,
+            start,
+            len,
+            next,
+        } => ArgPlace::At { start, len, next },
+        Value::Bad => ArgPlace::Bad,
+    }
+}
+
+// The same, with a short way for an args field at the very place, as the next one mostly is.
+fn next_place(s: &[u8], at: usize) -> ArgPlace
+    ensures { λ r. ⌜ r ≡ argPlace (now (s .entry)) at ⌝ }
+{
+    let n = s.len();
+    if n <= at {
+        return ArgPlace::End;
+    }
+    if s[at] == ARGS_TAG {
+        return place_of(wire::value::length_value(s, at + 1));
+    }
+    seek_place(&s[..n], at)
 }
 
 // The next argument of a message whose bytes end with s, at or behind the place `at`.

@@ -1,26 +1,34 @@
 // A message embedded in another, and the places of its fields.
 ghost use mathlib.Core.Path.{_≡_};
-ghost use Prim.Native.Nat.{_+_, _≤_};
-ghost use lib.ListN.{length};
+ghost use Rattle.layout.specs.Fields.{Holds};
 ghost use Rattle.args.specs.Part.{embedded};
-use layout::slots::Slots;
 
 // The place and length of some bytes of a frame.
+#[repr(C)]
 pub struct Part {
     pub start: usize,
     pub len: usize,
 }
 
-// The message with these rows in `len` bytes of s from `start` on.
-pub fn read_part(rows: &[[u16; 6]], s: &[u8], start: usize, len: usize) -> Slots
-    ensures { λ r. ⌜ r ≡ embedded (now (rows .entry)) (now (s .entry)) start len ⌝ }
+// The message with these rows in `len` bytes of s from `start` on, in arrays as fill_fields has them.
+pub fn fill_part(
+    rows: &[[u16; 6]],
+    s: &[u8],
+    start: usize,
+    len: usize,
+    seen: &mut [bool; 10],
+    values: &mut [u64; 10],
+    starts: &mut [usize; 10],
+) -> bool
+    ensures { λ r. ⌜ Holds (embedded (now (rows .entry)) (now (s .entry)) start len) r (now (seen .exit)) (now (values .exit)) (now (starts .exit)) ⌝ }
 {
     if s.len() < start {
-        return Slots::bad();
+        layout::fields::clear(seen, values, starts);
+        return false;
     }
     if s.len() - start < len {
-        return Slots::bad();
+        layout::fields::clear(seen, values, starts);
+        return false;
     }
-    let end = start + len;
-    layout::fields::read_fields(rows, &s[..end], start)
+    layout::fields::fill_fields(rows, s, start, start + len, seen, values, starts)
 }

@@ -1,18 +1,15 @@
 // The value of one argument: an Any, and the Scalar in it.
 ghost use mathlib.Core.Path.{_≡_};
-ghost use mathlib.Core.Bool.{true, false};
-ghost use Rattle.args.specs.Value.{anyOf, argumentIn, bytesIn, present, scalarOf};
-use layout::slots::Slots;
+ghost use mathlib.Core.Bool.{cond, true};
+ghost use Rattle.layout.specs.Fields.{fromArrays};
+ghost use Rattle.args.specs.Value.{anyOf, argumentIn, bad, bytesIn, scalarIn, scalarOf};
 use scalar::argument::Argument;
 
 // The named value must be present.
-fn needed(count: u64, a: Argument) -> Argument
-    ensures { λ r. ⌜ r ≡ present count a ⌝ }
+fn needed(has: bool, a: Argument) -> Argument
+    ensures { λ r. ⌜ r ≡ cond has a bad ⌝ }
 {
-    if count == 0 {
-        return Argument::Refused(6);
-    }
-    a
+    if has { a } else { Argument::Refused(6) }
 }
 
 // The bytes of an octets or a string message.
@@ -20,14 +17,14 @@ fn read_bytes(s: &[u8], at: usize, n: usize, octets: bool) -> Argument
     ensures { λ r. ⌜ r ≡ bytesIn octets (now (s .entry)) at n ⌝ }
 {
     let rows = layout::table::BYTES_ROWS;
-    let x = crate::part::read_part(&rows, s, at, n);
-    if !x.good {
+    let mut seen = [false; 10];
+    let mut values = [0; 10];
+    let mut starts = [0; 10];
+    if !crate::part::fill_part(&rows, s, at, n, &mut seen, &mut values, &mut starts) {
         return Argument::Refused(6);
     }
-    let starts = x.start;
-    let lens = x.len;
     let start = starts[1];
-    let len = lens[1];
+    let len = values[1] as usize;
     if octets {
         return Argument::Octets { start, len };
     }
@@ -35,51 +32,47 @@ fn read_bytes(s: &[u8], at: usize, n: usize, octets: bool) -> Argument
 }
 
 // The value that a Scalar's type names.
-fn read_scalar(s: &[u8], x: Slots) -> Argument
-    ensures { λ r. ⌜ r ≡ scalarOf (now (s .entry)) x ⌝ }
+fn scalar_value(s: &[u8], seen: &[bool; 10], values: &[u64; 10], starts: &[usize; 10]) -> Argument
+    ensures { λ r. ⌜ r ≡ scalarOf (now (s .entry)) (fromArrays true (now (seen .entry)) (now (values .entry)) (now (starts .entry))) ⌝ }
 {
-    if !x.good {
-        return Argument::Refused(6);
-    }
-    let count = x.count;
-    let value = x.value;
-    let start = x.start;
-    let len = x.len;
-    let t = value[1] % 0x1_0000_0000;
+    let t = values[1] % 0x1_0000_0000;
     match t {
-        1 => needed(count[2], scalar::argument::signed_argument(value[2])),
-        2 => needed(count[3], Argument::Unsigned(value[3])),
+        1 => needed(seen[2], scalar::argument::signed_argument(values[2])),
+        2 => needed(seen[3], Argument::Unsigned(values[3])),
         3 => Argument::Null,
-        4 => needed(count[5], read_bytes(s, start[5], len[5], true)),
-        5 => needed(count[6], scalar::argument::double_argument(value[6])),
+        4 => needed(seen[5], read_bytes(s, starts[5], values[5] as usize, true)),
+        5 => needed(seen[6], scalar::argument::double_argument(values[6])),
         6 => needed(
-            count[7],
-            scalar::argument::float_argument((value[7] % 0x1_0000_0000) as u32),
+            seen[7],
+            scalar::argument::float_argument((values[7] % 0x1_0000_0000) as u32),
         ),
-        7 => needed(count[8], Argument::Bool(value[8] != 0)),
-        8 => needed(count[9], read_bytes(s, start[9], len[9], false)),
+        7 => needed(seen[8], Argument::Bool(values[8] != 0)),
+        8 => needed(seen[9], read_bytes(s, starts[9], values[9] as usize, false)),
         _ => Argument::Refused(6),
     }
 }
 
-// The value of an Any: a scalar, an object or an array.
-fn read_any(s: &[u8], x: Slots) -> Argument
-    ensures { λ r. ⌜ r ≡ anyOf (now (s .entry)) x ⌝ }
+// The Scalar in `n` bytes of s from `at` on.
+fn read_scalar(s: &[u8], at: usize, n: usize) -> Argument
+    ensures { λ r. ⌜ r ≡ scalarIn (now (s .entry)) at n ⌝ }
 {
-    if !x.good {
+    let rows = layout::table::SCALAR_ROWS;
+    let mut seen = [false; 10];
+    let mut values = [0; 10];
+    let mut starts = [0; 10];
+    if !crate::part::fill_part(&rows, s, at, n, &mut seen, &mut values, &mut starts) {
         return Argument::Refused(6);
     }
-    let count = x.count;
-    let value = x.value;
-    let start = x.start;
-    let len = x.len;
-    let t = value[1] % 0x1_0000_0000;
+    scalar_value(s, &seen, &values, &starts)
+}
+
+// The value of an Any: a scalar, an object or an array.
+fn any_value(s: &[u8], seen: &[bool; 10], values: &[u64; 10], starts: &[usize; 10]) -> Argument
+    ensures { λ r. ⌜ r ≡ anyOf (now (s .entry)) (fromArrays true (now (seen .entry)) (now (values .entry)) (now (starts .entry))) ⌝ }
+{
+    let t = values[1] % 0x1_0000_0000;
     match t {
-        1 => {
-            let rows = layout::table::SCALAR_ROWS;
-            let y = crate::part::read_part(&rows, s, start[2], len[2]);
-            needed(count[2], read_scalar(s, y))
-        }
+        1 => needed(seen[2], read_scalar(s, starts[2], values[2] as usize)),
         2 => Argument::Object,
         3 => Argument::Array,
         _ => Argument::Refused(6),
@@ -91,5 +84,11 @@ pub fn read_argument(s: &[u8], at: usize, n: usize) -> Argument
     ensures { λ r. ⌜ r ≡ argumentIn (now (s .entry)) at n ⌝ }
 {
     let rows = layout::table::ANY_ROWS;
-    read_any(s, crate::part::read_part(&rows, s, at, n))
+    let mut seen = [false; 10];
+    let mut values = [0; 10];
+    let mut starts = [0; 10];
+    if !crate::part::fill_part(&rows, s, at, n, &mut seen, &mut values, &mut starts) {
+        return Argument::Refused(6);
+    }
+    any_value(s, &seen, &values, &starts)
 }

@@ -1,7 +1,7 @@
 // The one field-list reader, driven by a message's rows.
 ghost use mathlib.Core.Path.{_≡_};
-ghost use Rattle.layout.specs.Fields.{fieldList, fieldsAt, hasRequired, met, useOf};
-use crate::slots::Slots;
+ghost use Rattle.layout.specs.Slots.{badSlots, noSlots};
+ghost use Rattle.layout.specs.Fields.{Holds, Listed, Noted, fieldList, fieldsTo, hasSeen, metBy, useOf};
 use wire::field::Field;
 
 // What a message makes of a field: it is skipped, only counted (a repeated field, whose occurrences are
@@ -25,10 +25,27 @@ fn use_of(rows: &[[u16; 6]], number: u64, wire: u64, value: u64) -> Use
     Use::Kept
 }
 
-fn field_list(rows: &[[u16; 6]], s: &[u8], from: usize) -> Slots
-    ensures { λ r. ⌜ r ≡ fieldList (now (rows .entry)) (now (s .entry)) from ⌝ }
+// Arrays that hold nothing.
+pub fn clear(seen: &mut [bool; 10], values: &mut [u64; 10], starts: &mut [usize; 10])
+    ensures { λ r. ⌜ Noted badSlots (now (seen .exit)) (now (values .exit)) (now (starts .exit)) ⌝ }
 {
-    let mut slots = Slots::none();
+    *seen = [false; 10];
+    *values = [0; 10];
+    *starts = [0; 10];
+}
+
+// The fields of s from `from` on, noted in arrays that hold nothing yet; answers whether all are good.
+fn list_fields(
+    rows: &[[u16; 6]],
+    s: &[u8],
+    from: usize,
+    seen: &mut [bool; 10],
+    values: &mut [u64; 10],
+    starts: &mut [usize; 10],
+) -> bool
+    requires { ⌜ Noted noSlots (now seen) (now values) (now starts) ⌝ }
+    ensures { λ r. ⌜ Listed (fieldList (now (rows .entry)) (now (s .entry)) from) r (now (seen .exit)) (now (values .exit)) (now (starts .exit)) ⌝ }
+{
     let mut p = from;
     while p < s.len() {
         let Field::Good {
@@ -36,51 +53,50 @@ fn field_list(rows: &[[u16; 6]], s: &[u8], from: usize) -> Slots
             wire,
             value,
             start,
-            len,
+            len: _,
             next,
-        } = wire::field::read_field(s, p)
+        } = wire::field::quick_field(s, p)
         else {
-            return Slots::bad();
+            return false;
         };
         let k = number as usize;
         match use_of(rows, number, wire, value) {
             Use::Unknown => {}
             Use::Counted => {
-                slots.count[k] += 1;
+                seen[k] = true;
             }
             Use::Kept => {
-                slots.count[k] += 1;
-                slots.value[k] = value;
-                slots.start[k] = start;
-                slots.len[k] = len;
+                seen[k] = true;
+                values[k] = value;
+                starts[k] = start;
             }
         }
         p = next;
     }
-    slots
+    true
 }
 
 // Whether a row's field occurs, if it is required.
-fn row_met(row: [u16; 6], count: [u64; 10]) -> bool
-    ensures { λ r. ⌜ r ≡ met row count ⌝ }
+fn row_met(row: [u16; 6], seen: &[bool]) -> bool
+    ensures { λ r. ⌜ r ≡ metBy row (now (seen .entry)) ⌝ }
 {
     if row[3] != 1 {
         return true;
     }
     let k = crate::row::wide(row[1]) as usize;
-    if 10 <= k {
+    if seen.len() <= k {
         return false;
     }
-    count[k] != 0
+    seen[k]
 }
 
 // Whether each required field of the message occurs.
-fn has_required(rows: &[[u16; 6]], count: [u64; 10]) -> bool
-    ensures { λ r. ⌜ r ≡ hasRequired (now (rows .entry)) count ⌝ }
+fn has_required(rows: &[[u16; 6]], seen: &[bool]) -> bool
+    ensures { λ r. ⌜ r ≡ hasSeen (now (rows .entry)) (now (seen .entry)) ⌝ }
 {
     let mut i = 0;
     while i < rows.len() {
-        if !row_met(rows[i], count) {
+        if !row_met(rows[i], seen) {
             return false;
         }
         i += 1;
@@ -88,15 +104,30 @@ fn has_required(rows: &[[u16; 6]], count: [u64; 10]) -> bool
     true
 }
 
-// The message with these rows whose bytes go from `from` to the end of s.
-pub fn read_fields(rows: &[[u16; 6]], s: &[u8], from: usize) -> Slots
-    ensures { λ r. ⌜ r ≡ fieldsAt (now (rows .entry)) (now (s .entry)) from ⌝ }
+// The message with these rows whose bytes go from `from` to `end`. Answers whether it is good; the
+// arrays then hold, by field number, whether it occurs, its value and its place.
+pub fn fill_fields(
+    rows: &[[u16; 6]],
+    s: &[u8],
+    from: usize,
+    end: usize,
+    seen: &mut [bool; 10],
+    values: &mut [u64; 10],
+    starts: &mut [usize; 10],
+) -> bool
+    ensures { λ r. ⌜ Holds (fieldsTo (now (rows .entry)) (now (s .entry)) from end) r (now (seen .exit)) (now (values .exit)) (now (starts .exit)) ⌝ }
 {
-    let slots = field_list(rows, s, from);
-    let count = slots.count;
-    if has_required(rows, count) {
-        slots
-    } else {
-        Slots::bad()
+    clear(seen, values, starts);
+    if s.len() < end {
+        return false;
     }
+    if !list_fields(rows, &s[..end], from, seen, values, starts) {
+        clear(seen, values, starts);
+        return false;
+    }
+    if !has_required(rows, seen) {
+        clear(seen, values, starts);
+        return false;
+    }
+    true
 }

@@ -1,3 +1,4 @@
 pub mod HeadLaws
 pub mod MessageLaws
 pub mod WithinLaws
+pub mod ArrayLaws

@@ -17,8 +17,8 @@ use Rattle.args.specs.Part.{embedded, countOf, absent, valueOf, startOf, lenOf,
 use Rattle.args.specs.declared.part.Part.{Part}
 use Rattle.message.specs.Message.{message, blank, noOptional, noPart, optionalOf, refused, sound, truthOf}
 use Rattle.message.specs.Simple.{plainIn, deallocateIn, cursorIn}
-use Rattle.message.specs.Execute.{argumentsWithin, badExecute, executeOf, executeIn, executeFrom, openFrom, openOf}
-use Rattle.message.specs.Prepare.{chosen, bodyIn, prepareFrom, prepareChosen, prepareTyped, prepareOf}
+use Rattle.message.specs.Execute.{argumentsWithin, badExecute, executeOf, executeIn, executeFrom, openFrom}
+use Rattle.message.specs.Prepare.{chosen, bodyIn, prepareFrom, prepareChosen}
 use Rattle.message.specs.Frame.{messageIn, argumentIn}
 use Rattle.message.specs.declared.message.Message.{Message}
 use Rattle.message.specs.declared.message.Optional.{Optional}
@@ -102,36 +102,8 @@ module _ (s : List ℕ) (e : Execute) where
         (record { start = startOf y 2; len = lenOf y 2 })
         (e .args)
 
-    pub open-from-bad : e .good ≡ false → refused 6 (length s) ≡ openFrom s x y e
-    open-from-bad g = sound-no s (e .good) opening g
-
     pub open-from-good : e .good ≡ true → opening ≡ openFrom s x y e
     open-from-good g = sound-yes s (e .good) opening g
-
-module _ (s : List ℕ) (x y : Slots) where
-  abbrev inner : Message
-  inner = openFrom s x y (executeIn s (startOf y 2) (lenOf y 2))
-
-  abbrev chosen-inner : Message
-  chosen-inner = sound s (not (absent y 2)) inner
-
-  pub open-bad : x .good ≡ false → refused 6 (length s) ≡ openOf s x y
-  open-bad g = sound-no s (x .good) (sound s (y .good) chosen-inner) g
-
-  pub open-worse : x .good ≡ true → y .good ≡ false → refused 6 (length s) ≡ openOf s x y
-  open-worse g h = sound-no s (y .good) chosen-inner h ∙ sound-yes s (x .good) (sound s (y .good) chosen-inner) g
-
-  pub open-absent : x .good ≡ true → y .good ≡ true → countOf y 2 ≡ 0 → refused 6 (length s) ≡ openOf s x y
-  open-absent g h k =
-      sound-no s (not (absent y 2)) inner (ap not (eq-eqb (countOf y 2) 0 k))
-      ∙ sound-yes s (y .good) chosen-inner h
-      ∙ sound-yes s (x .good) (sound s (y .good) chosen-inner) g
-
-  pub open-there : x .good ≡ true → y .good ≡ true → (countOf y 2 ≡ 0 → ⊥) → inner ≡ openOf s x y
-  open-there g h k =
-      sound-yes s (not (absent y 2)) inner (ap not (ne-eqb (countOf y 2) 0 k))
-      ∙ sound-yes s (y .good) chosen-inner h
-      ∙ sound-yes s (x .good) (sound s (y .good) chosen-inner) g
 
 -- the field that a type chooses
 module _ (t : ℕ) where
@@ -199,19 +171,6 @@ module _ (s : List ℕ) (id t : ℕ) where
 
     pub prepare-there : (countOf y k ≡ 0 → ⊥) → body-at ≡ prepareChosen s id y t k
     prepare-there h = sound-yes s (not (absent y k)) body-at (ap not (ne-eqb (countOf y k) 0 h))
-
-module _ (s : List ℕ) (x y : Slots) where
-  abbrev typed : Message
-  typed = prepareTyped s (valueOf x 1) y (low32 (valueOf y 1))
-
-  pub prepare-bad : x .good ≡ false → refused 6 (length s) ≡ prepareOf s x y
-  prepare-bad g = sound-no s (x .good) (sound s (y .good) typed) g
-
-  pub prepare-worse : x .good ≡ true → y .good ≡ false → refused 6 (length s) ≡ prepareOf s x y
-  prepare-worse g h = sound-no s (y .good) typed h ∙ sound-yes s (x .good) (sound s (y .good) typed) g
-
-  pub prepare-good : x .good ≡ true → y .good ≡ true → typed ≡ prepareOf s x y
-  prepare-good g h = sound-yes s (y .good) typed h ∙ sound-yes s (x .good) (sound s (y .good) typed) g
 
 -- a type that is none of the eight
 pub kind-unknown : (s : List ℕ) (kind : ℕ) → (kind ≡ 6 → ⊥) → (kind ≡ 7 → ⊥) → (kind ≡ 40 → ⊥) → (kind ≡ 41 → ⊥) → (kind ≡ 42 → ⊥) →

@@ -58,8 +58,11 @@ abbrev pub blank : ℕ → ℕ → Message
 blank used kind = message used kind 0 0 noOptional noOptional 0 noPart (noArguments 0 0)
 
 -- an optional field
+abbrev pub optionalBy : Bool → ℕ → Optional
+optionalBy has value = record { present = has; value = value }
+
 abbrev pub optional : ℕ → ℕ → Optional
-optional count value = record { present = not (eqb count 0); value = value }
+optional count value = optionalBy (not (eqb count 0)) value
 
 abbrev pub optionalOf : Slots → ℕ → Optional
 optionalOf x k = optional (countOf x k) (valueOf x k)

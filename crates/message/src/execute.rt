@@ -6,16 +6,16 @@ ghost use Rattle.message.specs.Execute.{
   executeFrom,
   executeIn,
   executeMessage,
-  executeOf,
-  openFrom,
+  openInside,
+  openMade,
   openMessage,
-  openOf,
 };
 use crate::message::Message;
 use crate::message::Optional;
 use args::arguments::Arguments;
 use args::part::Part;
-use layout::slots::Slots;
+use args::part::fill_part;
+use layout::fields::fill_fields;
 
 // The parts of an Execute, also of the one in an Open.
 pub struct Execute {
@@ -55,33 +55,28 @@ pub fn arguments_within(s: &[u8], at: usize, n: usize) -> Arguments
     args::arguments::read_arguments(&s[..end], at)
 }
 
-fn execute_of(x: Slots, a: Arguments) -> Execute
-    ensures { λ r. ⌜ r ≡ executeOf x a ⌝ }
-{
-    if !x.good {
-        return Execute::bad();
-    }
-    if !a.good {
-        return Execute::bad();
-    }
-    let count = x.count;
-    let value = x.value;
-    let compact = crate::message::read_optional(count[3], value[3]);
-    Execute {
-        good: true,
-        stmt: value[1] % 0x1_0000_0000,
-        compact: crate::message::read_truth(compact),
-        args: a,
-    }
-}
-
 // An Execute in `n` bytes of s from `at` on.
 fn execute_in(s: &[u8], at: usize, n: usize) -> Execute
     ensures { λ r. ⌜ r ≡ executeIn (now (s .entry)) at n ⌝ }
 {
     let rows = layout::table::EXECUTE_ROWS;
-    let x = args::part::read_part(&rows, s, at, n);
-    execute_of(x, arguments_within(s, at, n))
+    let mut seen = [false; 10];
+    let mut values = [0; 10];
+    let mut starts = [0; 10];
+    if !fill_part(&rows, s, at, n, &mut seen, &mut values, &mut starts) {
+        return Execute::bad();
+    }
+    let args = arguments_within(s, at, n);
+    if !args.good {
+        return Execute::bad();
+    }
+    let compact = crate::message::read_optional(seen[3], values[3]);
+    Execute {
+        good: true,
+        stmt: values[1] % 0x1_0000_0000,
+        compact: crate::message::read_truth(compact),
+        args,
+    }
 }
 
 fn execute_from(s: &[u8], e: Execute) -> Message
@@ -108,26 +103,17 @@ pub fn read_execute(s: &[u8]) -> Message
     execute_from(s, execute_in(s, 5, s.len() - 5))
 }
 
-fn open_from(s: &[u8], x: Slots, y: Slots, e: Execute) -> Message
-    ensures { λ r. ⌜ r ≡ openFrom (now (s .entry)) x y e ⌝ }
+fn open_from(s: &[u8], id: u64, rows: Optional, body: Part, e: Execute) -> Message
+    ensures { λ r. ⌜ r ≡ openMade (now (s .entry)) id rows body e ⌝ }
 {
     if !e.good {
         return Message::refused(6, s.len());
     }
-    let count = x.count;
-    let value = x.value;
-    let start = y.start;
-    let len = y.len;
-    let rows = crate::message::read_optional(count[5], value[5]);
     let compact = e.compact;
     let args = e.args;
-    let body = Part {
-        start: start[2],
-        len: len[2],
-    };
     let mut m = Message::blank(s.len(), 43);
     m.stmt = e.stmt;
-    m.cursor = value[1] % 0x1_0000_0000;
+    m.cursor = id % 0x1_0000_0000;
     m.rows = rows;
     m.compact = compact;
     m.body = body;
@@ -135,32 +121,35 @@ fn open_from(s: &[u8], x: Slots, y: Slots, e: Execute) -> Message
     m
 }
 
-// An Open with these fields and those of its statement.
-fn open_of(s: &[u8], x: Slots, y: Slots) -> Message
-    ensures { λ r. ⌜ r ≡ openOf (now (s .entry)) x y ⌝ }
+// An Open with this cursor id and fetch_rows, and its statement in `n` bytes of s from `at` on.
+fn open_inside(s: &[u8], id: u64, asked: Optional, at: usize, n: usize) -> Message
+    ensures { λ r. ⌜ r ≡ openInside (now (s .entry)) id asked at n ⌝ }
 {
-    if !x.good {
+    let rows = layout::table::OPEN_STMT_ROWS;
+    let mut seen = [false; 10];
+    let mut values = [0; 10];
+    let mut starts = [0; 10];
+    if !fill_part(&rows, s, at, n, &mut seen, &mut values, &mut starts) {
         return Message::refused(6, s.len());
     }
-    if !y.good {
+    if !seen[2] {
         return Message::refused(6, s.len());
     }
-    let count = y.count;
-    if count[2] == 0 {
-        return Message::refused(6, s.len());
-    }
-    let start = y.start;
-    let len = y.len;
-    open_from(s, x, y, execute_in(s, start[2], len[2]))
+    let start = starts[2];
+    let len = values[2] as usize;
+    open_from(s, id, asked, Part { start, len }, execute_in(s, start, len))
 }
 
 pub fn read_open(s: &[u8]) -> Message
     ensures { λ r. ⌜ r ≡ openMessage (now (s .entry)) ⌝ }
 {
     let rows = layout::table::OPEN_ROWS;
-    let x = layout::fields::read_fields(&rows, s, 5);
-    let start = x.start;
-    let len = x.len;
-    let inner = layout::table::OPEN_STMT_ROWS;
-    open_of(s, x, args::part::read_part(&inner, s, start[4], len[4]))
+    let mut seen = [false; 10];
+    let mut values = [0; 10];
+    let mut starts = [0; 10];
+    if !fill_fields(&rows, s, 5, s.len(), &mut seen, &mut values, &mut starts) {
+        return Message::refused(6, s.len());
+    }
+    let asked = crate::message::read_optional(seen[5], values[5]);
+    open_inside(s, values[1], asked, starts[4], values[4] as usize)
 }

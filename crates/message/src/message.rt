@@ -1,10 +1,11 @@
 // One value that holds all of a client message but its bytes.
 ghost use mathlib.Core.Path.{_≡_};
-ghost use Rattle.message.specs.Message.{blank, optional, refused, truthOf};
+ghost use Rattle.message.specs.Message.{blank, optionalBy, refused, truthOf};
 use args::arguments::Arguments;
 use args::part::Part;
 
 // An optional field: whether it is present, and its value (0 where it is not).
+#[repr(C)]
 pub struct Optional {
     pub present: bool,
     pub value: u64,
@@ -12,6 +13,7 @@ pub struct Optional {
 
 // A message. `reason` is 0, or the number by which the frame is refused by itself, and then all else but
 // `used` is 0. `used` is the frame's length, 0 where it is refused 1 or 2.
+#[repr(C)]
 pub struct Message {
     pub reason: u64,
     pub used: usize,
@@ -63,12 +65,12 @@ impl Message {
     }
 }
 
-// An optional field that occurs `count` times.
-pub fn read_optional(count: u64, value: u64) -> Optional
-    ensures { λ r. ⌜ r ≡ optional count value ⌝ }
+// An optional field: whether it occurs, and its value.
+pub fn read_optional(has: bool, value: u64) -> Optional
+    ensures { λ r. ⌜ r ≡ optionalBy has value ⌝ }
 {
     Optional {
-        present: count != 0,
+        present: has,
         value,
     }
 }

@@ -115,3 +115,11 @@ module _ (low : ℕ) (s : List ℕ) (at : ℕ) (in-s : at < length s) where
   tenth-last h l =
       ap (λ (m : ℕ). Number m (at + 1)) (omega arith)
       ∙ ap (λ (x : Varint). low64 (onto low (2 ^ 63) x)) (sym (groups-last 0 s at in-s h))
+
+-- a varint of one byte, and none at the end of the bytes
+pub varint-one : (s : List ℕ) (at : ℕ) → at < length s → getD s at 0 < 128 → Number (getD s at 0) (at + 1) ≡ varintAt s at
+varint-one s at h b =
+    ap (λ (m : ℕ). Number m (at + 1)) (sym (mod-eq-of-lt {m = 2 ^ 64} (omega arith))) ∙ ap low64 (sym (groups-last 9 s at h b))
+
+pub varint-none : (s : List ℕ) (at : ℕ) → length s ≤ at → Bad ≡ varintAt s at
+varint-none s at h = ap low64 (sym (groups-end 10 s at h))

@@ -61,3 +61,22 @@ pub fn read_varint(s: &[u8], at: usize) -> Varint
     }
     last_group(s, i, value)
 }
+
+// The same, with a short way for a number of one byte, which most are. The slice is lent anew to the
+// long way, so that the short one keeps its place and length in registers.
+pub fn read_small(s: &[u8], at: usize) -> Varint
+    ensures { λ r. ⌜ r ≡ varintAt (now (s .entry)) at ⌝ }
+{
+    let n = s.len();
+    if n <= at {
+        return Varint::Bad;
+    }
+    let b = wide(s[at]);
+    if b < 128 {
+        return Varint::Number {
+            value: b,
+            next: at + 1,
+        };
+    }
+    read_varint(&s[..n], at)
+}

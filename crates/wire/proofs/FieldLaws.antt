@@ -1,10 +1,14 @@
 -- Fields, case by case. Assumes nothing.
-use Prim.Native.Nat.{ℕ, _≤_}
-use mathlib.Core.Path.{_≡_, ap}
+use Prim.Native.Nat.{ℕ, _+_, _/_, _%_, _≤_, _<_}
+use native.Mathlib.Omega.{arith}
+use mathlib.Core.Path.{_≡_, sym, ap, _∙_}
 use mathlib.Core.List.{List}
-use lib.ListN.{length}
+use lib.ListN.{length, getD}
 use borrow.Author.Tests.{eq-eqb, ne-eqb}
-use Rattle.wire.specs.Tag.{tagAt}
+use Rattle.varint.specs.Varint.{varintAt}
+use Rattle.varint.specs.declared.Varint.{Varint}
+use Rattle.varint.proofs.GroupLaws.{varint-one, varint-none}
+use Rattle.wire.specs.Tag.{tagOf, tagAt}
 use Rattle.wire.specs.Value.{valueAt}
 use Rattle.wire.specs.Group.{groupEnd}
 use Rattle.wire.specs.Field.{maxDepth, ofValue, ofGroup, fieldOf, ofTag, fieldAt}
@@ -12,6 +16,7 @@ use Rattle.wire.specs.Past.{PastSkip}
 use Rattle.wire.specs.declared.tag.Tag.{Tag}
 use Rattle.wire.specs.declared.group.Skip.{Skip}
 use Rattle.wire.specs.declared.field.Field.{Field}
+use Rattle.wire.proofs.TagLaws.{tag-low, tag-good}
 use Rattle.wire.proofs.PastLaws.{group-past}
 
 module _ (s : List ℕ) (n wire at : ℕ) where
@@ -30,3 +35,19 @@ group-ends depth s at n {next} e = go (group-past depth s at n)
 pub field-tagged : (s : List ℕ) (at : ℕ) (t : Tag) → tagAt s at ≡ t → fieldAt s at ≡ ofTag s t
 unfolding fieldAt
 field-tagged s at t e = ap (ofTag s) e
+
+-- the short way: no byte, or a tag of one byte
+pub quick-none : (s : List ℕ) (at : ℕ) → length s ≤ at → Field.Bad ≡ fieldAt s at
+quick-none s at h = sym (field-tagged s at Tag.Bad (ap tagOf (sym (varint-none s at h))))
+
+module _ (s : List ℕ) (at b : ℕ) (inside : at < length s) (is : b ≡ getD s at 0) (short : b < 128) where
+  one : Varint.Number b (at + 1) ≡ varintAt s at
+  one = rw is (varint-one s at inside (rw is at short))
+
+  pub quick-low : b < 8 → Field.Bad ≡ fieldAt s at
+  quick-low h = sym (field-tagged s at Tag.Bad (sym (tag-low b (at + 1) (omega arith) h ∙ ap tagOf one)))
+
+  pub quick-wire : (wire : ℕ) → 8 ≤ b → b % 8 ≡ wire → wire < 6 → fieldOf s (b / 8) wire (at + 1) ≡ fieldAt s at
+  quick-wire wire h e w =
+      ap (λ (k : ℕ). fieldOf s (b / 8) k (at + 1)) (sym e)
+      ∙ sym (field-tagged s at (Tag.Field (b / 8) (b % 8) (at + 1)) (sym (tag-good b (at + 1) (omega arith) h (omega arith) ∙ ap tagOf one)))

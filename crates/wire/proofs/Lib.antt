@@ -3,3 +3,4 @@ pub mod ValueLaws
 pub mod PastLaws
 pub mod GroupLaws
 pub mod FieldLaws
+pub mod LongLaws

@@ -1,6 +1,6 @@
 // One field of a message: a tag and its value, or a whole group.
 ghost use mathlib.Core.Path.{_≡_};
-ghost use Rattle.wire.specs.Field.{fieldAt, fieldOf};
+ghost use Rattle.wire.specs.Field.{fieldAt, fieldOf, ofValue};
 use crate::group::Skip;
 use crate::tag::Tag;
 use crate::value::Value;
@@ -21,23 +21,11 @@ pub enum Field {
     Bad,
 }
 
-fn tagged(s: &[u8], n: u64, wire: u64, at: usize) -> Field
-    ensures { λ r. ⌜ r ≡ fieldOf (now (s .entry)) n wire at ⌝ }
+// The field of a value that was read.
+fn valued(n: u64, wire: u64, read: Value) -> Field
+    ensures { λ r. ⌜ r ≡ ofValue n wire read ⌝ }
 {
-    if wire == 3 {
-        return match crate::group::skip_group(s, at, n, MAX_DEPTH) {
-            Skip::At(next) => Field::Good {
-                number: n,
-                wire: 3,
-                value: 0,
-                start: at,
-                len: next - at,
-                next,
-            },
-            Skip::Bad => Field::Bad,
-        };
-    }
-    match crate::value::read_value(s, wire, at) {
+    match read {
         Value::Good {
             number: v,
             start,
@@ -55,6 +43,25 @@ fn tagged(s: &[u8], n: u64, wire: u64, at: usize) -> Field
     }
 }
 
+fn tagged(s: &[u8], n: u64, wire: u64, at: usize) -> Field
+    ensures { λ r. ⌜ r ≡ fieldOf (now (s .entry)) n wire at ⌝ }
+{
+    if wire == 3 {
+        return match crate::group::skip_group(s, at, n, MAX_DEPTH) {
+            Skip::At(next) => Field::Good {
+                number: n,
+                wire: 3,
+                value: 0,
+                start: at,
+                len: next - at,
+                next,
+            },
+            Skip::Bad => Field::Bad,
+        };
+    }
+    valued(n, wire, crate::value::read_value(s, wire, at))
+}
+
 pub fn read_field(s: &[u8], at: usize) -> Field
     ensures { λ r. ⌜ r ≡ fieldAt (now (s .entry)) at ⌝ }
 {
@@ -62,4 +69,35 @@ pub fn read_field(s: &[u8], at: usize) -> Field
         Tag::Field { number, wire, next } => tagged(s, number, wire, next),
         Tag::Bad => Field::Bad,
     }
+}
+
+// A cast of a byte that asks nothing.
+fn wide(b: u8) -> u64
+    ensures { λ r. ⌜ r ≡ b ⌝ }
+{
+    b as u64
+}
+
+// The same, with a short way for a tag of one byte and wire type 0 or 2, as most fields have.
+pub fn quick_field(s: &[u8], at: usize) -> Field
+    ensures { λ r. ⌜ r ≡ fieldAt (now (s .entry)) at ⌝ }
+{
+    let n = s.len();
+    if n <= at {
+        return Field::Bad;
+    }
+    let tag = wide(s[at]);
+    if tag < 8 {
+        return Field::Bad;
+    }
+    if tag < 128 {
+        let wire = tag % 8;
+        if wire == 0 {
+            return valued(tag / 8, 0, crate::value::number_value(s, at + 1));
+        }
+        if wire == 2 {
+            return valued(tag / 8, 2, crate::value::length_value(s, at + 1));
+        }
+    }
+    read_field(&s[..n], at)
 }

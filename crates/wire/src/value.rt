@@ -16,10 +16,11 @@ pub enum Value {
     Bad,
 }
 
-fn number_value(s: &[u8], at: usize) -> Value
+// A varint.
+pub fn number_value(s: &[u8], at: usize) -> Value
     ensures { λ r. ⌜ r ≡ asNumber (now (s .entry)) at ⌝ }
 {
-    match varint::read_varint(s, at) {
+    match varint::read_small(s, at) {
         Varint::Number { value, next } => Value::Good {
             number: value,
             start: at,
@@ -30,10 +31,11 @@ fn number_value(s: &[u8], at: usize) -> Value
     }
 }
 
-fn length_value(s: &[u8], at: usize) -> Value
+// A length and as many bytes.
+pub fn length_value(s: &[u8], at: usize) -> Value
     ensures { λ r. ⌜ r ≡ asLength (now (s .entry)) at ⌝ }
 {
-    match varint::read_varint(s, at) {
+    match varint::read_small(s, at) {
         Varint::Number { value, next } => {
             let len = value as usize;
             if s.len() - next < len {

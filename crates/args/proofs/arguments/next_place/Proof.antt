@@ -1,59 +1,43 @@
 -- `args::arguments::next_place` meets its contract. Assumes nothing.
-use borrow.Author.Needs.{needs}
-use Prim.Native.Nat.{_-_}
-use native.Mathlib.Omega.{arith}
+use Prim.Native.Nat.{ℕ}
+use mathlib.Core.Path.{sym, ap, _∙_}
+use mathlib.Core.List.{List}
 use lib.ListN.{length}
-use Rattle.args.proofs.PlaceLaws.{Seeking, starts, ends, no-field, advances, found, other-wire, other-number}
-use mathlib.Core.Path.{sym, _∙_}
+use lib.Seq.{take-length}
+use Rattle.args.specs.Arguments.{placeOf, argPlace}
+use Rattle.args.proofs.PlaceLaws.{place-none, place-here}
+use borrow.Author.Needs.{needs}
 use Rattle.args.proofs.arguments.next_place.Statement.{statement}
 use Rattle.args.proofs.arguments.next_place.Tie as tie
 
-abbrev Inv-loop : tie.InvT-loop
-Inv-loop s at p₀ p = Seeking s at p
+returns : tie.Need-returns
+returns c = let a = c .before .before .args in place-none (a .s .now) (a .at) (c .if1 .taken)
 
-abbrev μ-loop : tie.MeasureT-loop
-μ-loop s at p₀ p = length s - p
+returns-2 : tie.Need-returns-2
+returns-2 c =
+    let a = c .before .before .before .before .before .before .args in
+    c .place-of .ensures
+    ∙ ap placeOf (c .before .length-value .ensures)
+    ∙ place-here (a .s .now) (a .at) (c .before .before .before .before .if1 .left) (c .before .before .if2 .taken)
 
-loop-holds : tie.Need-loop-holds Inv-loop μ-loop
-loop-holds c = starts (c .before .args .s .now) (c .before .args .at)
+slice-aggregate-seek-place : tie.Need-slice-aggregate-seek-place
+slice-aggregate-seek-place c = sym (ap length (take-length (c .before .before .before .before .before .args .s .now)))
 
-returns : tie.Need-returns Inv-loop μ-loop
-returns c =
-    no-field (c .before .before .before .before .loop .inv) (c .before .before .before .loop-test .taken)
-    (sym (c .before .before .read-field .ensures) ∙ c .enum-told .given .1)
-
-returns-2 : tie.Need-returns-2 Inv-loop μ-loop
-returns-2 c = found (c .before .before .before .before .before .before .before .loop .inv) (c .before .before .before .before .before .before .loop-test .taken) (sym (c .before .before .before .before .before .read-field .ensures) ∙ c .before .before .before .number .given .1) (c .before .if1 .taken) (c .if2 .taken)
-
-loop-less : tie.Need-loop-less Inv-loop μ-loop
-loop-less c = omega (arith, c .before .before .before .before .before .before .loop-test .taken, advances (c .before .before .before .before .before .before .before .loop .inv) (c .before .before .before .before .before .before .loop-test .taken) (sym (c .before .before .before .before .before .read-field .ensures) ∙ c .before .before .before .number .given .1))
-
-loop-again : tie.Need-loop-again Inv-loop μ-loop
-loop-again c = other-wire (c .before .before .before .before .before .before .before .loop .inv) (c .before .before .before .before .before .before .loop-test .taken) (sym (c .before .before .before .before .before .read-field .ensures) ∙ c .before .before .before .number .given .1) (c .before .if1 .taken) (c .if2 .left)
-
-loop-less-2 : tie.Need-loop-less-2 Inv-loop μ-loop
-loop-less-2 c = omega (arith, c .before .before .before .before .before .loop-test .taken, advances (c .before .before .before .before .before .before .loop .inv) (c .before .before .before .before .before .loop-test .taken) (sym (c .before .before .before .before .read-field .ensures) ∙ c .before .before .number .given .1))
-
-loop-again-2 : tie.Need-loop-again-2 Inv-loop μ-loop
-loop-again-2 c = other-number (c .before .before .before .before .before .before .loop .inv) (c .before .before .before .before .before .loop-test .taken) (sym (c .before .before .before .before .read-field .ensures) ∙ c .before .before .number .given .1) (c .if1 .left)
-
-returns-3 : tie.Need-returns-3 Inv-loop μ-loop
-returns-3 c = ends (c .before .loop .inv) (c .loop-test .left)
+returns-3 : tie.Need-returns-3
+returns-3 c =
+    let a = c .before .before .before .before .before .before .args in
+    c .seek-place .ensures ∙ ap (λ (l : List ℕ). argPlace l (a .at)) (take-length (a .s .now))
 
 pub next-place-spec : {M : Type 1} → statement M
 next-place-spec =
     tie.close
     (tie.spec
-    Inv-loop
-    μ-loop
-    loop-holds
-    (λ c κs. tt)
-    (λ c. search needs)
-    (λ c. search needs)
     returns
+    (λ c. search needs)
+    (λ c. search needs)
+    (λ c κs. search needs)
+    (λ c κs. search needs)
     returns-2
-    loop-less
-    loop-again
-    loop-less-2
-    loop-again-2
+    slice-aggregate-seek-place
+    (λ c κs. search needs)
     returns-3)

@@ -1,7 +1,8 @@
 -- `args::value::read_argument` meets its contract. Assumes nothing.
 use Rattle.layout.specs.Table.{rowsOf}
-use mathlib.Core.Path.{ap, _∙_}
-use Rattle.args.specs.Value.{anyOf}
+use mathlib.Core.Path.{_∙_}
+use borrow.Author.Tests.{not-true, not-false}
+use Rattle.args.proofs.ArrayLaws.{any-held, any-refused}
 use borrow.Author.Needs.{needs}
 use Rattle.args.proofs.value.read_argument.Statement.{statement}
 use Rattle.args.proofs.value.read_argument.Tie as tie
@@ -9,10 +10,22 @@ use Rattle.args.proofs.value.read_argument.Tie as tie
 returns : tie.Need-returns
 unfolding rowsOf
 returns c =
-    let a = c .before .before .before .before .args in
-    c .read-any .ensures
-    ∙ ap (anyOf (a .s .now)) (c .before .read-part .ensures)
+    let a = c .before .before .before .before .before .before .before .args in
+    any-refused (a .s .now) (a .at) (a .n) (c .before .fill-part .ensures) (not-true _ (c .if1 .taken))
+
+returns-2 : tie.Need-returns-2
+unfolding rowsOf
+returns-2 c =
+    let a = c .before .before .before .before .before .before .before .before .before .before .before .args in
+    c .any-value .ensures
+    ∙ any-held (a .s .now) (a .at) (a .n) (c .before .before .before .before .before .fill-part .ensures) (not-false _ (c .before .before .before .before .if1 .left))
 
 pub read-argument-spec : {M : Type 1} → statement M
 read-argument-spec =
-    tie.close (tie.spec (λ c. search needs) (λ c κs. search needs) (λ c κs. search needs) returns)
+    tie.close
+    (tie.spec
+    (λ c. search needs)
+    (λ c κs. search needs)
+    returns
+    (λ c κs. search needs)
+    returns-2)

@@ -1,9 +1,9 @@
 -- `args::value::read_bytes` meets its contract. Assumes nothing.
 use Rattle.layout.specs.Table.{rowsOf}
-use mathlib.Core.Path.{ap, _∙_}
+use mathlib.Core.Path.{_∙_}
 use borrow.Author.Tests.{not-true, not-false}
-use Rattle.args.specs.Value.{bytesOf}
-use Rattle.args.proofs.ValueLaws.{bytes-bad, bytes-octets, bytes-string}
+use Rattle.args.proofs.PartLaws.{yes, no as without}
+use Rattle.args.proofs.ArrayLaws.{bytes-held, bytes-refused}
 use borrow.Author.Needs.{needs}
 use Rattle.args.proofs.value.read_bytes.Statement.{statement}
 use Rattle.args.proofs.value.read_bytes.Tie as tie
@@ -11,26 +11,22 @@ use Rattle.args.proofs.value.read_bytes.Tie as tie
 returns : tie.Need-returns
 unfolding rowsOf
 returns c =
-    let a = c .before .before .before .before .before .args in
-    let x = c .before .before .read-part in
-    bytes-bad (a .octets) (x .result) (not-true _ (c .if1 .taken))
-    ∙ ap (bytesOf (a .octets)) (x .ensures)
+    let a = c .before .before .before .before .before .before .before .args in
+    bytes-refused (a .s .now) (a .at) (a .n) (a .octets) (c .before .fill-part .ensures) (not-true _ (c .if1 .taken))
 
 returns-2 : tie.Need-returns-2
 unfolding rowsOf
 returns-2 c =
     let a = c .before .before .before .before .before .before .before .before .args in
-    let x = c .before .before .before .before .before .read-part in
-    bytes-octets (a .octets) (x .result) (not-false _ (c .before .before .before .if1 .left)) (c .if2 .taken)
-    ∙ ap (bytesOf (a .octets)) (x .ensures)
+    yes _ _ (c .if2 .taken)
+    ∙ bytes-held (a .s .now) (a .at) (a .n) (a .octets) (c .before .before .fill-part .ensures) (not-false _ (c .before .if1 .left))
 
 returns-3 : tie.Need-returns-3
 unfolding rowsOf
 returns-3 c =
     let a = c .before .before .before .before .before .before .before .before .args in
-    let x = c .before .before .before .before .before .read-part in
-    bytes-string (a .octets) (x .result) (not-false _ (c .before .before .before .if1 .left)) (c .if2 .left)
-    ∙ ap (bytesOf (a .octets)) (x .ensures)
+    without _ _ (c .if2 .left)
+    ∙ bytes-held (a .s .now) (a .at) (a .n) (a .octets) (c .before .before .fill-part .ensures) (not-false _ (c .before .if1 .left))
 
 pub read-bytes-spec : {M : Type 1} → statement M
 read-bytes-spec =

@@ -1,24 +1,38 @@
 -- `message::execute::execute_in` meets its contract. Assumes nothing.
-use mathlib.Core.Path.{_≡_, ap, _∙_}
+use mathlib.Core.Path.{ap, _∙_}
+use borrow.Author.Tests.{not-true, not-false}
 use Rattle.layout.specs.Table.{rowsOf, execute}
+use Rattle.layout.specs.Fields.{Holds}
 use Rattle.args.specs.Part.{embedded}
-use Rattle.message.specs.Execute.{argumentsWithin, executeOf, executeIn}
+use Rattle.message.proofs.ArrayLaws.{execute-spoiled, execute-unbound, execute-held}
 use borrow.Author.Needs.{needs}
 use Rattle.message.proofs.execute.execute_in.Statement.{statement}
 use Rattle.message.proofs.execute.execute_in.Tie as tie
 
-part : (c : tie.After-read-part) →
-    let a = c .before .before .before .args in c .read-part .result ≡ embedded (rowsOf execute) (a .s .now) (a .at) (a .n)
+held : (c : tie.After-fill-part) → let a = c .before .before .before .before .before .before .args in let l = c .fill-part in
+    Holds (embedded (rowsOf execute) (a .s .now) (a .at) (a .n)) (l .result) (l .last .1 .1 .1 .1 .0) (l .last .1 .1 .1 .1 .1 .0) (l .last .1 .1 .1 .1 .1 .1 .0)
 unfolding rowsOf
-part c = c .read-part .ensures
+held c = c .fill-part .ensures
 
 returns : tie.Need-returns
-unfolding executeIn
 returns c =
-    let a = c .before .before .before .before .before .args in
-    c .execute-of .ensures
-    ∙ ap (executeOf (c .before .before .read-part .result)) (c .before .arguments-within .ensures)
-    ∙ ap (λ x. executeOf x (argumentsWithin (a .s .now) (a .at) (a .n))) (part (c .before .before))
+    let a = c .before .before .before .before .before .before .before .before .args in
+    c .bad .ensures ∙ execute-spoiled (a .s .now) (a .at) (a .n) (held (c .before .before)) (not-true _ (c .before .if1 .taken))
+
+returns-2 : tie.Need-returns-2
+returns-2 c =
+    let a = c .before .before .before .before .before .before .before .before .before .before .before .args in
+    c .bad2 .ensures
+    ∙ execute-unbound (a .s .now) (a .at) (a .n) (held (c .before .before .before .before .before)) (not-false _ (c .before .before .before .before .if1 .left)) (c .before .before .before .arguments-within .result)
+    (c .before .before .before .arguments-within .ensures) (not-true _ (c .before .if2 .taken))
+
+returns-3 : tie.Need-returns-3
+returns-3 c =
+    let a = c .before .before .before .before .before .before .before .before .before .before .before .before .args in
+    rw (c .read-truth .ensures)
+    (rw (c .before .read-optional .ensures)
+    (execute-held (a .s .now) (a .at) (a .n) (held (c .before .before .before .before .before .before)) (not-false _ (c .before .before .before .before .before .if1 .left)) (c .before .before .before .before .arguments-within .result)
+    (c .before .before .before .before .arguments-within .ensures) (not-false _ (c .before .before .if2 .left))))
 
 pub execute-in-spec : {M : Type 1} → statement M
 execute-in-spec =
@@ -27,5 +41,13 @@ execute-in-spec =
     (λ c. search needs)
     (λ c κs. search needs)
     (λ c κs. search needs)
+    returns
     (λ c κs. search needs)
-    returns)
+    (λ c κs. search needs)
+    returns-2
+    (λ c. search needs)
+    (λ c. search needs)
+    (λ c κs. search needs)
+    (λ c. search needs)
+    (λ c κs. search needs)
+    returns-3)

@@ -1,32 +1,35 @@
 -- `message::execute::read_open` meets its contract. Assumes nothing.
-use mathlib.Core.Path.{_≡_, ap, _∙_}
-use Rattle.layout.specs.Table.{rowsOf, open', openStmt}
-use Rattle.layout.specs.Fields.{fieldsAt}
-use Rattle.args.specs.Part.{embedded, startOf, lenOf}
+use mathlib.Core.Path.{ap, _∙_}
+use borrow.Author.Tests.{not-true, not-false}
+use Rattle.layout.specs.Fields.{fieldsAt, Holds}
+use Rattle.layout.proofs.ArrayLaws.{holds-whole}
 use Rattle.message.specs.Message.{payload}
-use Rattle.message.specs.Execute.{openOf, openWith, openMessage}
+use Rattle.message.specs.Message.{optionalBy}
+use Rattle.message.specs.Execute.{openInside}
+use lib.ListN.{getD}
+use Rattle.layout.specs.Table.{rowsOf, open'}
+use Rattle.message.specs.declared.message.Optional.{Optional}
+use Rattle.message.proofs.ArrayLaws.{open-refused, open-whole}
 use borrow.Author.Needs.{needs}
 use Rattle.message.proofs.execute.read_open.Statement.{statement}
 use Rattle.message.proofs.execute.read_open.Tie as tie
 
-first : (c : tie.After-read-fields) → let a = c .before .before .before .args in c .read-fields .result ≡ fieldsAt (rowsOf open') (a .s .now) payload
+held : (c : tie.After-fill-fields) → let a = c .before .before .before .before .before .before .args in let l = c .fill-fields in
+    Holds (fieldsAt (rowsOf open') (a .s .now) payload) (l .result) (l .last .1 .1 .1 .1 .0) (l .last .1 .1 .1 .1 .1 .0) (l .last .1 .1 .1 .1 .1 .1 .0)
 unfolding rowsOf
-first c = c .read-fields .ensures
-
-second : (c : tie.After-read-part) →
-    let a = c .before .before .before .before .before .before .before .args in
-    let x = c .before .before .before .before .read-fields .result in
-    c .read-part .result ≡ embedded (rowsOf openStmt) (a .s .now) (startOf x 4) (lenOf x 4)
-unfolding rowsOf
-second c = c .read-part .ensures
+held c = holds-whole (rowsOf open') (c .before .before .before .before .before .before .args .s .now) payload (c .fill-fields .ensures)
 
 returns : tie.Need-returns
-unfolding openMessage
 returns c =
-    let a = c .before .before .before .before .before .before .before .before .args in
-    c .open-of .ensures
-    ∙ ap (openOf (a .s .now) (c .before .before .before .before .before .read-fields .result)) (second (c .before))
-    ∙ ap (openWith (a .s .now)) (first (c .before .before .before .before .before))
+    c .refused .ensures ∙ open-refused (c .before .before .before .before .before .before .before .before .args .s .now) (held (c .before .before)) (not-true _ (c .before .if1 .taken))
+
+returns-2 : tie.Need-returns-2
+returns-2 c =
+    let a = c .before .before .before .before .before .before .before .before .before .args in
+    let l = c .before .before .before .fill-fields .last .1 .1 .1 .1 in
+    c .open-inside .ensures
+    ∙ ap (λ (o : Optional). openInside (a .s .now) (getD (l .1 .0) 1 0) o (getD (l .1 .1 .0) 4 0) (getD (l .1 .0) 4 0)) (c .before .read-optional .ensures)
+    ∙ open-whole (a .s .now) (held (c .before .before .before)) (not-false _ (c .before .before .if1 .left))
 
 pub read-open-spec : {M : Type 1} → statement M
 read-open-spec =
@@ -34,9 +37,13 @@ read-open-spec =
     (tie.spec
     (λ c. search needs)
     (λ c κs. search needs)
+    (λ c κs. search needs)
+    returns
+    (λ c. search needs)
+    (λ c. search needs)
+    (λ c κs. search needs)
     (λ c. search needs)
     (λ c. search needs)
     (λ c. search needs)
     (λ c κs. search needs)
-    (λ c κs. search needs)
-    returns)
+    returns-2)

@@ -1,32 +1,28 @@
 -- `message::prepare::read_prepare` meets its contract. Assumes nothing.
-use mathlib.Core.Path.{_≡_, ap, _∙_}
-use Rattle.layout.specs.Table.{rowsOf, prepare, prepareStmt}
-use Rattle.layout.specs.Fields.{fieldsAt}
-use Rattle.args.specs.Part.{embedded, startOf, lenOf}
+use mathlib.Core.Path.{ap, _∙_}
+use borrow.Author.Tests.{not-true, not-false}
+use Rattle.layout.specs.Fields.{fieldsAt, Holds}
+use Rattle.layout.proofs.ArrayLaws.{holds-whole}
 use Rattle.message.specs.Message.{payload}
-use Rattle.message.specs.Prepare.{prepareOf, prepareWith, prepareMessage}
+use Rattle.layout.specs.Table.{rowsOf, prepare}
+use Rattle.message.proofs.ArrayLaws.{prepare-refused, prepare-whole}
 use borrow.Author.Needs.{needs}
 use Rattle.message.proofs.prepare.read_prepare.Statement.{statement}
 use Rattle.message.proofs.prepare.read_prepare.Tie as tie
 
-first : (c : tie.After-read-fields) → let a = c .before .before .before .args in c .read-fields .result ≡ fieldsAt (rowsOf prepare) (a .s .now) payload
+held : (c : tie.After-fill-fields) → let a = c .before .before .before .before .before .before .args in let l = c .fill-fields in
+    Holds (fieldsAt (rowsOf prepare) (a .s .now) payload) (l .result) (l .last .1 .1 .1 .1 .0) (l .last .1 .1 .1 .1 .1 .0) (l .last .1 .1 .1 .1 .1 .1 .0)
 unfolding rowsOf
-first c = c .read-fields .ensures
-
-second : (c : tie.After-read-part) →
-    let a = c .before .before .before .before .before .before .before .args in
-    let x = c .before .before .before .before .read-fields .result in
-    c .read-part .result ≡ embedded (rowsOf prepareStmt) (a .s .now) (startOf x 2) (lenOf x 2)
-unfolding rowsOf
-second c = c .read-part .ensures
+held c = holds-whole (rowsOf prepare) (c .before .before .before .before .before .before .args .s .now) payload (c .fill-fields .ensures)
 
 returns : tie.Need-returns
-unfolding prepareMessage
 returns c =
-    let a = c .before .before .before .before .before .before .before .before .args in
-    c .prepare-of .ensures
-    ∙ ap (prepareOf (a .s .now) (c .before .before .before .before .before .read-fields .result)) (second (c .before))
-    ∙ ap (prepareWith (a .s .now)) (first (c .before .before .before .before .before))
+    c .refused .ensures ∙ prepare-refused (c .before .before .before .before .before .before .before .before .args .s .now) (held (c .before .before)) (not-true _ (c .before .if1 .taken))
+
+returns-2 : tie.Need-returns-2
+returns-2 c =
+    c .prepare-inside .ensures
+    ∙ prepare-whole (c .before .before .before .before .before .before .before .before .args .s .now) (held (c .before .before)) (not-false _ (c .before .if1 .left))
 
 pub read-prepare-spec : {M : Type 1} → statement M
 read-prepare-spec =
@@ -34,9 +30,10 @@ read-prepare-spec =
     (tie.spec
     (λ c. search needs)
     (λ c κs. search needs)
+    (λ c κs. search needs)
+    returns
     (λ c. search needs)
     (λ c. search needs)
     (λ c. search needs)
     (λ c κs. search needs)
-    (λ c κs. search needs)
-    returns)
+    returns-2)

@@ -6,8 +6,8 @@ use borrow.Author.Needs.{needs}
 use Rattle.wire.proofs.field.tagged.Statement.{statement}
 use Rattle.wire.proofs.field.tagged.Tie as tie
 
-sub-t13 : tie.Need-sub-t13
-sub-t13 c =
+sub-t9 : tie.Need-sub-t9
+sub-t9 c =
     let a = c .before .before .before .before .before .before .args in
     group-ends maxDepth (a .s .now) (a .at) (a .n) (sym (c .before .before .before .skip-group .ensures) ∙ c .before .next .given .1)
 
@@ -25,15 +25,10 @@ returns-2 c =
 
 returns-3 : tie.Need-returns-3
 returns-3 c =
-    let a = c .before .before .before .before .before .before .args in
-    ap (ofValue (a .n) (a .wire)) (sym (c .before .v .given .1) ∙ c .before .before .before .read-value .ensures)
-    ∙ field-value (a .s .now) (a .n) (a .wire) (a .at) (c .before .before .before .before .if1 .left)
-
-returns-4 : tie.Need-returns-4
-returns-4 c =
-    let a = c .before .before .before .before .before .args in
-    ap (ofValue (a .n) (a .wire)) (sym (c .enum-told2 .given .1) ∙ c .before .before .read-value .ensures)
-    ∙ field-value (a .s .now) (a .n) (a .wire) (a .at) (c .before .before .before .if1 .left)
+    let a = c .before .before .before .before .args in
+    c .valued .ensures
+    ∙ ap (ofValue (a .n) (a .wire)) (c .before .read-value .ensures)
+    ∙ field-value (a .s .now) (a .n) (a .wire) (a .at) (c .before .before .if1 .left)
 
 pub tagged-spec : {M : Type 1} → statement M
 tagged-spec =
@@ -41,12 +36,10 @@ tagged-spec =
     (tie.spec
     (λ c κs. search needs)
     (λ c. search needs)
-    sub-t13
+    sub-t9
     (λ c. search needs)
     returns
     returns-2
     (λ c κs. search needs)
-    (λ c. search needs)
-    (λ c. search needs)
-    returns-3
-    returns-4)
+    (λ c κs. search needs)
+    returns-3)

@@ -1,0 +1,148 @@
+-- What lent arrays leave out can be told from the rest: whether a field occurs says as much as how often, and of a field with bytes
+-- the value is the length. Assumes nothing.
+use Prim.Native.Nat.{ℕ, zero, suc, _+_, _<_}
+use native.Mathlib.Omega.{arith}
+use mathlib.Core.Bool.{Bool, true, false, not, cond}
+use mathlib.Core.Path.{_≡_, refl, sym, ap, subst, _∙_}
+use mathlib.Core.List.{List, [], _∷_, map}
+use lib.ListN.{length, getD, set, take, length-set}
+use lib.Seq.{getD-set-other, take-length}
+use lib.Dec.{ltb, leb, eqb}
+use borrow.Author.Tests.{le-leb, eqb-true, eqb-false}
+use Rattle.wire.specs.Field.{fieldAt}
+use Rattle.wire.specs.declared.field.Field.{Field}
+use Rattle.wire.proofs.LongLaws.{both, LongField, field-long}
+use Rattle.layout.specs.Row.{numberOf, wireOf, isRepeated, listedOf, listed, rowFor, takes, slotCount}
+use Rattle.layout.specs.Slots.{noSlots, badSlots}
+use Rattle.layout.specs.Fields.{useOf, noted, onField, fieldsFrom, fieldList, hasRequired, checked, fieldsAt, fieldsTo, occurs, once, Holds, fromArrays, inArrays}
+use Rattle.layout.proofs.FieldsLaws.{getD-seen}
+use Rattle.layout.specs.declared.slots.Slots.{Slots}
+use Rattle.layout.specs.declared.fields.Use.{Use}
+
+pub holds-arrays : {x : Slots} {g : Bool} {v : List Bool} {w u : List ℕ} → Holds x g v w u → fromArrays g v w u ≡ inArrays x
+holds-arrays h = rw (h .answer, h .held .seen-is, h .held .value-is, h .held .start-is)
+
+-- a message that ends where s does
+pub fields-whole : (rows : List (List ℕ)) (s : List ℕ) (from : ℕ) → fieldsTo rows s from (length s) ≡ fieldsAt rows s from
+fields-whole rows s from =
+    simp (le-leb (length s) (length s) (omega arith)) (ap (λ (l : List ℕ). fieldsAt rows l from) (take-length s))
+
+pub holds-whole : (rows : List (List ℕ)) (s : List ℕ) (from : ℕ) {g : Bool} {v : List Bool} {w u : List ℕ} →
+    Holds (fieldsTo rows s from (length s)) g v w u → Holds (fieldsAt rows s from) g v w u
+holds-whole rows s from {g} {v} {w} {u} h = subst (λ (y : Slots). Holds y g v w u) (fields-whole rows s from) h
+
+-- ---- what the arrays hold, by field number
+
+module _ {x : Slots} {g : Bool} {v : List Bool} {w u : List ℕ} (h : Holds x g v w u) where
+  pub held-good : {b : Bool} → g ≡ b → x .good ≡ b
+  held-good e = sym (h .answer) ∙ e
+
+  module _ (k : ℕ) where
+    pub held-value : getD w k 0 ≡ getD (x .value) k 0
+    held-value = ap (λ (l : List ℕ). getD l k 0) (h .held .value-is)
+
+    pub held-start : getD u k 0 ≡ getD (x .start) k 0
+    held-start = ap (λ (l : List ℕ). getD l k 0) (h .held .start-is)
+
+    pub held-seen : getD v k false ≡ occurs (getD (x .count) k 0)
+    held-seen = ap (λ (l : List Bool). getD l k false) (h .held .seen-is) ∙ getD-seen (x .count) k
+
+    pub held-absent : getD v k false ≡ false → getD (x .count) k 0 ≡ 0
+    held-absent e = go (eqb (getD (x .count) k 0) 0) refl
+      where
+        go : (b : Bool) → eqb (getD (x .count) k 0) 0 ≡ b → getD (x .count) k 0 ≡ 0
+        go true t = eqb-true (getD (x .count) k 0) 0 t
+        go false t = absurd (let z : _≡_ {A = ℕ} 0 1 = cc (sym e ∙ held-seen ∙ ap not t) in omega arith)
+
+    pub held-present : getD v k false ≡ true → getD (x .count) k 0 ≡ 0 → ⊥
+    held-present e z = let y : _≡_ {A = ℕ} 0 1 = cc (sym e ∙ held-seen ∙ ap occurs z) in omega arith
+
+-- ---- how often, and whether
+
+once-occurs : (n : ℕ) → eqb (once (occurs n)) 0 ≡ eqb n 0
+once-occurs n = go (eqb n 0) refl
+  where
+    go : (b : Bool) → eqb n 0 ≡ b → eqb (once (occurs n)) 0 ≡ eqb n 0
+    go true e = rw e
+    go false e = rw e
+
+pub same-absent : (l : List ℕ) (k : ℕ) → eqb (getD (map once (map occurs l)) k 0) 0 ≡ eqb (getD l k 0) 0
+same-absent [] k = refl
+same-absent (x ∷ l) zero = once-occurs x
+same-absent (x ∷ l) (suc k) = same-absent l k
+
+-- ---- value and length
+
+-- two lists that are alike at a place stay so where both are set to one value
+set-alike : (l m : List ℕ) (i v k : ℕ) → length l ≡ length m → getD l k 0 ≡ getD m k 0 → getD (set l i v) k 0 ≡ getD (set m i v) k 0
+set-alike [] [] i v k h e = e
+set-alike [] (y ∷ m) i v k h e = absurd (omega arith)
+set-alike (x ∷ l) [] i v k h e = absurd (omega arith)
+set-alike (x ∷ l) (y ∷ m) zero v zero h e = refl
+set-alike (x ∷ l) (y ∷ m) zero v (suc k) h e = e
+set-alike (x ∷ l) (y ∷ m) (suc i) v zero h e = e
+set-alike (x ∷ l) (y ∷ m) (suc i) v (suc k) h e = set-alike l m i v k (omega arith) e
+
+record Alike (k : ℕ) (x : Slots) : Type 0 where
+  lengths : length (x .len) ≡ length (x .value)
+  alike : getD (x .len) k 0 ≡ getD (x .value) k 0
+
+module _ (rows : List (List ℕ)) (k : ℕ) (long : wireOf (rowFor rows k) ≡ 2) where
+  -- a field that is kept has its row's wire type
+  kept-wire : (number wire v : ℕ) → useOf rows number wire v ≡ Use.Kept → number ≡ k → wire ≡ 2
+  kept-wire number wire v e n = go (eqb (wireOf (rowFor rows number)) wire) refl
+    where
+      go : (b : Bool) → eqb (wireOf (rowFor rows number)) wire ≡ b → wire ≡ 2
+      go true t = sym (eqb-true (wireOf (rowFor rows number)) wire t) ∙ ap (λ (j : ℕ). wireOf (rowFor rows j)) n ∙ long
+      go false t = absurd (never (ltb number slotCount) (eqb (numberOf (rowFor rows number)) number) (rw t at e))
+        where
+          never : (a b : Bool) →
+              cond (cond a (cond b false false) false) (cond (isRepeated (rowFor rows number)) Use.Counted Use.Kept) Use.Unknown ≡ Use.Kept → ⊥
+          never true true h = let z : _≡_ {A = ℕ} 0 1 = cc in omega arith
+          never true false h = let z : _≡_ {A = ℕ} 0 1 = cc in omega arith
+          never false true h = let z : _≡_ {A = ℕ} 0 1 = cc in omega arith
+          never false false h = let z : _≡_ {A = ℕ} 0 1 = cc in omega arith
+
+  noted-alike : (u : Use) (x : Slots) (number wire v start len : ℕ) → useOf rows number wire v ≡ u → (wire ≡ 2 → v ≡ len) → Alike k x →
+      Alike k (noted u x number v start len)
+  noted-alike Use.Unknown x number wire v start len e f a = a
+  noted-alike Use.Counted x number wire v start len e f a = record { lengths = a .lengths; alike = a .alike }
+  noted-alike Use.Kept x number wire v start len e f a =
+      record {
+        lengths = length-set (x .len) number len ∙ a .lengths ∙ sym (length-set (x .value) number v);
+        alike = go (eqb number k) refl;
+      }
+    where
+      go : (b : Bool) → eqb number k ≡ b → getD (set (x .len) number len) k 0 ≡ getD (set (x .value) number v) k 0
+      go true t =
+          ap (λ (m : ℕ). getD (set (x .len) number m) k 0) (sym (f (kept-wire number wire v e (eqb-true number k t))))
+          ∙ set-alike (x .len) (x .value) number v k (a .lengths) (a .alike)
+      go false t =
+          let ne : k ≡ number → ⊥ = λ h. eqb-false number k t (sym h) in
+          getD-set-other (x .len) number k len 0 ne ∙ a .alike ∙ sym (getD-set-other (x .value) number k v 0 ne)
+
+  field-alike : (x : Slots) (more : ℕ → Slots → Slots) → ((p : ℕ) (y : Slots) → Alike k y → Alike k (more p y)) → (f : Field) → LongField f →
+      Alike k x → Alike k (onField rows x more f)
+  field-alike x more m (Field.Good number wire v start len next) h a =
+      m next (noted (useOf rows number wire v) x number v start len) (noted-alike (useOf rows number wire v) x number wire v start len refl h a)
+  field-alike x more m Field.Bad h a = record { lengths = refl; alike = zeros k }
+    where
+      zeros : (j : ℕ) → getD (badSlots .len) j 0 ≡ getD (badSlots .value) j 0
+      zeros j = refl
+
+  from-alike : (most : ℕ) (s : List ℕ) (at : ℕ) (x : Slots) → Alike k x → Alike k (fieldsFrom most rows s at x)
+  unfolding fieldsFrom
+  from-alike zero s at x a = a
+  from-alike (suc most) s at x a =
+      both (Alike k) (ltb at (length s)) (onField rows x (λ next y. fieldsFrom most rows s next y) (fieldAt s at)) x
+      (λ _. field-alike x (λ next y. fieldsFrom most rows s next y) (from-alike most s) (fieldAt s at) (field-long s at) a) (λ _. a)
+
+  pub bytes-long : (s : List ℕ) (from : ℕ) → getD (fieldsAt rows s from .len) k 0 ≡ getD (fieldsAt rows s from .value) k 0
+  bytes-long s from =
+      both (λ (x : Slots). getD (x .len) k 0 ≡ getD (x .value) k 0) (hasRequired rows (fieldList rows s from .count)) (fieldList rows s from) badSlots
+      (λ _. from-alike (length s) s from noSlots (record { lengths = refl; alike = refl }) .alike) (λ _. refl)
+
+  pub bytes-long-to : (s : List ℕ) (from end : ℕ) → getD (fieldsTo rows s from end .len) k 0 ≡ getD (fieldsTo rows s from end .value) k 0
+  bytes-long-to s from end =
+      both (λ (x : Slots). getD (x .len) k 0 ≡ getD (x .value) k 0) (leb end (length s)) (fieldsAt rows (take end s) from) badSlots
+      (λ _. bytes-long (take end s) from) (λ _. refl)
