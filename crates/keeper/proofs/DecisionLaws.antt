@@ -1,15 +1,16 @@
 -- What a step decides, case by case. Assumes nothing.
 use Prim.Native.Nat.{ℕ, _≤_, _<_}
 use native.Mathlib.Omega.{arith}
-use mathlib.Core.Bool.{Bool}
-use mathlib.Core.Path.{_≡_, sym, ap, _∙_}
+use mathlib.Core.Bool.{Bool, true, false, cond}
+use mathlib.Core.Path.{_≡_, refl, sym, ap, _∙_}
 use lib.ListN.{length}
 use lib.Dec.{eqb, ltb}
-use borrow.Author.Tests.{eq-eqb, ne-eqb, lt-ltb, le-ltb}
+use borrow.Author.Tests.{eq-eqb, ne-eqb, lt-ltb, le-ltb, eqb-true}
 use Rattle.varint.proofs.PastLaws.{both}
 use Rattle.args.proofs.PartLaws.{yes, no as without}
 use Rattle.message.specs.declared.message.Message.{Message}
 use Rattle.session.specs.declared.Session.{Session}
+use Rattle.session.specs.declared.Cursor.{Cursor}
 use Rattle.session.specs.Tables as Tables
 use Rattle.reply.specs.declared.Reply.{Reply}
 use Rattle.reply.specs.Reply.{codeOf, replyBytes}
@@ -22,7 +23,9 @@ use Rattle.rules.specs.Decision.{sessionAfter, markOf, reply, named, wireCode, 
 use Rattle.rules.specs.Read.{Read}
 use Rattle.rules.proofs.RefusalLaws.{code-small, passed}
 use Rattle.rules.proofs.StepLaws.{wire-small, named-small}
+use Rattle.keeper.specs.declared.decision.Verdict.{Verdict}
 use Rattle.keeper.specs.Rows.{markFrom}
+use Rattle.keeper.specs.Verdict.{verdict, refusedWith, decidedOn, Accepts, Sends, Decides}
 
 -- ---- the session after it
 
@@ -73,6 +76,37 @@ module _ (s : Session) (m : Message) (r : Report) where
         ne-eqb (m .kind) 6 g,
         ne-eqb (m .kind) 7 h,
       ))
+
+-- ---- the session after a message that is refused or accepted: x is the type of an accepted message, else 0
+
+module _ (s : Session) (m : Message) (r : Report) (n x : ℕ) (e : x ≡ cond (eqb n 0) (m .kind) 0) where
+  pub is-accepted : (y : ℕ) → x ≡ y → 0 < y → n ≡ 0
+  is-accepted y f h = go (eqb n 0) refl
+    where
+      go : (b : Bool) → eqb n 0 ≡ b → n ≡ 0
+      go true g = eqb-true n 0 g
+      go false g = absurd (omega (arith, sym f ∙ e ∙ sym (without (m .kind) 0 g)))
+
+  pub kind-is : (y : ℕ) → x ≡ y → n ≡ 0 → m .kind ≡ y
+  kind-is y f g = yes (m .kind) 0 (eq-eqb n 0 g) ∙ sym e ∙ f
+
+  pub after-it : (y : ℕ) → x ≡ y → 0 < y → (t : Session) → (n ≡ 0 → m .kind ≡ y → t ≡ sessionAfter s m r) →
+      t ≡ cond (eqb n 0) (sessionAfter s m r) s
+  after-it y f h t g =
+      let z = is-accepted y f h in
+      g z (kind-is y f z) ∙ yes (sessionAfter s m r) s (eq-eqb n 0 z)
+
+  pub after-none : (x ≡ 40 → ⊥) → (x ≡ 41 → ⊥) → (x ≡ 42 → ⊥) → (x ≡ 43 → ⊥) → (x ≡ 45 → ⊥) → (x ≡ 44 → ⊥) → (x ≡ 6 → ⊥) → (x ≡ 7 → ⊥) →
+      s ≡ cond (eqb n 0) (sessionAfter s m r) s
+  after-none a b c d f g h k = go (eqb n 0) refl
+    where
+      go : (t : Bool) → eqb n 0 ≡ t → s ≡ cond (eqb n 0) (sessionAfter s m r) s
+      go true z =
+          let same : x ≡ m .kind = e ∙ sym (yes (m .kind) 0 z) in
+          after-other s m r (λ q. a (same ∙ q)) (λ q. b (same ∙ q)) (λ q. c (same ∙ q)) (λ q. d (same ∙ q)) (λ q. f (same ∙ q))
+          (λ q. g (same ∙ q)) (λ q. h (same ∙ q)) (λ q. k (same ∙ q))
+          ∙ yes (sessionAfter s m r) s z
+      go false z = without (sessionAfter s m r) s z
 
 -- ---- a refusal's reply
 
@@ -128,37 +162,90 @@ module _ (m : Message) (r : Report) (n : ℕ) where
 -- ---- the decision
 
 module _ (s : Session) (m : Message) (r : Report) where
-  abbrev accepting : Session → Bool → ℕ → ℕ → Reply → Decision
-  accepting after columns first count back =
-      record { reason = 0; session = after; columns = columns; first = first; count = count; reply = back }
+  abbrev accepting : Bool → ℕ → ℕ → Reply → Verdict
+  accepting columns first count back =
+      record { reason = 0; columns = columns; first = first; count = count; reply = back }
 
   pub mark-is : (columns done : Bool) → columns ≡ sendsColumns m r → done ≡ noneRemain s m r → markFrom m columns done ≡ markOf s m r
   unfolding markOf
   mark-is columns done c d = ap (λ (x : Bool). markFrom m x done) c ∙ ap (markFrom m (sendsColumns m r)) d
 
-  pub accepts : (after : Session) (columns : Bool) (first count : ℕ) (back : Reply) → after ≡ sessionAfter s m r →
-      columns ≡ sendsColumns m r → first ≡ firstRow s m → count ≡ rowCount s m r → back ≡ reply (markOf s m r) →
-      accepting after columns first count back ≡ accepted s m r
-  accepts after columns first count back a c f n b =
-      ap (λ (x : Session). accepting x columns first count back) a
-      ∙ ap (λ (x : Bool). accepting (sessionAfter s m r) x first count back) c
-      ∙ ap (λ (x : ℕ). accepting (sessionAfter s m r) (sendsColumns m r) x count back) f
-      ∙ ap (λ (x : ℕ). accepting (sessionAfter s m r) (sendsColumns m r) (firstRow s m) x back) n
-      ∙ ap (accepting (sessionAfter s m r) (sendsColumns m r) (firstRow s m) (rowCount s m r)) b
+  pub accepts : (columns : Bool) (first count : ℕ) (back : Reply) → columns ≡ sendsColumns m r → first ≡ firstRow s m →
+      count ≡ rowCount s m r → back ≡ reply (markOf s m r) → accepting columns first count back ≡ verdict (accepted s m r)
+  accepts columns first count back c f n b =
+      ap (λ (x : Bool). accepting x first count back) c
+      ∙ ap (λ (x : ℕ). accepting (sendsColumns m r) x count back) f
+      ∙ ap (λ (x : ℕ). accepting (sendsColumns m r) (firstRow s m) x back) n
+      ∙ ap (accepting (sendsColumns m r) (firstRow s m) (rowCount s m r)) b
 
   module _ (n : ℕ) (e : n ≡ stepReason s m r) where
-    pub decides-refused : (n ≡ 0 → ⊥) → refusedBy s n (refusedReply m r n) ≡ decisionOf s m r
+    refused-is : (n ≡ 0 → ⊥) → refusedBy s n (refusedReply m r n) ≡ decisionOf s m r
     unfolding decisionOf
-    decides-refused h =
+    refused-is h =
         without (accepted s m r) (refusedBy s n (refusedReply m r n)) (ne-eqb n 0 h) ∙ ap (decidedBy s m r) e
 
-    pub decides-accepted : n ≡ 0 → accepted s m r ≡ decisionOf s m r
+    accepted-is : n ≡ 0 → accepted s m r ≡ decisionOf s m r
     unfolding decisionOf
-    decides-accepted h =
+    accepted-is h =
         yes (accepted s m r) (refusedBy s n (refusedReply m r n)) (eq-eqb n 0 h) ∙ ap (decidedBy s m r) e
 
     pub report-accepted : n ≡ 0 → reportReason m r ≡ 0
     report-accepted h = passed s m r (sym e ∙ h) .report
+
+  -- the session after it, by the reason alone
+  after-decision : (short : Bool) → cond (eqb (decidedOn short s m r .reason) 0) (sessionAfter s m r) s ≡ decidedOn short s m r .session
+  unfolding decisionOf
+  after-decision true = refl
+  after-decision false =
+      let n = stepReason s m r in
+      both (λ (d : Decision). cond (eqb (d .reason) 0) (sessionAfter s m r) s ≡ d .session) (eqb n 0) (accepted s m r)
+      (refusedBy s n (refusedReply m r n)) (λ _. refl) (λ h. sym (without (sessionAfter s m r) s h))
+
+  module _ (short : Bool) (v : Verdict) where
+    pub after-verdict : (t : Session) → Decides short s m r v → t ≡ cond (eqb (v .reason) 0) (sessionAfter s m r) s →
+        t ≡ decidedOn short s m r .session
+    after-verdict t d e =
+        e ∙ ap (λ (x : Verdict). cond (eqb (x .reason) 0) (sessionAfter s m r) s) (d .says) ∙ after-decision short
+
+    refuses : (n : ℕ) (error : Reply) → (n ≡ 0 → ⊥) → v ≡ refusedWith n error → Sends s m r v
+    refuses n error h e =
+        let not-so : v .reason ≡ 0 → ⊥ = λ g. h (sym (ap (λ (x : Verdict). x .reason) e) ∙ g) in
+        record {
+          small = omega (arith, ap (λ (x : Verdict). x .count) e);
+          report = λ g. absurd (not-so g);
+          rows = λ g. absurd (not-so g);
+        }
+
+    pub decides-short : short ≡ true → v ≡ refusedWith 3 (refusedReply m r 3) → Decides short s m r v
+    unfolding refusedReply
+    decides-short b e =
+        record {
+          says = e ∙ ap verdict (yes (refusedBy s 3 (reply 0)) (decisionOf s m r) b);
+          sends = refuses 3 (reply 0) (λ g. omega arith) e;
+        }
+
+    module _ (b : short ≡ false) (n : ℕ) (e : n ≡ stepReason s m r) where
+      decides : (d : Decision) → v ≡ verdict d → d ≡ decisionOf s m r → v ≡ verdict (decidedOn short s m r)
+      decides d f g = f ∙ ap verdict (g ∙ without (refusedBy s 3 (reply 0)) (decisionOf s m r) b)
+
+      pub decides-refused : (n ≡ 0 → ⊥) → v ≡ refusedWith n (refusedReply m r n) → Decides short s m r v
+      decides-refused h f =
+          record {
+            says = decides (refusedBy s n (refusedReply m r n)) f (refused-is n e h);
+            sends = refuses n (refusedReply m r n) h f;
+          }
+
+      pub decides-accepted : n ≡ 0 → (c : Cursor) → c ≡ Tables.liveCursor s (m .cursor) → Accepts c m r v → Decides short s m r v
+      decides-accepted h c g a =
+          record {
+            says = decides (accepted s m r) (a .says s g) (accepted-is n e h);
+            sends =
+                record {
+                  small = a .small;
+                  report = λ _. report-accepted n e h;
+                  rows = λ _. ap (λ (x : Verdict). x .count) (a .says s g);
+                };
+          }
 
   -- ---- its reply fits the smallest buffer
 
@@ -182,3 +269,7 @@ module _ (s : Session) (m : Message) (r : Report) where
       let n = stepReason s m r in
       both (λ (d : Decision). Fits (d .reply)) (eqb n 0) (accepted s m r) (refusedBy s n (refusedReply m r n))
       (λ _. plain-fits (markOf s m r)) (λ _. refusal-fits read)
+
+  pub verdict-fits : Read m → (short : Bool) → Fits (decidedOn short s m r .reply)
+  verdict-fits read true = plain-fits 0
+  verdict-fits read false = decision-fits read

@@ -273,9 +273,7 @@ module _ (m : Message) (r : Report) where
 
 -- ---- the step
 
-module _ (s : Session) (m : Message) (r : Report) (n : ℕ) (e : n ≡ lookReason s m) where
-  pub step-look : (n ≡ 0 → ⊥) → n ≡ stepReason s m r
-  step-look h = e ∙ without (reportReason m r) (lookReason s m) (ne-eqb (lookReason s m) 0 (λ q. h (e ∙ q)))
-
-  pub step-report : n ≡ 0 → reportReason m r ≡ stepReason s m r
-  step-report h = yes (reportReason m r) (lookReason s m) (eq-eqb (lookReason s m) 0 (sym e ∙ h))
+-- of a step: what the look refuses, then the report
+pub reason-is : (s : Session) (m : Message) (r : Report) (looked n : ℕ) → looked ≡ lookReason s m →
+    n ≡ cond (eqb looked 0) (reportReason m r) looked → n ≡ stepReason s m r
+reason-is s m r looked n e f = f ∙ ap (λ (x : ℕ). cond (eqb x 0) (reportReason m r) x) e

@@ -1,12 +1,13 @@
 -- A look and a step on a frame, case by case. Assumes nothing.
-use Prim.Native.Nat.{ℕ, _+_, _≤_, _<_}
+use Prim.Native.Nat.{ℕ, _+_, _≤_}
 use native.Mathlib.Nat.{le-trans}
 use native.Mathlib.Omega.{arith}
-use mathlib.Core.Bool.{cond}
+use mathlib.Core.Bool.{Bool, true, false, cond}
 use mathlib.Core.Path.{_≡_, sym, ap, subst, _∙_}
-use mathlib.Core.List.{List}
-use lib.ListN.{length}
-use borrow.Author.Tests.{eq-eqb, ne-eqb, lt-ltb, le-ltb, le-leb}
+use mathlib.Core.List.{List, [], _++_}
+use lib.ListN.{length, take, drop}
+use lib.Dec.{eqb, ltb}
+use borrow.Author.Tests.{eq-eqb, ne-eqb, le-leb, ltb-false}
 use Rattle.varint.specs.declared.write.Put.{Put}
 use Rattle.varint.specs.Put.{putAt, written}
 use Rattle.args.proofs.PartLaws.{yes, no as without}
@@ -14,20 +15,22 @@ use Rattle.layout.specs.Table.{fetch}
 use Rattle.message.specs.Frame.{messageOf}
 use Rattle.message.specs.declared.message.Message.{Message}
 use Rattle.session.specs.declared.Session.{Session}
+use Rattle.reply.specs.declared.Reply.{Reply}
 use Rattle.reply.specs.Reply.{replyBytes}
 use Rattle.rules.specs.declared.Report.{Report}
 use Rattle.rules.specs.declared.Look.{Look}
-use Rattle.rules.specs.declared.Decision.{Decision}
 use Rattle.rules.specs.declared.Stepped.{Stepped}
 use Rattle.rules.specs.Kind.{isA, workOf}
 use Rattle.rules.specs.Refusal.{lookReason}
 use Rattle.rules.specs.Rows.{firstRow, fetchCount}
-use Rattle.rules.specs.Decision.{decisionOf, lookBy, lookOf}
+use Rattle.rules.specs.Decision.{sessionAfter, decisionOf, lookBy, lookOf}
 use Rattle.rules.specs.Step.{Step, lookAt, minBuffer, tooShort, stepBy, stepOn, stepOf}
 use Rattle.rules.specs.Read.{Read}
 use Rattle.rules.proofs.ReadLaws.{frames-are-read}
+use Rattle.keeper.specs.declared.decision.Verdict.{Verdict}
 use Rattle.keeper.specs.Rows.{placeBehind}
-use Rattle.keeper.proofs.DecisionLaws.{decision-fits}
+use Rattle.keeper.specs.Verdict.{verdict, decidedOn, Decides}
+use Rattle.keeper.proofs.DecisionLaws.{verdict-fits, after-verdict}
 
 -- what is read of a frame
 pub is-read : (frame : List ℕ) (m : Message) → m ≡ messageOf frame → Read m
@@ -62,49 +65,68 @@ module _ (s : Session) (frame : List ℕ) (m : Message) (e : m ≡ messageOf fra
 
 -- ---- a step
 
-pub step-short : (s : Session) (frame : List ℕ) (r : Report) (buffer : List ℕ) → length buffer < minBuffer →
-    tooShort s buffer ≡ stepOf s frame r buffer
-unfolding stepOf
-step-short s frame r buffer h =
-    yes (tooShort s buffer) (stepBy (messageOf frame) buffer (decisionOf s (messageOf frame) r)) (lt-ltb (length buffer) minBuffer h)
-
 -- the bytes that fit are put, and end behind themselves
 pub put-whole : (buffer bytes : List ℕ) → length bytes ≤ length buffer → placeBehind (putAt buffer 0 bytes) ≡ length bytes
 put-whole buffer bytes h = rw (le-leb (0 + length bytes) (length buffer) (omega arith)) (omega arith)
 
-module _ (s : Session) (frame : List ℕ) (r : Report) (buffer : List ℕ) (room : minBuffer ≤ length buffer)
-    (m : Message) (e : m ≡ messageOf frame) (d : Decision) (f : d ≡ decisionOf s m r) where
-  steps : stepBy m buffer d ≡ stepOf s frame r buffer
-  unfolding stepOf
-  steps =
-      ap (stepBy m buffer) f
-      ∙ without (tooShort s buffer) (stepBy m buffer (decisionOf s m r)) (le-ltb (length buffer) minBuffer room)
-      ∙ ap (λ (x : Message). stepOn s x r buffer) e
+-- no bytes put leave a buffer as it was
+put-none : (buffer : List ℕ) → written buffer 0 [] ≡ buffer
+put-none buffer = sym (yes (take 0 buffer ++ [] ++ drop (0 + 0) buffer) buffer (le-leb (0 + 0) (length buffer) (omega arith)))
 
-  fits : length (replyBytes (d .reply)) ≤ length buffer
-  fits =
-      le-trans
-      (subst (λ (x : Decision). length (replyBytes (x .reply)) ≤ 128) (sym f) (decision-fits s m r (is-read frame m e))) room
+abbrev left-with : Stepped → List ℕ → Step
+left-with back left = record { back = back; buffer = left }
 
-  abbrev stepped : ℕ → Stepped
-  stepped n =
+module _ (s : Session) (frame : List ℕ) (r : Report) (buffer : List ℕ) (m : Message) (e : m ≡ messageOf frame)
+    (b : Bool) (t : b ≡ ltb (length buffer) minBuffer) (v : Verdict) (d : Decides b s m r v) where
+  -- a step whose verdict, session after it, bytes used and reply's length are these
+  abbrev stepped : Verdict → Session → ℕ → ℕ → Stepped
+  stepped x after used n =
       record {
-        session = d .session;
+        session = after;
         answer =
-            record {
-              reason = d .reason;
-              used = m .used;
-              reply = n;
-              columns = d .columns;
-              first = d .first;
-              count = d .count;
-            };
+            record { reason = x .reason; used = used; reply = n; columns = x .columns; first = x .first; count = x .count };
       }
 
-  pub step-back : (p : Put) (n : ℕ) → p ≡ putAt buffer 0 (replyBytes (d .reply)) → n ≡ placeBehind p →
-      stepped n ≡ stepOf s frame r buffer .back
-  step-back p n g h =
-      ap stepped (h ∙ ap placeBehind g ∙ put-whole buffer (replyBytes (d .reply)) fits) ∙ ap (λ (x : Step). x .back) steps
+  abbrev stepping : Bool → Step
+  stepping short =
+      let x = decidedOn short s m r in
+      record {
+        back = stepped (verdict x) (x .session) (cond short 0 (m .used)) (length (replyBytes (x .reply)));
+        buffer = written buffer 0 (replyBytes (x .reply));
+      }
 
-  pub step-buffer : (after : List ℕ) → after ≡ written buffer 0 (replyBytes (d .reply)) → after ≡ stepOf s frame r buffer .buffer
-  step-buffer after g = g ∙ ap (λ (x : Step). x .buffer) steps
+  steps-by : (short : Bool) → short ≡ ltb (length buffer) minBuffer → stepping short ≡ stepOn s m r buffer
+  unfolding replyBytes
+  steps-by true h =
+      ap (λ (l : List ℕ). left-with (tooShort s buffer .back) l) (put-none buffer)
+      ∙ yes (tooShort s buffer) (stepBy m buffer (decisionOf s m r)) (sym h)
+  steps-by false h = without (tooShort s buffer) (stepBy m buffer (decisionOf s m r)) (sym h)
+
+  steps : stepping b ≡ stepOf s frame r buffer
+  unfolding stepOf
+  steps = steps-by b t ∙ ap (λ (x : Message). stepOn s x r buffer) e
+
+  answers : v .reply ≡ decidedOn b s m r .reply
+  answers = ap (λ (x : Verdict). x .reply) (d .says)
+
+  -- the reply fits: a short buffer gets none
+  fits-by : (short : Bool) → short ≡ ltb (length buffer) minBuffer → length (replyBytes (decidedOn short s m r .reply)) ≤ length buffer
+  unfolding replyBytes
+  fits-by true h = omega arith
+  fits-by false h = le-trans (verdict-fits s m r (is-read frame m e) false) (ltb-false (length buffer) minBuffer (sym h))
+
+  pub step-back : (after : Session) (used : ℕ) (p : Put) (n : ℕ) → after ≡ cond (eqb (v .reason) 0) (sessionAfter s m r) s →
+      used ≡ cond b 0 (m .used) → p ≡ putAt buffer 0 (replyBytes (v .reply)) → n ≡ placeBehind p →
+      stepped v after used n ≡ stepOf s frame r buffer .back
+  step-back after used p n a u g h =
+      let bytes = replyBytes (decidedOn b s m r .reply) in
+      let length-is : n ≡ length bytes = h ∙ ap placeBehind (g ∙ ap (λ (x : Reply). putAt buffer 0 (replyBytes x)) answers) ∙ put-whole buffer bytes (fits-by b t) in
+      ap (λ (x : Verdict). stepped x after used n) (d .says)
+      ∙ ap (λ (x : Session). stepped (verdict (decidedOn b s m r)) x used n) (after-verdict s m r b v after d a)
+      ∙ ap (λ (x : ℕ). stepped (verdict (decidedOn b s m r)) (decidedOn b s m r .session) x n) u
+      ∙ ap (stepped (verdict (decidedOn b s m r)) (decidedOn b s m r .session) (cond b 0 (m .used))) length-is
+      ∙ ap (λ (x : Step). x .back) steps
+
+  pub step-buffer : (left : List ℕ) → left ≡ written buffer 0 (replyBytes (v .reply)) → left ≡ stepOf s frame r buffer .buffer
+  step-buffer left g =
+      g ∙ ap (λ (x : Reply). written buffer 0 (replyBytes x)) answers ∙ ap (λ (x : Step). x .buffer) steps

@@ -1,29 +1,45 @@
 // What a step decides on a message that was read: refused, or accepted with the session after it.
+ghost use mathlib.Core.Bool.{cond};
 ghost use mathlib.Core.Path.{_≡_};
-ghost use Prim.Native.Nat.{_^_, _<_};
-ghost use Rattle.session.specs.Tables.{liveCursor};
-ghost use Rattle.rules.specs.Decision.{accepted, decisionOf, named, refusedBy, refusedReply, reply, sessionAfter, wireCode};
+ghost use lib.Dec.{eqb};
+ghost use Rattle.rules.specs.Decision.{named, refusedReply, reply, sessionAfter, wireCode};
 ghost use Rattle.rules.specs.Read.{Read};
 ghost use Rattle.rules.specs.Refusal.{reportReason};
-ghost use Rattle.rules.specs.Rows.{rowCount};
+ghost use Rattle.keeper.specs.Verdict.{Accepts, Decides, Sends, refusedWith};
 use crate::refusal;
 use crate::rows;
 use message::message::Message;
 use reply::Reply;
-use rules::Decision;
 use rules::Report;
 use session::Cursor;
 use session::Session;
 use session::Which;
 
-// The session after an accepted message that sends `count` rows.
-fn session_after(session: Session, m: Message, report: Report, count: u64) -> Session
-    requires { ⌜ Read m ⌝ }
-    requires { ⌜ reportReason m report ≡ 0 ⌝ }
-    requires { ⌜ (count ≡ rowCount session m report) × (count < 2 ^ 32) ⌝ }
-    ensures { λ r. ⌜ r ≡ sessionAfter session m report ⌝ }
+// What is decided, but for the session after it: a session is handed on as seldom as can be, since each
+// time it is copied.
+pub(crate) struct Verdict {
+    pub reason: u64,
+    pub columns: bool,
+    pub first: u64,
+    pub count: u64,
+    pub reply: Reply,
+}
+
+// The type of an accepted message; of a refused one 0, which is no type.
+fn accepted_kind(m: Message, reason: u64) -> u64
+    ensures { λ r. ⌜ r ≡ cond (eqb reason 0) (m .kind) 0 ⌝ }
 {
-    let kind = m.kind;
+    if reason == 0 { m.kind } else { 0 }
+}
+
+// The session after a message that is refused, or accepted and sends `count` rows.
+pub(crate) fn session_after(session: Session, m: Message, report: Report, d: Verdict) -> Session
+    requires { ⌜ Read m ⌝ }
+    requires { ⌜ Sends session m report d ⌝ }
+    ensures { λ r. ⌜ r ≡ cond (eqb (d .reason) 0) (sessionAfter session m report) session ⌝ }
+{
+    let count = d.count;
+    let kind = accepted_kind(m, d.reason);
     let stmt = m.stmt as u32;
     let cursor = m.cursor as u32;
     match kind {
@@ -92,12 +108,11 @@ fn refused_reply(m: Message, report: Report, reason: u64) -> Reply
     }
 }
 
-fn refuse(session: Session, m: Message, report: Report, reason: u64) -> Decision
-    ensures { λ r. ⌜ r ≡ refusedBy session reason (refusedReply m report reason) ⌝ }
+fn refuse(m: Message, report: Report, reason: u64) -> Verdict
+    ensures { λ r. ⌜ r ≡ refusedWith reason (refusedReply m report reason) ⌝ }
 {
-    Decision {
+    Verdict {
         reason,
-        session,
         columns: false,
         first: 0,
         count: 0,
@@ -105,19 +120,16 @@ fn refuse(session: Session, m: Message, report: Report, reason: u64) -> Decision
     }
 }
 
-fn accept(session: Session, m: Message, report: Report, cursor: Cursor) -> Decision
-    requires { ⌜ Read m ⌝ }
+fn accept(m: Message, report: Report, cursor: Cursor) -> Verdict
     requires { ⌜ reportReason m report ≡ 0 ⌝ }
-    requires { ⌜ cursor ≡ liveCursor session (m .cursor) ⌝ }
-    ensures { λ r. ⌜ r ≡ accepted session m report ⌝ }
+    ensures { λ r. ⌜ Accepts cursor m report r ⌝ }
 {
     let first = rows::first_row(cursor, m);
     let count = rows::row_count(cursor, m, report);
     let columns = rows::sends_columns(m, report);
     let done = rows::none_remain(cursor, m, report, first, count);
-    Decision {
+    Verdict {
         reason: 0,
-        session: session_after(session, m, report, count),
         columns,
         first,
         count,
@@ -125,14 +137,26 @@ fn accept(session: Session, m: Message, report: Report, cursor: Cursor) -> Decis
     }
 }
 
-pub(crate) fn decide(session: Session, m: Message, report: Report) -> Decision
+// `short` says that the reply buffer is below its smallest size.
+pub(crate) fn decide(session: Session, m: Message, report: Report, short: bool) -> Verdict
     requires { ⌜ Read m ⌝ }
-    ensures { λ r. ⌜ r ≡ decisionOf session m report ⌝ }
+    ensures { λ r. ⌜ Decides short session m report r ⌝ }
 {
     let cursor = session.live_cursor(m.cursor as u32);
-    let reason = refusal::step_reason(session, m, report, cursor);
-    if reason != 0 {
-        return refuse(session, m, report, reason);
+    let looked = refusal::look_reason(session, m, cursor);
+    if short {
+        return refuse(m, report, 3);
     }
-    accept(session, m, report, cursor)
+    let reason = refusal::step_reason(m, report, looked);
+    if reason != 0 {
+        return refuse(m, report, reason);
+    }
+    accept(m, report, cursor)
+}
+
+// A short buffer leaves the frame unused.
+pub(crate) fn used_bytes(m: Message, short: bool) -> usize
+    ensures { λ r. ⌜ r ≡ cond short 0 (m .used) ⌝ }
+{
+    if short { 0 } else { m.used }
 }

@@ -52,29 +52,18 @@ fn place_behind(put: Put) -> usize
 pub fn step(session: Session, frame: &[u8], report: Report, reply: &mut [u8]) -> Stepped
     ensures { λ r. ⌜ (r ≡ stepOf session (now (frame .entry)) report (now (reply .entry)) .back) × (now (reply .exit) ≡ stepOf session (now (frame .entry)) report (now (reply .entry)) .buffer) ⌝ }
 {
-    if reply.len() < rules::MIN_BUFFER {
-        return Stepped {
-            session,
-            answer: Answer {
-                reason: 3,
-                used: 0,
-                reply: 0,
-                columns: false,
-                first: 0,
-                count: 0,
-            },
-        };
-    }
+    let short = reply.len() < rules::MIN_BUFFER;
     let m = message::frame::read_message(frame);
-    let d = decision::decide(session, m, report);
+    let d = decision::decide(session, m, report, short);
+    let after = decision::session_after(session, m, report, d);
+    let used = decision::used_bytes(m, short);
     let bytes = d.reply;
-    let after = d.session;
     let n = place_behind(reply::write_reply(reply, bytes));
     Stepped {
         session: after,
         answer: Answer {
             reason: d.reason,
-            used: m.used,
+            used,
             reply: n,
             columns: d.columns,
             first: d.first,

@@ -5,7 +5,7 @@ ghost use lib.Dec.{eqb, leb};
 ghost use Rattle.session.specs.Tables.{liveCursor};
 ghost use Rattle.rules.specs.Kind.{fails, suits, wanted, within, workOf};
 ghost use Rattle.rules.specs.Read.{Read};
-ghost use Rattle.rules.specs.Refusal.{lookReason, noPlace, reportReason, stepReason};
+ghost use Rattle.rules.specs.Refusal.{lookReason, noPlace, reportReason};
 ghost use Rattle.keeper.specs.Reason.{bindingReason, fetchReason, openReason, other, tableReason};
 use args::arguments::Arguments;
 use message::message::Message;
@@ -138,6 +138,10 @@ pub(crate) fn look_reason(session: Session, m: Message, cursor: Cursor) -> u64
     if reason != 0 {
         return reason;
     }
+    // A Fetch depends on its cursor alone: this way the session is not copied for it.
+    if m.kind == 45 {
+        return fetch_reason(cursor);
+    }
     table_reason(session, m, cursor)
 }
 
@@ -218,15 +222,12 @@ fn report_reason(m: Message, report: Report) -> u64
     15
 }
 
-// What a step refuses but 3.
-pub(crate) fn step_reason(session: Session, m: Message, report: Report, cursor: Cursor) -> u64
-    requires { ⌜ Read m ⌝ }
-    requires { ⌜ cursor ≡ liveCursor session (m .cursor) ⌝ }
-    ensures { λ r. ⌜ r ≡ stepReason session m report ⌝ }
+// What a step refuses but 3: what the look refuses, then the report.
+pub(crate) fn step_reason(m: Message, report: Report, looked: u64) -> u64
+    ensures { λ r. ⌜ r ≡ cond (eqb looked 0) (reportReason m report) looked ⌝ }
 {
-    let reason = look_reason(session, m, cursor);
-    if reason != 0 {
-        return reason;
+    if looked != 0 {
+        return looked;
     }
     report_reason(m, report)
 }

@@ -12,7 +12,7 @@ use Rattle.session.specs.declared.Place.{Place}
 use Rattle.session.specs.declared.Stmt.{Stmt}
 use Rattle.session.specs.declared.Cursor.{Cursor}
 use Rattle.session.specs.declared.Session.{Session}
-use Rattle.session.specs.Lists.{first, sumBy}
+use Rattle.session.specs.Lists.{first, entryAt, orPlace, sumBy}
 use Rattle.session.specs.Entry.{noStmt, noCursor}
 use Rattle.session.specs.Tables.{maxStmts, maxCursors}
 
@@ -49,6 +49,42 @@ module _ {A : Type 0} {p : A → Bool} {n : ℕ} {xs : List A} where
       pub looks-on : p (getD xs i d) ≡ false → Looking p n xs (i + 1)
       looks-on e = record { long = l .long; rest = rw add-one (turn false e) }
 
+-- a search of a table of n entries for the place that an entry takes: none passes p, and the search for q stands at i
+pub record Settling {A : Type 0} (p q : A → Bool) (n : ℕ) (xs : List A) (i : ℕ) : Type 0 where
+  pub none : Place.Nothing ≡ first p xs 0
+  pub free : Looking q n xs i
+
+module _ {A : Type 0} {p : A → Bool} {n : ℕ} {xs : List A} {i : ℕ} (l : Looking p n xs i) where
+  -- the place of the entry itself
+  pub own-place : (q : A → Bool) (d : A) → i < n → p (getD xs i d) ≡ true → Place.At i ≡ orPlace (first p xs 0) (first q xs 0)
+  own-place q d h e = ap (λ x. orPlace x (first q xs 0)) (placed l d h e)
+
+module _ {A : Type 0} {p q : A → Bool} {n : ℕ} {xs : List A} where
+  pub settles : {i : ℕ} → Looking p n xs i → n ≤ i → Settling p q n xs 0
+  settles l h = record { none = no-place l h; free = looks (l .long) }
+
+  module _ {i : ℕ} (l : Settling p q n xs i) where
+    settled : (x : Place) → x ≡ first q xs 0 → x ≡ orPlace (first p xs 0) (first q xs 0)
+    settled x e = e ∙ ap (λ y. orPlace y (first q xs 0)) (l .none)
+
+    -- the lowest place that is free
+    pub free-place : (d : A) → i < n → q (getD xs i d) ≡ true → Place.At i ≡ orPlace (first p xs 0) (first q xs 0)
+    free-place d h e = settled (Place.At i) (placed (l .free) d h e)
+
+    pub neither : n ≤ i → Place.Nothing ≡ orPlace (first p xs 0) (first q xs 0)
+    neither h = settled Place.Nothing (no-place (l .free) h)
+
+    pub settles-on : (d : A) → i < n → q (getD xs i d) ≡ false → Settling p q n xs (i + 1)
+    settles-on d h e = record { none = l .none; free = looks-on (l .free) d h e }
+
+-- what a search finds: the entry at the first place, or d
+module _ {A : Type 0} {p : A → Bool} {n : ℕ} {xs : List A} {i : ℕ} (l : Looking p n xs i) (d : A) where
+  pub holds-it : i < n → p (getD xs i d) ≡ true → getD xs i d ≡ entryAt xs (first p xs 0) d
+  holds-it h e = ap (λ x. entryAt xs x d) (placed l d h e)
+
+  pub holds-none : n ≤ i → d ≡ entryAt xs (first p xs 0) d
+  holds-none h = ap (λ x. entryAt xs x d) (no-place l h)
+
 -- the first i entries are changed by f
 unfoldable pub upTo : {A : Type 0} → (A → A) → ℕ → List A → List A
 upTo f zero xs = xs
@@ -83,6 +119,14 @@ module _ {A : Type 0} (f : A → A) where
   -- the store of a turn
   pub changes-on : (i : ℕ) (xs : List A) (d : A) → set (upTo f i xs) i (f (getD (upTo f i xs) i d)) ≡ upTo f (i + 1) xs
   changes-on i xs d = rw (upTo-at, add-one) (upTo-suc i xs d)
+
+  -- an entry that f leaves needs no store
+  pub upTo-left : (i : ℕ) (xs : List A) (d : A) → f (getD xs i d) ≡ getD xs i d → upTo f i xs ≡ upTo f (suc i) xs
+  unfolding upTo
+  upTo-left zero [] d e = refl
+  upTo-left zero (x ∷ xs) d e = ap (λ y. y ∷ xs) (sym e)
+  upTo-left (suc i) [] d e = refl
+  upTo-left (suc i) (x ∷ xs) d e = ap (λ ys. f x ∷ ys) (upTo-left i xs d e)
 
   pub upTo-all : (i : ℕ) (xs : List A) → length xs ≤ i → upTo f i xs ≡ map f xs
   unfolding upTo
@@ -149,6 +193,22 @@ module _ {A S : Type 0} {put : S → List A → S} {get : S → List A} {f : A �
               ∙ ap (put s₀) (changes-on f i (get s₀) d);
         }
 
+    -- a turn without a store
+    pub goes-past : ((s : S) (xs : List A) → get (put s xs) ≡ xs) → (d : A) → f (getD (get s) i d) ≡ getD (get s) i d →
+        Changing put get f n s₀ (i + 1) s
+    goes-past got d e =
+        let at : getD (get s) i d ≡ getD (get s₀) i d = ap (λ t. getD (get t) i d) (l .state) ∙ ap (λ ys. getD ys i d) (got s₀ (upTo f i (get s₀))) ∙ upTo-at f i (get s₀) d in
+        let left : f (getD (get s₀) i d) ≡ getD (get s₀) i d = sym (ap f at) ∙ e ∙ at in
+        record { long = l .long; state = rw add-one (l .state ∙ ap (put s₀) (upTo-left f i (get s₀) d left)) }
+
+-- a table by itself
+abbrev pub TableBy : {A : Type 0} → (A → A) → ℕ → List A → ℕ → List A → Type 0
+TableBy f n xs₀ i xs = Changing (λ xs ys. ys) (λ xs. xs) f n xs₀ i xs
+
+pub table-on : {A : Type 0} {f : A → A} {n i : ℕ} {xs₀ xs : List A} → TableBy f n xs₀ i xs → (d r : A) → r ≡ f (getD xs i d) →
+    TableBy f n xs₀ (i + 1) (set xs i r)
+table-on l d r e = goes-on l (λ s xs. refl) (λ s xs ys. refl) d r e
+
 -- the two tables of a session
 abbrev pub withStmts : Session → List Stmt → Session
 withStmts s ts = record { stmts = ts; cursors = s .cursors; closed = s .closed }
@@ -169,3 +229,7 @@ stmts-on l r e = goes-on l (λ s xs. refl) (λ s xs ys. refl) noStmt r e
 pub cursors-on : {f : Cursor → Cursor} {s₀ s : Session} {i : ℕ} → CursorsBy f s₀ i s → (r : Cursor) → r ≡ f (getD (s .cursors) i noCursor) →
     CursorsBy f s₀ (i + 1) (withCursors s (set (s .cursors) i r))
 cursors-on l r e = goes-on l (λ s xs. refl) (λ s xs ys. refl) noCursor r e
+
+pub cursors-past : {f : Cursor → Cursor} {s₀ s : Session} {i : ℕ} → CursorsBy f s₀ i s → f (getD (s .cursors) i noCursor) ≡ getD (s .cursors) i noCursor →
+    CursorsBy f s₀ (i + 1) s
+cursors-past l e = goes-past l (λ s xs. refl) noCursor e

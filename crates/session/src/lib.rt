@@ -1,12 +1,12 @@
 // The two tables of a session, and what each operation does to them.
 ghost use mathlib.Core.Path.{_≡_};
-ghost use Rattle.session.specs.Tables.{fresh, stmtAt, placeOf, cursorAt, cursorOn, stmtPlace, cursorPlace};
+ghost use Rattle.session.specs.Tables.{fresh, stmtPlace, cursorPlace};
 ghost use Rattle.session.specs.Tables.{endedBy, prepared, freed, opened, fetched, emptied};
 ghost use Rattle.session.specs.Tables.{owed, stmtCount, cursorCount, liveStmt, liveCursor, carried};
-ghost use Rattle.session.specs.Lists.{first, entryAt};
-ghost use Rattle.session.specs.Entry.{noStmt, noCursor, freeStmt, passes};
+ghost use Rattle.session.specs.Entry.{passes};
 
 mod entry;
+mod table;
 
 pub const MAX_STMTS: usize = 64;
 
@@ -60,101 +60,20 @@ impl Session {
         }
     }
 
-    pub fn find_stmt(self, id: u32) -> Place
-        ensures { λ r. ⌜ r ≡ stmtAt self id ⌝ }
-    {
-        let mut i = 0;
-        while i < MAX_STMTS {
-            if entry::is_stmt(self.stmts[i], id) {
-                return Place::At(i);
-            }
-            i += 1;
-        }
-        Place::Nothing
-    }
-
-    fn free_stmt(self) -> Place
-        ensures { λ r. ⌜ r ≡ first freeStmt (self .stmts) 0 ⌝ }
-    {
-        let mut i = 0;
-        while i < MAX_STMTS {
-            if entry::is_free(self.stmts[i]) {
-                return Place::At(i);
-            }
-            i += 1;
-        }
-        Place::Nothing
-    }
-
     // The place that a statement of this id takes: its own, or the lowest free one.
     pub fn stmt_place(self, id: u32) -> Place
         ensures { λ r. ⌜ r ≡ stmtPlace self id ⌝ }
     {
-        match self.find_stmt(id) {
-            Place::At(i) => Place::At(i),
-            Place::Nothing => self.free_stmt(),
-        }
-    }
-
-    // The first place whose cursor passes the test.
-    pub fn find(self, which: Which) -> Place
-        ensures { λ r. ⌜ r ≡ placeOf (passes which) self ⌝ }
-    {
-        let mut i = 0;
-        while i < MAX_CURSORS {
-            if entry::passes(self.cursors[i], which) {
-                return Place::At(i);
-            }
-            i += 1;
-        }
-        Place::Nothing
-    }
-
-    pub fn find_cursor(self, id: u32) -> Place
-        ensures { λ r. ⌜ r ≡ cursorAt self id ⌝ }
-    {
-        self.find(Which::Id(id))
-    }
-
-    pub fn cursor_on(self, stmt: u32) -> Place
-        ensures { λ r. ⌜ r ≡ cursorOn self stmt ⌝ }
-    {
-        self.find(Which::On(stmt))
+        let stmts = self.stmts;
+        table::stmt_place(stmts, id)
     }
 
     // The place that a cursor of this id takes: its own, or the lowest free one.
     pub fn cursor_place(self, id: u32) -> Place
         ensures { λ r. ⌜ r ≡ cursorPlace self id ⌝ }
     {
-        match self.find(Which::Id(id)) {
-            Place::At(i) => Place::At(i),
-            Place::Nothing => self.find(Which::Free),
-        }
-    }
-
-    // The entry at a place; the empty one where there is none.
-    pub fn stmt_in(self, place: Place) -> Stmt
-        ensures { λ r. ⌜ r ≡ entryAt (self .stmts) place noStmt ⌝ }
-    {
-        let Place::At(i) = place else {
-            return entry::NO_STMT;
-        };
-        if i < MAX_STMTS {
-            return self.stmts[i];
-        }
-        entry::NO_STMT
-    }
-
-    pub fn cursor_in(self, place: Place) -> Cursor
-        ensures { λ r. ⌜ r ≡ entryAt (self .cursors) place noCursor ⌝ }
-    {
-        let Place::At(i) = place else {
-            return entry::NO_CURSOR;
-        };
-        if i < MAX_CURSORS {
-            return self.cursors[i];
-        }
-        entry::NO_CURSOR
+        let cursors = self.cursors;
+        table::cursor_place(cursors, id)
     }
 
     // The live statement of an id, the live cursor of an id, the live cursor on a statement; the empty
@@ -162,69 +81,76 @@ impl Session {
     pub fn live_stmt(self, id: u32) -> Stmt
         ensures { λ r. ⌜ r ≡ liveStmt self id ⌝ }
     {
-        self.stmt_in(self.find_stmt(id))
+        let stmts = self.stmts;
+        table::stmt_of(stmts, id)
     }
 
     pub fn live_cursor(self, id: u32) -> Cursor
         ensures { λ r. ⌜ r ≡ liveCursor self id ⌝ }
     {
-        self.cursor_in(self.find(Which::Id(id)))
+        let cursors = self.cursors;
+        table::first_cursor(cursors, Which::Id(id))
     }
 
     pub fn carried(self, stmt: u32) -> Cursor
         ensures { λ r. ⌜ r ≡ carried self stmt ⌝ }
     {
-        self.cursor_in(self.find(Which::On(stmt)))
+        let cursors = self.cursors;
+        table::first_cursor(cursors, Which::On(stmt))
     }
 
     // Every cursor that passes the test ends.
     pub fn end(mut self, which: Which) -> Session
         ensures { λ r. ⌜ r ≡ endedBy (passes which) self ⌝ }
     {
-        let mut i = 0;
-        while i < MAX_CURSORS {
-            self.cursors[i] = entry::ended(self.cursors[i], which);
-            i += 1;
-        }
+        let cursors = self.cursors;
+        let left = table::without(cursors, which);
+        self.cursors = left;
         self
     }
 
     // Stores a statement at its place; its cursor ends.
-    pub fn prepare(self, id: u32, placeholders: u32) -> Session
+    pub fn prepare(mut self, id: u32, placeholders: u32) -> Session
         ensures { λ r. ⌜ r ≡ prepared self id placeholders ⌝ }
     {
-        let mut s = self.end(Which::On(id));
-        match self.stmt_place(id) {
+        let stmts = self.stmts;
+        let cursors = self.cursors;
+        let left = table::without(cursors, Which::On(id));
+        self.cursors = left;
+        match table::stmt_place(stmts, id) {
             Place::At(i) => {
-                s.stmts[i] = Stmt {
+                self.stmts[i] = Stmt {
                     id,
                     placeholders,
                     live: true,
                 };
-                s
+                self
             }
-            Place::Nothing => s,
+            Place::Nothing => self,
         }
     }
 
     // Frees a statement; its cursor ends.
-    pub fn free(self, stmt: u32) -> Session
+    pub fn free(mut self, stmt: u32) -> Session
         ensures { λ r. ⌜ r ≡ freed self stmt ⌝ }
     {
-        let mut s = self.end(Which::On(stmt));
+        let cursors = self.cursors;
+        let left = table::without(cursors, Which::On(stmt));
+        self.cursors = left;
         let mut i = 0;
         while i < MAX_STMTS {
-            s.stmts[i] = entry::freed(s.stmts[i], stmt);
+            self.stmts[i] = entry::freed(self.stmts[i], stmt);
             i += 1;
         }
-        s
+        self
     }
 
     // Stores a cursor at its place.
     pub fn open(mut self, id: u32, stmt: u32, rows: u32, sent: u32) -> Session
         ensures { λ r. ⌜ r ≡ opened self id stmt rows sent ⌝ }
     {
-        match self.cursor_place(id) {
+        let cursors = self.cursors;
+        match table::cursor_place(cursors, id) {
             Place::At(i) => {
                 self.cursors[i] = Cursor {
                     id,
@@ -245,7 +171,9 @@ impl Session {
     {
         let mut i = 0;
         while i < MAX_CURSORS {
-            self.cursors[i] = entry::fetched(self.cursors[i], id, count);
+            if entry::is_cursor(self.cursors[i], id) {
+                self.cursors[i] = entry::fetched(self.cursors[i], id, count);
+            }
             i += 1;
         }
         self

@@ -1,5 +1,5 @@
-use mathlib.Core.Path.{_∙_}
-use Rattle.keeper.proofs.DecisionLaws.{decides-refused, decides-accepted, report-accepted}
+use Rattle.keeper.proofs.ReasonLaws.{reason-is}
+use Rattle.keeper.proofs.DecisionLaws.{decides-short, decides-refused, decides-accepted, report-accepted}
 use borrow.Author.Needs.{needs}
 use Rattle.keeper.proofs.decision.decide.Statement.{statement}
 use Rattle.keeper.proofs.decision.decide.Tie as tie
@@ -7,20 +7,33 @@ use Rattle.keeper.proofs.decision.decide.Tie as tie
 returns : tie.Need-returns
 returns c =
     let a = c .before .before .before .before .before .args in
-    let n = c .before .before .step-reason in
-    c .refuse .ensures ∙ decides-refused (a .session) (a .m) (a .report) (n .result) (n .ensures) (c .before .if1 .taken)
-
-accept-requires : tie.Need-accept-requires
-accept-requires c κs =
-    let a = c .before .before .before .before in
-    let n = c .before .step-reason in
-    (a .pre, (report-accepted (a .args .session) (a .args .m) (a .args .report) (n .result) (n .ensures) (c .if1 .left), c .before .before .live-cursor .ensures))
+    decides-short (a .session) (a .m) (a .report) (a .short) _ (c .before .if1 .taken) (c .refuse .ensures)
 
 returns-2 : tie.Need-returns-2
 returns-2 c =
-    let a = c .before .before .before .before .before .args in
+    let a = c .before .before .before .before .before .before .before .args in
+    let l = c .before .before .before .before .look-reason in
     let n = c .before .before .step-reason in
-    c .accept .ensures ∙ decides-accepted (a .session) (a .m) (a .report) (n .result) (n .ensures) (c .before .if1 .left)
+    decides-refused (a .session) (a .m) (a .report) (a .short) _ (c .before .before .before .if1 .left) (n .result)
+    (reason-is (a .session) (a .m) (a .report) (l .result) (n .result) (l .ensures) (n .ensures)) (c .before .if2 .taken) (c .refuse2 .ensures)
+
+accept-requires : tie.Need-accept-requires
+accept-requires c κs =
+    let a = c .before .before .before .before .before .before .args in
+    let l = c .before .before .before .look-reason in
+    let n = c .before .step-reason in
+    report-accepted (a .session) (a .m) (a .report) (n .result)
+    (reason-is (a .session) (a .m) (a .report) (l .result) (n .result) (l .ensures) (n .ensures)) (c .if2 .left)
+
+returns-3 : tie.Need-returns-3
+returns-3 c =
+    let a = c .before .before .before .before .before .before .before .args in
+    let u = c .before .before .before .before .before .live-cursor in
+    let l = c .before .before .before .before .look-reason in
+    let n = c .before .before .step-reason in
+    decides-accepted (a .session) (a .m) (a .report) (a .short) _ (c .before .before .before .if1 .left) (n .result)
+    (reason-is (a .session) (a .m) (a .report) (l .result) (n .result) (l .ensures) (n .ensures)) (c .before .if2 .left)
+    (u .result) (u .ensures) (c .accept .ensures)
 
 pub decide-spec : {M : Type 1} → statement M
 decide-spec =
@@ -31,5 +44,8 @@ decide-spec =
     (λ c κs. search needs)
     (λ c κs. search needs)
     returns
+    (λ c κs. search needs)
+    (λ c κs. search needs)
+    returns-2
     accept-requires
-    returns-2)
+    returns-3)

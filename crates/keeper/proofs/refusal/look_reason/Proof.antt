@@ -1,5 +1,6 @@
-use mathlib.Core.Path.{_∙_}
-use Rattle.keeper.proofs.ReasonLaws.{look-one, look-two, look-closed, look-unsound, look-tables}
+use mathlib.Core.Path.{ap, _∙_}
+use Rattle.keeper.specs.Reason.{fetchReason}
+use Rattle.keeper.proofs.ReasonLaws.{look-one, look-two, look-closed, look-unsound, look-tables, table-fetch}
 use borrow.Author.Needs.{needs}
 use Rattle.keeper.proofs.refusal.look_reason.Statement.{statement}
 use Rattle.keeper.proofs.refusal.look_reason.Tie as tie
@@ -22,9 +23,17 @@ returns-4 c =
 
 returns-5 : tie.Need-returns-5
 returns-5 c =
-    let a = c .before .before .before .before .before .args in
+    let a = c .before .before .before .before .before .before .before .args in
+    c .fetch-reason .ensures
+    ∙ ap fetchReason (c .before .before .before .before .before .before .before .pre .1)
+    ∙ table-fetch (a .session) (a .m) (c .before .if5 .taken)
+    ∙ look-tables (a .session) (a .m) (c .before .before .before .before .before .before .if1 .left) (c .before .before .before .before .before .if2 .left) (c .before .before .before .before .if3 .left) (c .before .before .before .if4 .left)
+
+returns-6 : tie.Need-returns-6
+returns-6 c =
+    let a = c .before .before .before .before .before .before .before .args in
     c .table-reason .ensures
-    ∙ look-tables (a .session) (a .m) (c .before .before .before .before .if1 .left) (c .before .before .before .if2 .left) (c .before .before .if3 .left) (c .before .if4 .left)
+    ∙ look-tables (a .session) (a .m) (c .before .before .before .before .before .before .if1 .left) (c .before .before .before .before .before .if2 .left) (c .before .before .before .before .if3 .left) (c .before .before .before .if4 .left)
 
 pub look-reason-spec : {M : Type 1} → statement M
 look-reason-spec =
@@ -35,4 +44,6 @@ look-reason-spec =
     returns-3
     returns-4
     (λ c κs. search needs)
-    returns-5)
+    returns-5
+    (λ c κs. search needs)
+    returns-6)

@@ -1,12 +1,12 @@
 -- `session::Session::free` meets its contract. Assumes nothing.
 use Prim.Native.Nat.{_-_}
 use native.Mathlib.Omega.{arith}
-use mathlib.Core.Path.{refl, _∙_}
+use mathlib.Core.Path.{refl, ap, _∙_}
 use borrow.Author.Needs.{needs}
 use Rattle.session.specs.Lists.{change}
 use Rattle.session.specs.Entry.{isStmt, noStmt}
 use Rattle.session.specs.Tables.{maxStmts}
-use Rattle.session.proofs.LoopLaws.{length-mapped, StmtsBy, begins, stmts-on, done}
+use Rattle.session.proofs.LoopLaws.{length-mapped, StmtsBy, begins, stmts-on, done, withCursors}
 use Rattle.session.proofs.StepLaws.{frees}
 use Rattle.session.proofs.Session.free.Statement.{statement}
 use Rattle.session.proofs.Session.free.Tie as tie
@@ -26,11 +26,11 @@ mul-freed c = omega arith
 element-copy-out-freed : tie.Need-element-copy-out-freed Inv-loop μ-loop
 element-copy-out-freed c = omega arith
 
-mul-t13 : tie.Need-mul-t13 Inv-loop μ-loop
-mul-t13 c = omega arith
+mul-t14 : tie.Need-mul-t14 Inv-loop μ-loop
+mul-t14 c = omega arith
 
-element-set-from-s : tie.Need-element-set-from-s Inv-loop μ-loop
-element-set-from-s c = omega arith
+element-set-from-self : tie.Need-element-set-from-self Inv-loop μ-loop
+element-set-from-self c = omega arith
 
 add-i : tie.Need-add-i Inv-loop μ-loop
 add-i c = omega arith
@@ -42,7 +42,7 @@ loop-again : tie.Need-loop-again Inv-loop μ-loop
 loop-again c = stmts-on (c .before .before .before .loop .inv) (c .freed .result) (c .freed .ensures)
 
 returns : tie.Need-returns Inv-loop μ-loop
-returns c = let a = c .before .before .before .args in done (c .before .loop .inv) (c .loop-test .left) ∙ frees (a .self) (a .stmt) _ (c .before .before .end .ensures)
+returns c = let a = c .before .before .before .before .args in done (c .before .loop .inv) (c .loop-test .left) ∙ frees (a .t1) (a .stmt) _ (ap (withCursors (a .t1)) (c .before .before .without .ensures))
 
 pub free-spec : {M : Type 1} → statement M
 free-spec =
@@ -55,8 +55,8 @@ free-spec =
     mul-freed
     element-copy-out-freed
     (λ c κs. search needs)
-    mul-t13
-    element-set-from-s
+    mul-t14
+    element-set-from-self
     add-i
     loop-less
     loop-again

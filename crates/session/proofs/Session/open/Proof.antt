@@ -15,7 +15,7 @@ use Rattle.session.proofs.Session.open.Tie as tie
 -- the place is in the table
 inside : (c : tie.After-known-told) → c .before .i .given .0 .0 < maxCursors
 inside c =
-    let a = c .before .before .before .before .args in
+    let a = c .before .before .before .before .before .args in
     let long : length (a .t1 .cursors) ≡ maxCursors = search length-mapped in
     omega (arith, long, taken-inside (isCursor (a .id)) freeCursor noCursor (a .t1 .cursors) _ (sym (c .before .before .before .cursor-place .ensures) ∙ c .before .i .given .1))
 
@@ -26,10 +26,10 @@ element-set-from-self : tie.Need-element-set-from-self
 element-set-from-self c = inside c
 
 returns : tie.Need-returns
-returns c = let a = c .before .before .before .before .args in opens (a .t1) (a .id) (a .stmt) (a .rows) (a .sent) _ (sym (c .before .before .before .cursor-place .ensures) ∙ c .before .i .given .1)
+returns c = let a = c .before .before .before .before .before .args in opens (a .t1) (a .id) (a .stmt) (a .rows) (a .sent) _ (sym (c .before .before .before .cursor-place .ensures) ∙ c .before .i .given .1)
 
 returns-2 : tie.Need-returns-2
-returns-2 c = let a = c .before .before .before .args in opens (a .t1) (a .id) (a .stmt) (a .rows) (a .sent) _ (sym (c .before .before .cursor-place .ensures) ∙ c .enum-told .given .1)
+returns-2 c = let a = c .before .before .before .before .args in opens (a .t1) (a .id) (a .stmt) (a .rows) (a .sent) _ (sym (c .before .before .cursor-place .ensures) ∙ c .enum-told .given .1)
 
 pub open-spec : {M : Type 1} → statement M
 open-spec =
