@@ -1,25 +1,11 @@
 // Steps as a host takes them. A line for each: reason, bytes used, reply length, columns, first row, row
 // count, and the reply in hex. A line of a look: reason, work, first row, row count.
 ghost use Prim.Native.Nat.{_≤_};
+use hex_print::print_bytes;
 use libc::STDOUT_FILENO;
 use rules::Answer;
 use rules::Report;
 use session::Session;
-
-fn wide(b: u8) -> u64 {
-    b as u64
-}
-
-// The first n bytes.
-fn print_bytes(buf: &[u8], n: usize) {
-    let mut i = 0;
-    while i < n {
-        if i < buf.len() {
-            io::print_hex(STDOUT_FILENO, wide(buf[i]), 2);
-        }
-        i += 1;
-    }
-}
 
 fn print_number(n: u64) {
     io::print_decimal(STDOUT_FILENO, n);

@@ -1,23 +1,9 @@
 // Replies as they are written into a buffer of 128 bytes: the length and the bytes in hex, a line
 // each. The last finds no room in 9 bytes and leaves them as they were.
+use hex_print::print_bytes;
 use libc::STDOUT_FILENO;
 use reply::Reply;
 use varint::write::Put;
-
-fn wide(b: u8) -> u64 {
-    b as u64
-}
-
-// The first n bytes.
-fn print_bytes(buf: &[u8], n: usize) {
-    let mut i = 0;
-    while i < n {
-        if i < buf.len() {
-            io::print_hex(STDOUT_FILENO, wide(buf[i]), 2);
-        }
-        i += 1;
-    }
-}
 
 fn print_front(buf: &[u8], n: usize) {
     io::print_decimal(STDOUT_FILENO, n as u64);

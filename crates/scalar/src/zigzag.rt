@@ -5,7 +5,7 @@ ghost use mir.Val.{toZ, ofZ};
 ghost use Rattle.scalar.specs.Zigzag.{zigzag, unzigzag};
 
 // The number whose bits in two's complement are x.
-fn of_bits(x: u64) -> i64
+pub fn of_bits(x: u64) -> i64
     ensures { λ r. ⌜ r ≡ toZ w64 x ⌝ }
 {
     if x < 0x8000_0000_0000_0000 {
@@ -16,7 +16,7 @@ fn of_bits(x: u64) -> i64
 }
 
 // The bits in two's complement of v.
-fn to_bits(v: i64) -> u64
+pub fn to_bits(v: i64) -> u64
     ensures { λ r. ⌜ r ≡ ofZ w64 v ⌝ }
 {
     if 0 <= v {

@@ -30,7 +30,7 @@ use Rattle.writer.proofs.TailLaws.{Stands, stands-length, stands-first,
 
 -- ---- one field
 
-tag-reads : (g num w at : ℕ) (s q : List ℕ) → g ≡ num * 8 + w → 0 < num → num < 10 → w < 6 → Stands s at (varintBytes g) q →
+pub tag-reads : (g num w at : ℕ) (s q : List ℕ) → g ≡ num * 8 + w → 0 < num → num < 10 → w < 6 → Stands s at (varintBytes g) q →
     tagAt s at ≡ Tag.Field num w (at + length (varintBytes g))
 tag-reads g num w at s q e a b c k =
     ap tagOf (reads-there g at s q (omega arith) (k .there))

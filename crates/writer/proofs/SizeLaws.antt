@@ -44,7 +44,7 @@ module _ (d : Draft) (bs : List ℕ) where
       length (executePayload d bs)
       ≡ length (numberField 1 (d .stmt)) + length bs + length (optionalField (d .hascompact) 3 (cond (d .compact) 1 0))
   unfolding executePayload
-  execute-parts = simp length-append
+  execute-parts = simp length-append (omega arith)
 
   pub prepare-stmt-parts :
       length (prepareStmtPayload d bs)

@@ -12,6 +12,7 @@ mod payload;
 // `stmt` counts for Prepare, Execute, Deallocate and Open, `cursor` for Open, Close and Fetch, `rows`
 // (fetch_rows, where `hasrows`) for Open and Fetch, `compact` (compact_metadata, where `hascompact`) for
 // Execute and Open, `choice` (the type of the statement) for Prepare.
+#[repr(C)]
 pub struct Draft {
     pub kind: u64,
     pub stmt: u32,
@@ -24,6 +25,7 @@ pub struct Draft {
 }
 
 // The reason by which a draft is refused, or 0 and the length of the frame that was written.
+#[repr(C)]
 pub struct Sent {
     pub reason: u64,
     pub len: usize,

@@ -1,22 +1,8 @@
 // Messages as they are written: a line each with the reason, the length and the frame's bytes in hex.
+use hex_print::print_bytes;
 use libc::STDOUT_FILENO;
 use writer::Draft;
 use writer::Sent;
-
-fn wide(b: u8) -> u64 {
-    b as u64
-}
-
-// The first n bytes.
-fn print_bytes(buf: &[u8], n: usize) {
-    let mut i = 0;
-    while i < n {
-        if i < buf.len() {
-            io::print_hex(STDOUT_FILENO, wide(buf[i]), 2);
-        }
-        i += 1;
-    }
-}
 
 // A draft of this kind with these ids and nothing else.
 fn draft(kind: u64, stmt: u32, cursor: u32) -> Draft {

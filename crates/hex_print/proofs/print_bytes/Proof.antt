@@ -1,8 +1,8 @@
--- `keeper_samples::print_bytes` is safe and ends. Assumes nothing.
+-- `hex_print::print_bytes` is safe and ends. Assumes nothing.
 use Prim.Native.Nat.{_-_}
 use borrow.Author.Needs.{needs}
-use Rattle.keeper_samples.proofs.print_bytes.Statement.{statement}
-use Rattle.keeper_samples.proofs.print_bytes.Tie as tie
+use Rattle.hex_print.proofs.print_bytes.Statement.{statement}
+use Rattle.hex_print.proofs.print_bytes.Tie as tie
 
 abbrev Inv-loop : tie.InvT-loop
 Inv-loop buf n i₀ i = Unit {0}

@@ -1,0 +1,112 @@
+-- The form of an argument, case by case. Assumes nothing.
+use Prim.Native.Nat.{ℕ, _+_, _≤_, _<_}
+use native.Mathlib.Omega.{arith}
+use mathlib.Core.Path.{_≡_, refl, ap, subst}
+use mathlib.Core.Bool.{Bool, true, false, not, cond}
+use mathlib.Core.List.{List}
+use lib.ListN.{length, take, drop}
+use lib.Dec.{T, leb}
+use lib.Ieee.{Float, nan, inf, fin, isNan, ne, nanBits, binary32, binary64, toBits}
+use lib.Ieee.Compare.{differs-from-itself, nan-differs}
+use borrow.Author.Tests.{le-leb, lt-leb, leb-true}
+use Rattle.scalar.specs.Argument.{typeOf}
+use Rattle.scalar.specs.declared.argument.Argument.{Argument}
+use Rattle.scalar.specs.declared.argument.Argument.the-variants as Va
+use Rattle.reply.specs.Frame.{numberField, bytesField}
+use Rattle.args.proofs.PartLaws.{yes, no as without}
+use Rattle.args_writer.specs.Fixed.{fixedField}
+use Rattle.args_writer.specs.Scalar.{writable, valueField}
+use Rattle.args_writer.specs.Form.{form, noForm, valueForm, bytesForm, formOf, pair, valueAs, valueIn}
+use Rattle.args_writer.specs.declared.form.Form.{Form}
+
+-- ---- bytes in a source of n bytes
+
+module _ (kind tag start len n : ℕ) where
+  pub bytes-past : n < start + len → noForm ≡ bytesForm kind tag start len n
+  bytes-past h = without (form true kind tag 2 0 start len) noForm (lt-leb (start + len) n h)
+
+  pub bytes-in : start + len ≤ n → form true kind tag 2 0 start len ≡ bytesForm kind tag start len n
+  bytes-in h = yes (form true kind tag 2 0 start len) noForm (le-leb (start + len) n h)
+
+-- ---- NaNs
+
+-- a NaN, and nothing else, differs from itself
+pub nan-told : (x : Float) → ne x x ≡ true → isNan x ≡ true
+unfolding isNan
+nan-told x e = ap isNan (differs-from-itself x (rw e tt))
+
+pub nan-not : (x : Float) → ne x x ≡ false → isNan x ≡ false
+unfolding isNan
+nan-not nan e = absurd (let d = nan-differs in let z : _≡_ {A = ℕ} 0 1 = cc in omega arith)
+nan-not (inf s) e = refl
+nan-not (fin s m d) e = refl
+
+pub nan-asked : (x : Float) → isNan x ≡ false → T (not (isNan x))
+nan-asked x e = rw e tt
+
+-- ---- a form is good where the argument can be written
+
+good-if : (b : Bool) (f : Form) → f .good ≡ true → cond b f noForm .good ≡ b
+good-if true f e = e
+good-if false f e = refl
+
+good-unless : (b : Bool) (f : Form) → f .good ≡ true → cond b noForm f .good ≡ not b
+good-unless true f e = refl
+good-unless false f e = e
+
+pub form-good : (a : Argument) (src : List ℕ) → formOf a (length src) .good ≡ writable a src
+form-good (Va.Signed z) src = refl
+form-good (Va.Unsigned n) src = refl
+form-good Va.Null src = refl
+form-good (Va.Octets start len) src = good-if (leb (start + len) (length src)) (form true 4 42 2 0 start len) refl
+form-good (Va.Double d) src = good-unless (isNan d) (valueForm 5 49 1 (toBits binary64 d)) refl
+form-good (Va.DoubleNan n) src = good-if (nanBits binary64 n) (valueForm 5 49 1 n) refl
+form-good (Va.Float d) src = good-unless (isNan d) (valueForm 6 61 5 (toBits binary32 d)) refl
+form-good (Va.FloatNan n) src = good-if (nanBits binary32 n) (valueForm 6 61 5 n) refl
+form-good (Va.Bool b) src = refl
+form-good (Va.String start len) src = good-if (leb (start + len) (length src)) (form true 8 74 2 0 start len) refl
+form-good Va.Object src = refl
+form-good Va.Array src = refl
+form-good (Va.Refused n) src = refl
+
+-- ---- a good form is the argument's: type, field of the value, bytes within the source
+
+pub record Formed (a : Argument) (src : List ℕ) (f : Form) : Type 0 where
+  pub kind : f .kind ≡ typeOf a
+  pub within : f .start + f .len ≤ length src
+  pub value : valueIn f (take (f .len) (drop (f .start) src)) ≡ valueField a src
+
+formed-if : (a : Argument) (src : List ℕ) (f : Form) (b : Bool) → b ≡ true → Formed a src f → Formed a src (cond b f noForm)
+formed-if a src f b e w = subst (Formed a src) (yes f noForm e) w
+
+formed-unless : (a : Argument) (src : List ℕ) (f : Form) (b : Bool) → not b ≡ true → Formed a src f → Formed a src (cond b noForm f)
+formed-unless a src f false e w = w
+formed-unless a src f true e w = absurd (let z : _≡_ {A = ℕ} 0 1 = cc in omega arith)
+
+pub formed : (a : Argument) (src : List ℕ) → writable a src ≡ true → Formed a src (formOf a (length src))
+unfolding valueAs pair numberField bytesField fixedField
+formed (Va.Signed z) src e = record { kind = refl; within = omega arith; value = refl }
+formed (Va.Unsigned n) src e = record { kind = refl; within = omega arith; value = refl }
+formed Va.Null src e = record { kind = refl; within = omega arith; value = refl }
+formed (Va.Octets start len) src e =
+    formed-if (Va.Octets start len) src (form true 4 42 2 0 start len) (leb (start + len) (length src)) e
+    (record { kind = refl; within = leb-true (start + len) (length src) e; value = refl })
+formed (Va.Double d) src e =
+    formed-unless (Va.Double d) src (valueForm 5 49 1 (toBits binary64 d)) (isNan d) e
+    (record { kind = refl; within = omega arith; value = refl })
+formed (Va.DoubleNan n) src e =
+    formed-if (Va.DoubleNan n) src (valueForm 5 49 1 n) (nanBits binary64 n) e
+    (record { kind = refl; within = omega arith; value = refl })
+formed (Va.Float d) src e =
+    formed-unless (Va.Float d) src (valueForm 6 61 5 (toBits binary32 d)) (isNan d) e
+    (record { kind = refl; within = omega arith; value = refl })
+formed (Va.FloatNan n) src e =
+    formed-if (Va.FloatNan n) src (valueForm 6 61 5 n) (nanBits binary32 n) e
+    (record { kind = refl; within = omega arith; value = refl })
+formed (Va.Bool b) src e = record { kind = refl; within = omega arith; value = refl }
+formed (Va.String start len) src e =
+    formed-if (Va.String start len) src (form true 8 74 2 0 start len) (leb (start + len) (length src)) e
+    (record { kind = refl; within = leb-true (start + len) (length src) e; value = refl })
+formed Va.Object src e = absurd (let z : _≡_ {A = ℕ} 0 1 = cc in omega arith)
+formed Va.Array src e = absurd (let z : _≡_ {A = ℕ} 0 1 = cc in omega arith)
+formed (Va.Refused n) src e = absurd (let z : _≡_ {A = ℕ} 0 1 = cc in omega arith)

@@ -1,0 +1,7 @@
+pub mod FixedLaws
+pub mod SizeLaws
+pub mod FormLaws
+pub mod AppendLaws
+pub mod FixedBackLaws
+pub mod ScalarBackLaws
+pub mod ReadsLaws

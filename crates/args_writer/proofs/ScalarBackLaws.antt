@@ -1,0 +1,322 @@
+-- A scalar that is written reads back as itself, wherever its Any stands. Assumes nothing.
+use Prim.Native.Nat.{ℕ, _+_, _^_, _<_}
+use native.Mathlib.Omega.{arith}
+use native.Mathlib.Nat.{mod-eq-of-lt}
+use mathlib.Core.Path.{_≡_, refl, sym, ap, subst, _∙_}
+use mathlib.Core.Bool.{Bool, true, false, not, cond}
+use mathlib.Core.List.{List, []}
+use lib.ListN.{length, getD, take, drop, length-drop}
+use lib.Seq.{length-take-le}
+use lib.Dec.{T, leb, eqb}
+use lib.Ieee.{Float, Format, binary32, binary64, fits, isNan, nanBits, ofBits, toBits}
+use lib.Ieee.Bits.{ofBits-toBits, toBits-lt, nanBits-is}
+use borrow.Author.Tests.{leb-true, not-true}
+use Rattle.scalar.specs.Zigzag.{zigzag}
+use Rattle.scalar.specs.Argument.{carried, doubleOf, floatOf, signedOf, typeOf}
+use Rattle.scalar.specs.declared.argument.Argument.{Argument}
+use Rattle.scalar.specs.declared.argument.Argument.the-variants as Va
+use Rattle.scalar.proofs.ZigzagLaws.{unzigzag-zigzag}
+use Rattle.layout.specs.Table.{rowsOf, any, scalar, bytes}
+use Rattle.layout.specs.Row.{rowFor}
+use Rattle.layout.specs.Slots.{noSlots}
+use Rattle.layout.specs.Fields.{useOf, hasRequired}
+use Rattle.layout.specs.declared.slots.Slots.{Slots}
+use Rattle.layout.specs.declared.fields.Use.{Use}
+use Rattle.layout.proofs.FieldsLaws.{Listing}
+use Rattle.reply.specs.Frame.{numberField, bytesField}
+use Rattle.args.specs.Part.{embedded, low32}
+use Rattle.args.specs.Value.{bytesOf as bytesTaken, bytesIn, ofType, scalarOf, ofAnyType, anyOf, argumentIn}
+use Rattle.args.proofs.PartLaws.{yes, no as without}
+use Rattle.writer.proofs.TailLaws.{Stands, stands-length, stands-bytes, stands-next}
+use Rattle.writer.proofs.FieldLaws.{Reads, withNumber, withBytes, reads-number, reads-bytes, reads-then, embedded-good, stands-inside}
+use Rattle.writer.proofs.ExecuteBackLaws.{partStart}
+use Rattle.args_writer.specs.Fixed.{fixedField}
+use Rattle.args_writer.specs.Scalar.{bytesOf, writable, valueField, scalarBytes, anyBytes}
+use Rattle.args_writer.specs.Reads.{Sized, placed}
+use Rattle.args_writer.proofs.FixedBackLaws.{withFixed, reads-fixed}
+
+-- ---- what the rows take
+
+module _ (v : ℕ) where
+  kept-any : (Use.Kept ≡ useOf (rowsOf any) 1 0 1) × (Use.Kept ≡ useOf (rowsOf any) 2 2 v)
+  unfolding rowsOf rowFor
+  kept-any = (refl, refl)
+
+  kept-bytes : Use.Kept ≡ useOf (rowsOf bytes) 1 2 v
+  unfolding rowsOf rowFor
+  kept-bytes = refl
+
+  kept-value :
+      (Use.Kept ≡ useOf (rowsOf scalar) 2 0 v)
+      × (Use.Kept ≡ useOf (rowsOf scalar) 3 0 v)
+      × (Use.Kept ≡ useOf (rowsOf scalar) 5 2 v)
+      × (Use.Kept ≡ useOf (rowsOf scalar) 6 1 v)
+      × (Use.Kept ≡ useOf (rowsOf scalar) 7 5 v)
+      × (Use.Kept ≡ useOf (rowsOf scalar) 8 0 v)
+      × (Use.Kept ≡ useOf (rowsOf scalar) 9 2 v)
+  unfolding rowsOf rowFor
+  kept-value = (refl, refl, refl, refl, refl, refl, refl)
+
+-- the listed types
+abbrev Listed : ℕ → Type 0
+Listed t = Use.Kept ≡ useOf (rowsOf scalar) 1 0 t
+
+listed : Listed 1 × Listed 2 × Listed 3 × Listed 4 × Listed 5 × Listed 6 × Listed 7 × Listed 8
+unfolding rowsOf rowFor
+listed = (refl, refl, refl, refl, refl, refl, refl, refl)
+
+-- ---- the Any, and the Scalar in it
+
+-- where the Scalar stands in its Any
+abbrev pub scalarPlace : ℕ → List ℕ → ℕ
+scalarPlace at content = partStart 2 (at + length (numberField 1 1)) (length content)
+
+any-needed : (at p n : ℕ) → true ≡ hasRequired (rowsOf any) (withBytes 2 n p (withNumber 1 1 at noSlots) .count)
+unfolding rowsOf hasRequired
+any-needed at p n = refl
+
+any-taken : (s : List ℕ) (at p n : ℕ) →
+    scalarOf s (embedded (rowsOf scalar) s (partStart 2 p n) n) ≡ anyOf s (withBytes 2 n p (withNumber 1 1 at noSlots))
+unfolding anyOf ofAnyType
+any-taken s at p n = refl
+
+module _ {s q : List ℕ} {at : ℕ} (t : ℕ) (value : List ℕ) (k : Stands s at (anyBytes t value) q) where
+  abbrev content : List ℕ
+  content = scalarBytes t value
+
+  pub scalar-stands : Stands s (scalarPlace at content) content q
+  unfolding anyBytes
+  scalar-stands = stands-inside 2 content (stands-next (numberField 1 1) (bytesField 2 content) k)
+
+  pub any-back : length content < 2 ^ 64 →
+      argumentIn s at (length (anyBytes t value)) ≡ scalarOf s (embedded (rowsOf scalar) s (scalarPlace at content) (length content))
+  unfolding anyBytes
+  any-back short =
+      ap (anyOf s)
+      (embedded-good
+      (reads-then (reads-number (rowsOf any) 1 1 (kept-any 1 .0) (omega arith) (omega arith) (omega arith))
+      (reads-bytes (rowsOf any) 2 content (kept-any (length content) .1) (omega arith) (omega arith) short))
+      k (sym (any-needed at (at + length (numberField 1 1)) (length content))))
+      ∙ sym (any-taken s at (at + length (numberField 1 1)) (length content))
+
+-- ---- the value in the Scalar
+
+-- behind the type the value is read
+scalar-in : {s q : List ℕ} {at t : ℕ} {value : List ℕ} {g : ℕ → Slots → Slots} → Listed t → t < 10 → Reads (rowsOf scalar) value g →
+    true ≡ hasRequired (rowsOf scalar) (g (at + length (numberField 1 t)) (withNumber 1 t at noSlots) .count) → Stands s at (scalarBytes t value) q →
+    embedded (rowsOf scalar) s at (length (scalarBytes t value)) ≡ g (at + length (numberField 1 t)) (withNumber 1 t at noSlots)
+unfolding scalarBytes
+scalar-in {t = t} u few r h k =
+    embedded-good (reads-then (reads-number (rowsOf scalar) 1 t u (omega arith) (omega arith) (omega arith)) r) k (sym h)
+
+-- only the type is required
+scalar-needed : (count : List ℕ) → getD count 1 0 ≡ 1 → true ≡ hasRequired (rowsOf scalar) count
+unfolding rowsOf hasRequired
+scalar-needed count e = sym (ap (λ (n : ℕ). cond (not (eqb n 0)) true false) e)
+
+-- what each type takes of its Scalar
+module _ (s : List ℕ) (at p v : ℕ) where
+  sint-taken : signedOf v ≡ scalarOf s (withNumber 2 v p (withNumber 1 1 at noSlots))
+  unfolding scalarOf ofType
+  sint-taken = refl
+
+  uint-taken : Va.Unsigned v ≡ scalarOf s (withNumber 3 v p (withNumber 1 2 at noSlots))
+  unfolding scalarOf ofType
+  uint-taken = refl
+
+  null-taken : Va.Null ≡ scalarOf s (withNumber 1 3 at noSlots)
+  unfolding scalarOf ofType
+  null-taken = refl
+
+  octets-taken : bytesIn true s (partStart 5 p v) v ≡ scalarOf s (withBytes 5 v p (withNumber 1 4 at noSlots))
+  unfolding scalarOf ofType
+  octets-taken = refl
+
+  double-taken : doubleOf v ≡ scalarOf s (withFixed 6 1 8 v p (withNumber 1 5 at noSlots))
+  unfolding scalarOf ofType
+  double-taken = refl
+
+  float-taken : floatOf (low32 v) ≡ scalarOf s (withFixed 7 5 4 v p (withNumber 1 6 at noSlots))
+  unfolding scalarOf ofType
+  float-taken = refl
+
+  bool-taken : Va.Bool (not (eqb v 0)) ≡ scalarOf s (withNumber 8 v p (withNumber 1 7 at noSlots))
+  unfolding scalarOf ofType
+  bool-taken = refl
+
+  string-taken : bytesIn false s (partStart 9 p v) v ≡ scalarOf s (withBytes 9 v p (withNumber 1 8 at noSlots))
+  unfolding scalarOf ofType
+  string-taken = refl
+
+-- ---- doubles and floats
+
+module _ (f : Format) (raw : ℕ → Argument) (number : Float → Argument) where
+  number-kept : (d : Float) → T (fits f d) → not (isNan d) ≡ true → carried f raw number (toBits f d) ≡ number d
+  number-kept d h e =
+      let back = ofBits-toBits f d h in
+      sym (without (raw (toBits f d)) (number (ofBits f (toBits f d))) (nanBits-is f (toBits f d) ∙ ap isNan back ∙ not-true _ e))
+      ∙ ap number back
+
+  raw-kept : (n : ℕ) → nanBits f n ≡ true → carried f raw number n ≡ raw n
+  raw-kept n e = sym (yes (raw n) (number (ofBits f n)) e)
+
+-- ---- bytes
+
+bytes-needed : (at n : ℕ) → true ≡ hasRequired (rowsOf bytes) (withBytes 1 n at noSlots .count)
+unfolding rowsOf hasRequired
+bytes-needed at n = refl
+
+abbrev bytesCase : Bool → ℕ → ℕ → Argument
+bytesCase octets p n = cond octets (Va.Octets p n) (Va.String p n)
+
+bytes-back : {s q : List ℕ} {at : ℕ} (octets : Bool) (bs : List ℕ) → length bs < 2 ^ 64 → Stands s at (bytesField 1 bs) q →
+    bytesIn octets s at (length (bytesField 1 bs)) ≡ bytesCase octets (partStart 1 at (length bs)) (length bs)
+bytes-back {s} {q} {at} octets bs short k =
+    ap (bytesTaken octets)
+    (embedded-good (reads-bytes (rowsOf bytes) 1 bs (kept-bytes (length bs)) (omega arith) (omega arith) short) k
+    (sym (bytes-needed at (length bs))))
+
+-- ---- every scalar
+
+-- r is the scalar a, with the bytes that it names in src
+pub record Back (a : Argument) (src s : List ℕ) (r : Argument) : Type 0 where
+  pub place : ℕ
+  pub is : r ≡ placed place a
+  pub bytes : bytesOf (placed place a) s ≡ bytesOf a src
+
+-- the Scalar of type t with this value, where it stands
+abbrev Taken : List ℕ → ℕ → ℕ → List ℕ → Argument
+Taken s at t value = scalarOf s (embedded (rowsOf scalar) s at (length (scalarBytes t value)))
+
+-- octets and string: where the message with the bytes stands, and the bytes in it
+abbrev innerPlace : ℕ → ℕ → ℕ → List ℕ → ℕ
+innerPlace at t num bs = partStart num (at + length (numberField 1 t)) (length (bytesField 1 bs))
+
+abbrev bytesPlace : ℕ → ℕ → ℕ → List ℕ → ℕ
+bytesPlace at t num bs = partStart 1 (innerPlace at t num bs) (length bs)
+
+module _ {s q : List ℕ} {at : ℕ} (t num : ℕ) (bs : List ℕ) (k : Stands s at (scalarBytes t (bytesField num (bytesField 1 bs))) q) where
+  inner-stands : Stands s (innerPlace at t num bs) (bytesField 1 bs) q
+  unfolding scalarBytes
+  inner-stands = stands-inside num (bytesField 1 bs) (stands-next (numberField 1 t) (bytesField num (bytesField 1 bs)) k)
+
+  bytes-stand : Stands s (bytesPlace at t num bs) bs q
+  bytes-stand = stands-inside 1 bs inner-stands
+
+  part-back : length s < 2 ^ 64 → Listed t → t < 10 → Use.Kept ≡ useOf (rowsOf scalar) num 2 (length (bytesField 1 bs)) → 0 < num → num < 10 →
+      (octets : Bool) →
+      getD (withBytes num (length (bytesField 1 bs)) (at + length (numberField 1 t)) (withNumber 1 t at noSlots) .count) 1 0 ≡ 1 →
+      bytesIn octets s (innerPlace at t num bs) (length (bytesField 1 bs))
+      ≡ scalarOf s (withBytes num (length (bytesField 1 bs)) (at + length (numberField 1 t)) (withNumber 1 t at noSlots)) →
+      Taken s at t (bytesField num (bytesField 1 bs)) ≡ bytesCase octets (bytesPlace at t num bs) (length bs)
+  part-back small u low kept some few octets one taken =
+      ap (scalarOf s)
+      (scalar-in u low (reads-bytes (rowsOf scalar) num (bytesField 1 bs) kept some few (omega (arith, stands-length inner-stands)))
+      (scalar-needed _ one) k)
+      ∙ sym taken
+      ∙ bytes-back octets bs (omega (arith, stands-length bytes-stand)) inner-stands
+
+-- a bool is written as 0 or 1
+bit-small : (b : Bool) → cond b 1 0 < 2 ^ 64
+bit-small true = omega arith
+bit-small false = omega arith
+
+bit-kept : (b : Bool) → not (eqb (cond b 1 0) 0) ≡ b
+bit-kept true = refl
+bit-kept false = refl
+
+named-long : (start len : ℕ) (src : List ℕ) → leb (start + len) (length src) ≡ true → length (take len (drop start src)) ≡ len
+named-long start len src e =
+    let h = leb-true (start + len) (length src) e in
+    length-take-le len (drop start src) (omega (arith, length-drop start src))
+
+no-value : Reads (rowsOf scalar) [] (λ at x. x)
+no-value =
+    record {
+      on = λ s from at q x k l.
+          let e : at ≡ at + 0 = omega arith in
+          subst (λ (p : ℕ). Listing (rowsOf scalar) s from p x) e l;
+    }
+
+-- a value that is no bytes
+plain : {a r : Argument} {src s : List ℕ} → placed 0 a ≡ a → bytesOf a s ≡ bytesOf a src → r ≡ a → Back a src s r
+plain {a} {r} {src} {s} e f g = record { place = 0; is = g ∙ sym e; bytes = ap (λ (b : Argument). bytesOf b s) e ∙ f }
+
+module _ {s q : List ℕ} {at : ℕ} (small : length s < 2 ^ 64) (src : List ℕ) where
+  -- a number, and a fixed value, behind the type
+  number-back : {t num v : ℕ} {r : Argument} → Listed t → t < 10 → Use.Kept ≡ useOf (rowsOf scalar) num 0 v → 0 < num → num < 10 → v < 2 ^ 64 →
+      getD (withNumber num v (at + length (numberField 1 t)) (withNumber 1 t at noSlots) .count) 1 0 ≡ 1 →
+      r ≡ scalarOf s (withNumber num v (at + length (numberField 1 t)) (withNumber 1 t at noSlots)) →
+      Stands s at (scalarBytes t (numberField num v)) q → Taken s at t (numberField num v) ≡ r
+  number-back {num = num} {v = v} u low kept some few h one taken k =
+      ap (scalarOf s) (scalar-in u low (reads-number (rowsOf scalar) num v kept some few h) (scalar-needed _ one) k) ∙ sym taken
+
+  double-back : (n : ℕ) → n < 2 ^ 64 → Stands s at (scalarBytes 5 (fixedField 6 1 8 n)) q → Taken s at 5 (fixedField 6 1 8 n) ≡ doubleOf n
+  double-back n h k =
+      ap (scalarOf s)
+      (scalar-in (listed .4) (omega arith)
+      (reads-fixed (rowsOf scalar) 6 1 8 n (λ s p. refl) (kept-value n .3) (omega arith) (omega arith) (omega arith) (λ e. omega arith) h)
+      (scalar-needed _ refl) k)
+      ∙ sym (double-taken s at (at + length (numberField 1 5)) n)
+
+  float-back : (n : ℕ) → n < 2 ^ 32 → Stands s at (scalarBytes 6 (fixedField 7 5 4 n)) q → Taken s at 6 (fixedField 7 5 4 n) ≡ floatOf n
+  float-back n h k =
+      ap (scalarOf s)
+      (scalar-in (listed .5) (omega arith)
+      (reads-fixed (rowsOf scalar) 7 5 4 n (λ s p. refl) (kept-value n .4) (omega arith) (omega arith) (omega arith) (λ e. omega arith) h)
+      (scalar-needed _ refl) k)
+      ∙ sym (float-taken s at (at + length (numberField 1 6)) n)
+      ∙ ap floatOf (mod-eq-of-lt h)
+
+  pub scalar-back : (a : Argument) → Sized a → writable a src ≡ true → Stands s at (scalarBytes (typeOf a) (valueField a src)) q →
+      Back a src s (Taken s at (typeOf a) (valueField a src))
+  scalar-back (Va.Signed z) h e k =
+      plain refl refl
+      (number-back (listed .0) (omega arith) (kept-value (zigzag z) .0) (omega arith) (omega arith) h refl
+      (sint-taken s at (at + length (numberField 1 1)) (zigzag z)) k
+      ∙ ap Va.Signed (unzigzag-zigzag z))
+  scalar-back (Va.Unsigned n) h e k =
+      plain refl refl
+      (number-back (listed .1) (omega arith) (kept-value n .1) (omega arith) (omega arith) h refl
+      (uint-taken s at (at + length (numberField 1 2)) n) k)
+  scalar-back Va.Null h e k =
+      plain refl refl (ap (scalarOf s) (scalar-in (listed .2) (omega arith) no-value (scalar-needed _ refl) k) ∙ sym (null-taken s at 0 0))
+  scalar-back (Va.Octets start len) h e k =
+      let bs = take len (drop start src) in
+      let n = named-long start len src e in
+      let p = bytesPlace at 4 5 bs in
+      record {
+        place = p;
+        is =
+            part-back 4 5 bs k small (listed .3) (omega arith) (kept-value (length (bytesField 1 bs)) .2) (omega arith) (omega arith) true refl
+            (octets-taken s at (at + length (numberField 1 4)) (length (bytesField 1 bs)))
+            ∙ ap (Va.Octets p) n;
+        bytes = ap (λ (m : ℕ). take m (drop p s)) (sym n) ∙ stands-bytes (bytes-stand 4 5 bs k);
+      }
+  scalar-back (Va.Double d) h e k =
+      plain refl refl (double-back (toBits binary64 d) (toBits-lt binary64 d h) k ∙ number-kept binary64 Va.DoubleNan Va.Double d h e)
+  scalar-back (Va.DoubleNan n) h e k =
+      plain refl refl (double-back n h k ∙ raw-kept binary64 Va.DoubleNan Va.Double n e)
+  scalar-back (Va.Float d) h e k =
+      plain refl refl (float-back (toBits binary32 d) (toBits-lt binary32 d h) k ∙ number-kept binary32 Va.FloatNan Va.Float d h e)
+  scalar-back (Va.FloatNan n) h e k = plain refl refl (float-back n h k ∙ raw-kept binary32 Va.FloatNan Va.Float n e)
+  scalar-back (Va.Bool b) h e k =
+      plain refl refl
+      (number-back (listed .6) (omega arith) (kept-value (cond b 1 0) .5) (omega arith) (omega arith) (bit-small b) refl
+      (bool-taken s at (at + length (numberField 1 7)) (cond b 1 0)) k
+      ∙ ap Va.Bool (bit-kept b))
+  scalar-back (Va.String start len) h e k =
+      let bs = take len (drop start src) in
+      let n = named-long start len src e in
+      let p = bytesPlace at 8 9 bs in
+      record {
+        place = p;
+        is =
+            part-back 8 9 bs k small (listed .7) (omega arith) (kept-value (length (bytesField 1 bs)) .6) (omega arith) (omega arith) false refl
+            (string-taken s at (at + length (numberField 1 8)) (length (bytesField 1 bs)))
+            ∙ ap (Va.String p) n;
+        bytes = ap (λ (m : ℕ). take m (drop p s)) (sym n) ∙ stands-bytes (bytes-stand 8 9 bs k);
+      }
+  scalar-back Va.Object h e k = absurd (let z : _≡_ {A = ℕ} 0 1 = cc in omega arith)
+  scalar-back Va.Array h e k = absurd (let z : _≡_ {A = ℕ} 0 1 = cc in omega arith)
+  scalar-back (Va.Refused n) h e k = absurd (let z : _≡_ {A = ℕ} 0 1 = cc in omega arith)

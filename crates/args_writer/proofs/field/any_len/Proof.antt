@@ -1,0 +1,44 @@
+-- `args_writer::field::any_len` meets its contract. Assumes nothing.
+use Rattle.args_writer.specs.Form.{pair, valueIn}
+use Rattle.args_writer.proofs.SizeLaws.{pair-short, scalar-short, any-parts}
+use Prim.Native.Nat.{ℕ}
+use lib.ListN.{length}
+use mathlib.Core.Path.{ap}
+use native.Mathlib.Omega.{arith}
+use borrow.Author.Needs.{needs}
+use Rattle.args_writer.proofs.field.any_len.Statement.{statement}
+use Rattle.args_writer.proofs.field.any_len.Tie as tie
+
+add-result : tie.Need-add-result
+add-result c =
+    omega (arith, pair-short 8 1, pair-short 18 (c .before .before .scalar-len .result))
+
+add-result-2 : tie.Need-add-result-2
+add-result-2 c =
+    let a = c .before .before .before .before .args in
+    omega (
+      arith,
+      pair-short 8 1,
+      pair-short 18 (c .before .before .scalar-len .result),
+      scalar-short (a .f .kind) (a .f) (a .bytes .now),
+    )
+
+returns : tie.Need-returns
+returns c =
+    let a = c .before .before .before .before .args in
+    omega (
+      arith,
+      any-parts (a .f .kind) (valueIn (a .f) (a .bytes .now)),
+      ap (λ (n : ℕ). length (pair 18 n)) (c .before .before .scalar-len .ensures),
+    )
+
+pub any-len-spec : {M : Type 1} → statement M
+any-len-spec =
+    tie.close
+    (tie.spec
+    (λ c κs. search needs)
+    (λ c κs. search needs)
+    (λ c κs. search needs)
+    add-result
+    add-result-2
+    returns)

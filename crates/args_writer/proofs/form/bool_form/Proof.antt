@@ -1,0 +1,24 @@
+-- `args_writer::form::bool_form` meets its contract. Assumes nothing.
+use Rattle.args_writer.specs.Form.{valueForm}
+use mathlib.Core.Bool.{Bool, cond}
+use mathlib.Core.Path.{sym, ap, _∙_}
+use borrow.Author.Needs.{needs}
+use Rattle.args_writer.proofs.form.bool_form.Statement.{statement}
+use Rattle.args_writer.proofs.form.bool_form.Tie as tie
+
+returns : tie.Need-returns
+returns c =
+    c .value-form .ensures ∙ ap (λ (b : Bool). valueForm 7 64 0 (cond b 1 0)) (sym (c .before .if1 .taken))
+
+returns-2 : tie.Need-returns-2
+returns-2 c =
+    c .value-form2 .ensures ∙ ap (λ (b : Bool). valueForm 7 64 0 (cond b 1 0)) (sym (c .before .if1 .left))
+
+pub bool-form-spec : {M : Type 1} → statement M
+bool-form-spec =
+    tie.close
+    (tie.spec
+    (λ c κs. search needs)
+    (λ c κs. search needs)
+    returns
+    returns-2)

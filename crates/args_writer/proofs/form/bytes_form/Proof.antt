@@ -1,0 +1,32 @@
+-- `args_writer::form::bytes_form` meets its contract. Assumes nothing.
+use Rattle.args_writer.proofs.FormLaws.{bytes-past, bytes-in}
+use mathlib.Core.Path.{_∙_}
+use native.Mathlib.Omega.{arith}
+use borrow.Author.Needs.{needs}
+use Rattle.args_writer.proofs.form.bytes_form.Statement.{statement}
+use Rattle.args_writer.proofs.form.bytes_form.Tie as tie
+
+returns : tie.Need-returns
+returns c =
+    let a = c .before .before .args in
+    c .no-form .ensures ∙ bytes-past (a .kind) (a .tag) (a .start) (a .len) (a .n) (omega arith)
+
+returns-2 : tie.Need-returns-2
+returns-2 c =
+    let a = c .before .before .before .args in
+    c .no-form2 .ensures ∙ bytes-past (a .kind) (a .tag) (a .start) (a .len) (a .n) (omega arith)
+
+returns-3 : tie.Need-returns-3
+returns-3 c =
+    let a = c .before .before .args in
+    bytes-in (a .kind) (a .tag) (a .start) (a .len) (a .n) (omega arith)
+
+pub bytes-form-spec : {M : Type 1} → statement M
+bytes-form-spec =
+    tie.close
+    (tie.spec
+    (λ c κs. search needs)
+    returns
+    (λ c κs. search needs)
+    returns-2
+    returns-3)

@@ -1,0 +1,38 @@
+-- `args_writer::form::float_form` meets its contract. Assumes nothing.
+use lib.Ieee.{binary32, toBits}
+use Rattle.args.proofs.PartLaws.{yes, no}
+use Rattle.args_writer.specs.Form.{noForm, valueForm}
+use Rattle.args_writer.proofs.FormLaws.{nan-told, nan-not, nan-asked}
+use Prim.Native.Nat.{ℕ}
+use mathlib.Core.Path.{ap, _∙_}
+use borrow.Author.Needs.{needs}
+use Rattle.args_writer.proofs.form.float_form.Statement.{statement}
+use Rattle.args_writer.proofs.form.float_form.Tie as tie
+
+returns : tie.Need-returns
+returns c =
+    let x = c .before .before .args .x in
+    c .no-form .ensures ∙ yes noForm (valueForm 6 61 5 (toBits binary32 x)) (nan-told x (c .before .if1 .taken))
+
+float-to-bits-wide : tie.Need-float-to-bits-wide
+float-to-bits-wide c =
+    let x = c .before .args .x in
+    nan-asked x (nan-not x (c .if1 .left))
+
+returns-2 : tie.Need-returns-2
+returns-2 c =
+    let x = c .before .before .before .args .x in
+    c .value-form .ensures
+    ∙ ap (λ (n : ℕ). valueForm 6 61 5 n) (c .before .wide .ensures)
+    ∙ no noForm (valueForm 6 61 5 (toBits binary32 x)) (nan-not x (c .before .before .if1 .left))
+
+pub float-form-spec : {M : Type 1} → statement M
+float-form-spec =
+    tie.close
+    (tie.spec
+    (λ c κs. search needs)
+    returns
+    float-to-bits-wide
+    (λ c κs. search needs)
+    (λ c κs. search needs)
+    returns-2)

@@ -1,0 +1,5 @@
+pub mod Fixed
+pub mod Scalar
+pub mod Append
+pub mod Form
+pub mod Reads
