@@ -1,0 +1,4 @@
+pub mod BehindLaws
+pub mod GivenLaws
+pub mod ReadLaws
+pub mod ValueLaws

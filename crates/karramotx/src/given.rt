@@ -1,0 +1,47 @@
+// A scalar that a host gives as numbers, as the argument it stands for.
+ghost use mathlib.Core.Path.{_≡_};
+ghost use Rattle.karramotx.specs.Given.{floatOfBits, givenArgument, signedOfBits};
+use scalar::argument::Argument;
+
+// `kind` is the Scalar type, 1 to 8. `value` is as `Value` tells it.
+#[repr(C)]
+pub struct Scalar {
+    pub kind: u64,
+    pub value: u64,
+}
+
+// A sint of its two's complement bits.
+fn signed_of_bits(bits: u64) -> Argument
+    ensures { λ r. ⌜ r ≡ signedOfBits bits ⌝ }
+{
+    Argument::Signed(scalar::zigzag::of_bits(bits))
+}
+
+// A float has 32 bits; a larger number is none.
+fn float_of_bits(bits: u64) -> Argument
+    ensures { λ r. ⌜ r ≡ floatOfBits bits ⌝ }
+{
+    if 0x1_0000_0000 <= bits {
+        return Argument::Refused(6);
+    }
+    scalar::argument::float_argument(bits as u32)
+}
+
+// The argument, with its bytes, if it has any, the first n of a source.
+pub fn argument_of(scalar: Scalar, n: usize) -> Argument
+    ensures { λ r. ⌜ r ≡ givenArgument scalar n ⌝ }
+{
+    let kind = scalar.kind;
+    let value = scalar.value;
+    match kind {
+        1 => signed_of_bits(value),
+        2 => Argument::Unsigned(value),
+        3 => Argument::Null,
+        4 => Argument::Octets { start: 0, len: n },
+        5 => scalar::argument::double_argument(value),
+        6 => float_of_bits(value),
+        7 => Argument::Bool(value != 0),
+        8 => Argument::String { start: 0, len: n },
+        _ => Argument::Refused(6),
+    }
+}
