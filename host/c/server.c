@@ -1,0 +1,150 @@
+#include "server.h"
+#include "engine.h"
+
+#include <inttypes.h>
+
+static const char *kind_name(uint64_t kind)
+{
+    switch (kind) {
+    case KARRAMOTX_SESS_RESET: return "Reset";
+    case KARRAMOTX_SESS_CLOSE: return "Session close";
+    case KARRAMOTX_PREPARE: return "Prepare";
+    case KARRAMOTX_EXECUTE: return "Execute";
+    case KARRAMOTX_DEALLOCATE: return "Deallocate";
+    case KARRAMOTX_CURSOR_OPEN: return "Open";
+    case KARRAMOTX_CURSOR_CLOSE: return "Close";
+    case KARRAMOTX_CURSOR_FETCH: return "Fetch";
+    default: return "?";
+    }
+}
+
+static void print_bytes(const uint8_t *bytes, size_t len, FILE *out)
+{
+    for (size_t i = 0; i < len; i++)
+        fprintf(out, "%02x", bytes[i]);
+}
+
+static void print_value(struct karramotx_value v, const uint8_t *frame, FILE *out)
+{
+    switch (v.kind) {
+    case KARRAMOTX_SINT:
+        fprintf(out, "sint %" PRId64, (int64_t)v.value);
+        break;
+    case KARRAMOTX_UINT:
+        fprintf(out, "uint %" PRIu64, v.value);
+        break;
+    case KARRAMOTX_NULL:
+        fprintf(out, "null");
+        break;
+    case KARRAMOTX_DOUBLE:
+    case KARRAMOTX_FLOAT:
+        fprintf(out, "%s of bits %" PRIx64, v.kind == KARRAMOTX_FLOAT ? "float" : "double", v.value);
+        break;
+    case KARRAMOTX_BOOL:
+        fprintf(out, "%s", v.value ? "true" : "false");
+        break;
+    case KARRAMOTX_OCTETS:
+    case KARRAMOTX_STRING:
+        fprintf(out, "%zu bytes ", v.len);
+        print_bytes(frame + v.start, v.len, out);
+        break;
+    default:
+        fprintf(out, "refused %" PRIu64, v.reason);
+    }
+}
+
+/* All arguments, in one pass. */
+static void print_arguments(const uint8_t *frame, struct karramotx_message m, FILE *out)
+{
+    struct karramotx_value v;
+    for (size_t at = m.args.start; at < m.args.end; at = v.next) {
+        v = karramotx_next_argument(frame, m.args.end, at);
+        if (v.reason == KARRAMOTX_FEW_ARGUMENTS)
+            break;
+        fprintf(out, "    argument: ");
+        print_value(v, frame, out);
+        fprintf(out, "\n");
+    }
+}
+
+/* One frame: look, let the engine work, step, send. Answers how many bytes the frame took. */
+static size_t serve_frame(struct karramotx_session *session, const uint8_t *frame, size_t len, FILE *out)
+{
+    uint8_t reply[KARRAMOTX_MIN_REPLY];
+    struct karramotx_look look = karramotx_look(session, frame, len);
+    struct karramotx_report report = engine_work(look, frame, len);
+    struct karramotx_answer answer = karramotx_step(session, frame, len, report, reply, sizeof reply);
+    if (answer.used == 0)
+        return 0;
+
+    struct karramotx_message m = karramotx_read(frame, len);
+    fprintf(out, "%s", kind_name(m.kind));
+    if (answer.reason != KARRAMOTX_ACCEPTED)
+        fprintf(out, ": refused %" PRIu64, answer.reason);
+    fprintf(out, "\n");
+    if (m.kind == KARRAMOTX_EXECUTE || m.kind == KARRAMOTX_CURSOR_OPEN)
+        print_arguments(frame, m, out);
+    engine_send(answer, out);
+    fprintf(out, "    reply ");
+    print_bytes(reply, answer.reply, out);
+    fprintf(out, "\n");
+    return answer.used;
+}
+
+size_t serve(struct karramotx_session *session, const uint8_t *bytes, size_t len, bool *broken, FILE *out)
+{
+    size_t at = 0;
+    for (;;) {
+        size_t used = serve_frame(session, bytes + at, len - at, out);
+        if (used == 0)
+            break;
+        at += used;
+    }
+    *broken = karramotx_read(bytes + at, len - at).reason == KARRAMOTX_BAD_LENGTH;
+    return at;
+}
+
+static bool stmts_are_sound(const struct karramotx_session *s)
+{
+    for (size_t i = 0; i < KARRAMOTX_MAX_STMTS; i++) {
+        struct karramotx_stmt x = s->stmts[i];
+        if (!x.live && (x.id != 0 || x.placeholders != 0))
+            return false;
+        for (size_t j = 0; j < i; j++) {
+            if (x.live && s->stmts[j].live && s->stmts[j].id == x.id)
+                return false;
+        }
+    }
+    return true;
+}
+
+static bool has_stmt(const struct karramotx_session *s, uint32_t id)
+{
+    for (size_t i = 0; i < KARRAMOTX_MAX_STMTS; i++) {
+        if (s->stmts[i].live && s->stmts[i].id == id)
+            return true;
+    }
+    return false;
+}
+
+static bool cursors_are_sound(const struct karramotx_session *s)
+{
+    for (size_t i = 0; i < KARRAMOTX_MAX_CURSORS; i++) {
+        struct karramotx_cursor x = s->cursors[i];
+        if (!x.live && (x.id != 0 || x.stmt != 0 || x.rows != 0 || x.sent != 0))
+            return false;
+        if (x.live && (!has_stmt(s, x.stmt) || x.sent > x.rows))
+            return false;
+        for (size_t j = 0; j < i; j++) {
+            struct karramotx_cursor y = s->cursors[j];
+            if (x.live && y.live && (x.id == y.id || x.stmt == y.stmt))
+                return false;
+        }
+    }
+    return true;
+}
+
+bool session_is_sound(const struct karramotx_session *session)
+{
+    return stmts_are_sound(session) && cursors_are_sound(session);
+}

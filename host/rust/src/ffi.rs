@@ -1,0 +1,274 @@
+//! The library's own structs and functions, as `include/karramotx.h` has them.
+//!
+//! The rest of this crate wraps them. They are public for hosts that keep a session in memory of their
+//! own; the header documents each field and function.
+
+/// One place of the statement table.
+#[repr(C)]
+#[derive(Debug, Clone, Copy, Default, PartialEq, Eq)]
+pub struct Stmt {
+    /// The statement id.
+    pub id: u32,
+    /// How many placeholders the engine reported.
+    pub placeholders: u32,
+    /// Whether the place is taken.
+    pub live: bool,
+}
+
+/// One place of the cursor table.
+#[repr(C)]
+#[derive(Debug, Clone, Copy, Default, PartialEq, Eq)]
+pub struct Cursor {
+    /// The cursor id.
+    pub id: u32,
+    /// The id of its statement.
+    pub stmt: u32,
+    /// Rows that the engine reported.
+    pub rows: u32,
+    /// Rows sent so far.
+    pub sent: u32,
+    /// Whether the place is taken.
+    pub live: bool,
+}
+
+/// The places of the statement table.
+pub const MAX_STMTS: usize = 64;
+/// The places of the cursor table.
+pub const MAX_CURSORS: usize = 16;
+
+/// A session. A free place is not live and all 0.
+#[repr(C)]
+#[derive(Debug, Clone, Copy, PartialEq, Eq)]
+pub struct Session {
+    /// The statement table.
+    pub stmts: [Stmt; MAX_STMTS],
+    /// The cursor table.
+    pub cursors: [Cursor; MAX_CURSORS],
+    /// Whether the session is closed.
+    pub closed: bool,
+}
+
+/// What a session holds, counted.
+#[repr(C)]
+#[derive(Debug, Clone, Copy, Default, PartialEq, Eq)]
+pub struct Counts {
+    /// Live statements.
+    pub stmts: u64,
+    /// Live cursors.
+    pub cursors: u64,
+    /// Rows that the cursors have still to send.
+    pub owed: u64,
+}
+
+/// What a look answers.
+#[repr(C)]
+#[derive(Debug, Clone, Copy, Default, PartialEq, Eq)]
+pub struct Look {
+    /// 0, or why a step will refuse the frame.
+    pub reason: u64,
+    /// The work wanted: 0 none, 1 prepare, 2 execute, 3 open, 4 fetch.
+    pub work: u64,
+    /// Of a Fetch, the first row to send.
+    pub first: u64,
+    /// Of a Fetch, how many rows to send.
+    pub count: u64,
+}
+
+/// What the engine did: 0 none, 1 prepared, 2 result, 3 done, 4 failed.
+#[repr(C)]
+#[derive(Debug, Clone, Copy, Default, PartialEq, Eq)]
+pub struct Report {
+    /// The kind of the report; another number is refused.
+    pub kind: u64,
+    /// Placeholders, columns or the error code.
+    pub a: u64,
+    /// Rows.
+    pub b: u64,
+}
+
+/// What a step answers.
+#[repr(C)]
+#[derive(Debug, Clone, Copy, Default, PartialEq, Eq)]
+pub struct Answer {
+    /// 0, or why the frame is refused.
+    pub reason: u64,
+    /// Bytes of the frame.
+    pub used: usize,
+    /// Bytes of the reply.
+    pub reply: usize,
+    /// Whether columns go out.
+    pub columns: bool,
+    /// The first row to send.
+    pub first: u64,
+    /// How many rows to send.
+    pub count: u64,
+}
+
+/// A field that may be absent.
+#[repr(C)]
+#[derive(Debug, Clone, Copy, Default, PartialEq, Eq)]
+pub struct Optional {
+    /// Whether it is there.
+    pub present: bool,
+    /// Its value, 0 where it is absent.
+    pub value: u64,
+}
+
+/// Some bytes of a frame.
+#[repr(C)]
+#[derive(Debug, Clone, Copy, Default, PartialEq, Eq)]
+pub struct Part {
+    /// Their place.
+    pub start: usize,
+    /// Their length.
+    pub len: usize,
+}
+
+/// The arguments of a message, all together.
+#[repr(C)]
+#[derive(Debug, Clone, Copy, Default, PartialEq, Eq)]
+pub struct Arguments {
+    /// Whether each one is good.
+    pub good: bool,
+    /// How many there are.
+    pub count: usize,
+    /// The first object (2) or array (3) among them; 0 where there is none.
+    pub kind: u64,
+    /// Its index.
+    pub index: usize,
+    /// The place of the message that holds the arguments.
+    pub start: usize,
+    /// The place behind that message.
+    pub end: usize,
+}
+
+/// What a frame holds.
+#[repr(C)]
+#[derive(Debug, Clone, Copy, Default, PartialEq, Eq)]
+pub struct Message {
+    /// 0, or why the frame is refused whatever the session.
+    pub reason: u64,
+    /// The frame's length.
+    pub used: usize,
+    /// The message type.
+    pub kind: u64,
+    /// The statement id.
+    pub stmt: u64,
+    /// The cursor id.
+    pub cursor: u64,
+    /// fetch_rows.
+    pub rows: Optional,
+    /// compact_metadata, 0 or 1.
+    pub compact: Optional,
+    /// The type of a Prepare's statement.
+    pub choice: u64,
+    /// The chosen body.
+    pub body: Part,
+    /// The arguments.
+    pub args: Arguments,
+}
+
+/// One argument.
+#[repr(C)]
+#[derive(Debug, Clone, Copy, Default, PartialEq, Eq)]
+pub struct Value {
+    /// 0, or why it is refused.
+    pub reason: u64,
+    /// The Scalar type, 1 to 8; 0 where it is refused.
+    pub kind: u64,
+    /// Its number or its bits.
+    pub value: u64,
+    /// The place of its bytes.
+    pub start: usize,
+    /// Their length.
+    pub len: usize,
+    /// The place behind the argument, in a pass over all of them.
+    pub next: usize,
+}
+
+/// A client message to write.
+#[repr(C)]
+#[derive(Debug, Clone, Copy, Default, PartialEq, Eq)]
+pub struct Draft {
+    /// The message type; a number that is none of the eight is refused.
+    pub kind: u64,
+    /// The statement id.
+    pub stmt: u32,
+    /// The cursor id.
+    pub cursor: u32,
+    /// Whether fetch_rows is present.
+    pub hasrows: bool,
+    /// fetch_rows.
+    pub rows: u64,
+    /// Whether compact_metadata is present.
+    pub hascompact: bool,
+    /// compact_metadata.
+    pub compact: bool,
+    /// The type of a Prepare's statement; an unlisted number is refused.
+    pub choice: u64,
+}
+
+/// What writing comes to.
+#[repr(C)]
+#[derive(Debug, Clone, Copy, Default, PartialEq, Eq)]
+pub struct Sent {
+    /// 0, or why nothing is written.
+    pub reason: u64,
+    /// Bytes of the frame or of the stretch.
+    pub len: usize,
+}
+
+/// A scalar to write as an argument.
+#[repr(C)]
+#[derive(Debug, Clone, Copy, Default, PartialEq, Eq)]
+pub struct Scalar {
+    /// The Scalar type, 1 to 8; another number is refused.
+    pub kind: u64,
+    /// Its number or its bits.
+    pub value: u64,
+}
+
+extern "C" {
+    /// A session with nothing in it.
+    pub fn karramotx_fresh() -> Session;
+    /// Live statements, live cursors, rows owed.
+    pub fn karramotx_counts(session: *const Session) -> Counts;
+    /// The work that a frame wants.
+    pub fn karramotx_look(session: *const Session, frame: *const u8, len: usize) -> Look;
+    /// A step in place.
+    pub fn karramotx_step(
+        session: *mut Session,
+        frame: *const u8,
+        len: usize,
+        report: Report,
+        reply: *mut u8,
+        reply_len: usize,
+    ) -> Answer;
+    /// What a frame holds.
+    pub fn karramotx_read(frame: *const u8, len: usize) -> Message;
+    /// The chosen body.
+    pub fn karramotx_body(frame: *const u8, len: usize) -> Part;
+    /// The argument with an index.
+    pub fn karramotx_argument(frame: *const u8, len: usize, index: usize) -> Value;
+    /// The next argument at or behind a place.
+    pub fn karramotx_next_argument(frame: *const u8, end: usize, at: usize) -> Value;
+    /// A message at the front of a buffer.
+    pub fn karramotx_write(
+        draft: Draft,
+        body: *const u8,
+        body_len: usize,
+        args: *const u8,
+        args_len: usize,
+        buf: *mut u8,
+        buf_len: usize,
+    ) -> Sent;
+    /// A scalar as an args field behind the first `at` bytes of a buffer.
+    pub fn karramotx_append(
+        scalar: Scalar,
+        bytes: *const u8,
+        bytes_len: usize,
+        buf: *mut u8,
+        buf_len: usize,
+        at: usize,
+    ) -> Sent;
+}

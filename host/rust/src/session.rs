@@ -1,0 +1,201 @@
+//! A session: look, step, and what its tables hold.
+
+use crate::ffi;
+use crate::refusal::{accepted, Refusal};
+use std::ops::Range;
+
+/// The shortest reply buffer that a step takes. Every reply fits into it.
+pub const MIN_REPLY: usize = 128;
+
+/// The work that a frame wants of the engine.
+#[derive(Debug, Clone, PartialEq, Eq)]
+pub enum Work {
+    /// None; the report is not consulted.
+    None,
+    /// Prepare the frame's chosen body; report [`Report::Prepared`].
+    Prepare,
+    /// Run the statement; report [`Report::Result`].
+    Execute,
+    /// Run the statement for a cursor; report [`Report::Result`].
+    Open,
+    /// Get these rows ready; report [`Report::Done`].
+    Fetch(Range<u64>),
+}
+
+/// What the engine did. Numbers outside their limits are refused as [`Refusal::BadReport`].
+#[derive(Debug, Clone, Copy, PartialEq, Eq)]
+pub enum Report {
+    /// No work was wanted.
+    None,
+    /// A statement was prepared.
+    Prepared {
+        /// 0 to 65,535.
+        placeholders: u64,
+    },
+    /// A statement was run. No columns means no rows.
+    Result {
+        /// 0 to 4,096.
+        columns: u64,
+        /// 0 to 2^32 - 1.
+        rows: u64,
+    },
+    /// The rows of a Fetch are ready.
+    Done,
+    /// The engine failed.
+    Failed {
+        /// 1 to 2^32 - 1; it goes out in the Error frame.
+        code: u64,
+    },
+}
+
+impl Report {
+    fn raw(self) -> ffi::Report {
+        let (kind, a, b) = match self {
+            Report::None => (0, 0, 0),
+            Report::Prepared { placeholders } => (1, placeholders, 0),
+            Report::Result { columns, rows } => (2, columns, rows),
+            Report::Done => (3, 0, 0),
+            Report::Failed { code } => (4, code, 0),
+        };
+        ffi::Report { kind, a, b }
+    }
+}
+
+/// What goes out ahead of the reply.
+#[derive(Debug, Clone, PartialEq, Eq)]
+pub struct Rows {
+    /// Whether columns go out, ahead of the rows.
+    pub columns: bool,
+    /// The rows to send.
+    pub rows: Range<u64>,
+}
+
+/// What a step answers.
+#[derive(Debug)]
+pub struct Step<'r> {
+    /// What to send ahead of the reply, or why the frame is refused. The session is then as it was.
+    pub outcome: Result<Rows, Refusal>,
+    /// The frame's bytes; 0 where it is not all there, has a bad length or the reply buffer is too small.
+    pub used: usize,
+    /// The reply to send: an Error frame where the frame is refused, empty where `used` is 0.
+    pub reply: &'r [u8],
+}
+
+/// A live statement.
+#[derive(Debug, Clone, Copy, PartialEq, Eq)]
+pub struct Statement {
+    /// Its id.
+    pub id: u32,
+    /// Its placeholders.
+    pub placeholders: u32,
+}
+
+/// A live cursor.
+#[derive(Debug, Clone, Copy, PartialEq, Eq)]
+pub struct Cursor {
+    /// Its id.
+    pub id: u32,
+    /// The id of its statement.
+    pub statement: u32,
+    /// Rows that the engine reported.
+    pub rows: u32,
+    /// Rows sent so far.
+    pub sent: u32,
+}
+
+/// One session: its prepared statements and its cursors.
+///
+/// ```
+/// use karramotx::{ClientMessage, Report, Session, Work, MIN_REPLY};
+///
+/// let frame = ClientMessage::Deallocate { statement: 1 }.to_vec().unwrap();
+/// let mut session = Session::new();
+/// let mut reply = [0; MIN_REPLY];
+/// let step = session.step(&frame, Report::None, &mut reply);
+/// assert_eq!(step.outcome.unwrap_err().number(), 7); // the statement id is not live
+/// assert_eq!(step.reply[4], 1);                      // an Error frame
+/// ```
+#[derive(Debug, Clone, PartialEq, Eq)]
+pub struct Session(ffi::Session);
+
+impl Default for Session {
+    fn default() -> Session {
+        Session::new()
+    }
+}
+
+impl Session {
+    /// A session with no statement and no cursor.
+    pub fn new() -> Session {
+        // SAFETY: it takes nothing.
+        Session(unsafe { ffi::karramotx_fresh() })
+    }
+
+    /// The work that the frame wants, or why a step will refuse it. It changes nothing.
+    pub fn look(&self, frame: &[u8]) -> Result<Work, Refusal> {
+        // SAFETY: the pointers and the length are those of a session and a slice, which are only read.
+        let look = unsafe { ffi::karramotx_look(&self.0, frame.as_ptr(), frame.len()) };
+        accepted(look.reason)?;
+        Ok(match look.work {
+            0 => Work::None,
+            1 => Work::Prepare,
+            2 => Work::Execute,
+            3 => Work::Open,
+            4 => Work::Fetch(look.first..look.first + look.count),
+            other => unreachable!("the library's work is 0 to 4, not {other}"),
+        })
+    }
+
+    /// Takes the step that the frame asks for. The reply is put at the front of `reply`, which must
+    /// have [`MIN_REPLY`] bytes.
+    pub fn step<'r>(&mut self, frame: &[u8], report: Report, reply: &'r mut [u8]) -> Step<'r> {
+        // SAFETY: pointers and lengths are those of slices, and what is written is borrowed uniquely.
+        let answer = unsafe {
+            ffi::karramotx_step(
+                &mut self.0,
+                frame.as_ptr(),
+                frame.len(),
+                report.raw(),
+                reply.as_mut_ptr(),
+                reply.len(),
+            )
+        };
+        let rows = Rows { columns: answer.columns, rows: answer.first..answer.first + answer.count };
+        Step {
+            outcome: accepted(answer.reason).map(|()| rows),
+            used: answer.used,
+            reply: &reply[..answer.reply],
+        }
+    }
+
+    /// Whether the session was closed by a Session close.
+    pub fn is_closed(&self) -> bool {
+        self.0.closed
+    }
+
+    /// The live statements, in place order.
+    pub fn statements(&self) -> impl Iterator<Item = Statement> + '_ {
+        self.0.stmts.iter().filter(|s| s.live).map(|s| Statement { id: s.id, placeholders: s.placeholders })
+    }
+
+    /// The live cursors, in place order.
+    pub fn cursors(&self) -> impl Iterator<Item = Cursor> + '_ {
+        self.0.cursors.iter().filter(|c| c.live).map(|c| Cursor {
+            id: c.id,
+            statement: c.stmt,
+            rows: c.rows,
+            sent: c.sent,
+        })
+    }
+
+    /// How many rows the cursors have still to send.
+    pub fn owed(&self) -> u64 {
+        // SAFETY: the pointer is that of a session, which is only read.
+        unsafe { ffi::karramotx_counts(&self.0) }.owed
+    }
+
+    /// The session as the library has it.
+    pub fn raw(&self) -> &ffi::Session {
+        &self.0
+    }
+}

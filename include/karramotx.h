@@ -1,0 +1,385 @@
+/*
+ * Karramotx: a keeper of MySQL X Protocol sessions.
+ *
+ * The library reads the frames of one session, keeps its prepared statements and cursors, and writes
+ * the replies. An engine of yours runs the statements and sends columns and rows; the library says
+ * which rows. Every function here is proved to meet its contract for all inputs: it has no state of its
+ * own, allocates nothing, calls nothing, and reads and writes only what it is handed.
+ *
+ * A server's loop:
+ *
+ *     struct karramotx_session session = karramotx_fresh();
+ *     for each frame:
+ *         look = karramotx_look(&session, frame, len);         what work the frame wants, if any
+ *         report = your engine does that work;
+ *         answer = karramotx_step(&session, frame, len, report, reply, sizeof reply);
+ *         send columns if answer.columns, rows answer.first .. answer.first + answer.count - 1,
+ *         then answer.reply bytes of reply
+ *
+ * Bytes go in as a pointer and a length. The pointer may be null where the length is 0. What is written
+ * to (a session, a reply, a buffer) must not overlap anything else that is handed in. A session must
+ * come from karramotx_fresh and be changed by karramotx_step alone.
+ *
+ * Sizes are those of x86-64.
+ */
+#ifndef KARRAMOTX_H
+#define KARRAMOTX_H
+
+#include <stdbool.h>
+#include <stddef.h>
+#include <stdint.h>
+
+#ifdef __cplusplus
+extern "C" {
+#define KARRAMOTX_CHECK(what) static_assert(what, #what)
+#else
+#define KARRAMOTX_CHECK(what) _Static_assert(what, #what)
+#endif
+
+/* The size of a struct and the place of each of its fields, as the archive has them. */
+#define KARRAMOTX_SIZE(type, size) KARRAMOTX_CHECK(sizeof(struct type) == (size))
+#define KARRAMOTX_FIELD(type, field, place) KARRAMOTX_CHECK(offsetof(struct type, field) == (place))
+
+/* ---- Limits ---- */
+
+enum {
+    KARRAMOTX_MAX_STMTS = 64,      /* statements of a session */
+    KARRAMOTX_MAX_CURSORS = 16,    /* cursors of a session */
+    KARRAMOTX_MIN_REPLY = 128,     /* the shortest reply buffer that a step takes; every reply fits it */
+    KARRAMOTX_MAX_FRAME = 65536    /* the longest frame, its four bytes of length included */
+};
+
+/* ---- Message types ---- */
+
+enum karramotx_kind {
+    KARRAMOTX_SESS_RESET = 6,
+    KARRAMOTX_SESS_CLOSE = 7,
+    KARRAMOTX_PREPARE = 40,
+    KARRAMOTX_EXECUTE = 41,
+    KARRAMOTX_DEALLOCATE = 42,
+    KARRAMOTX_CURSOR_OPEN = 43,
+    KARRAMOTX_CURSOR_CLOSE = 44,
+    KARRAMOTX_CURSOR_FETCH = 45
+};
+
+/* The type of a Prepare's statement, which chooses its body. There is no 3. */
+enum karramotx_choice {
+    KARRAMOTX_FIND = 0,
+    KARRAMOTX_INSERT = 1,
+    KARRAMOTX_UPDATE = 2,
+    KARRAMOTX_DELETE = 4,
+    KARRAMOTX_STMT_EXECUTE = 5
+};
+
+/* The type of an argument's value. */
+enum karramotx_scalar_kind {
+    KARRAMOTX_SINT = 1,
+    KARRAMOTX_UINT = 2,
+    KARRAMOTX_NULL = 3,
+    KARRAMOTX_OCTETS = 4,
+    KARRAMOTX_DOUBLE = 5,
+    KARRAMOTX_FLOAT = 6,
+    KARRAMOTX_BOOL = 7,
+    KARRAMOTX_STRING = 8
+};
+
+/* ---- Reasons: why something is refused. 0 is accepted. ---- */
+
+enum karramotx_reason {
+    KARRAMOTX_ACCEPTED = 0,
+    KARRAMOTX_NOT_ALL_THERE = 1,   /* the frame is not all there: read more */
+    KARRAMOTX_BAD_LENGTH = 2,      /* its length is 0 or above 65,532 */
+    KARRAMOTX_NO_ROOM = 3,         /* the reply buffer is below 128 bytes; a buffer is too small */
+    KARRAMOTX_CLOSED = 4,          /* the session is closed */
+    KARRAMOTX_UNKNOWN_TYPE = 5,
+    KARRAMOTX_BAD_PAYLOAD = 6,
+    KARRAMOTX_NO_STMT = 7,         /* the statement id is not live */
+    KARRAMOTX_NOT_SCALAR = 8,      /* an argument is an object or an array */
+    KARRAMOTX_FEW_ARGUMENTS = 9,   /* fewer arguments than placeholders; past the last argument */
+    KARRAMOTX_NO_CURSOR = 10,      /* the cursor id is not live */
+    KARRAMOTX_ALL_SENT = 11,       /* all rows are already sent */
+    KARRAMOTX_OTHER_CURSOR = 12,   /* the statement carries a cursor of another id */
+    KARRAMOTX_STMTS_FULL = 13,     /* 64 statements are live, the id not among them */
+    KARRAMOTX_CURSORS_FULL = 14,   /* 16 cursors are live, the id not among them */
+    KARRAMOTX_BAD_REPORT = 15,     /* the report is of the wrong kind or outside its limits */
+    KARRAMOTX_ENGINE_FAILED = 16
+};
+
+/* ---- The session ---- */
+
+struct karramotx_stmt {
+    uint32_t id;
+    uint32_t placeholders;
+    bool live;
+};
+KARRAMOTX_SIZE(karramotx_stmt, 12);
+KARRAMOTX_FIELD(karramotx_stmt, id, 0);
+KARRAMOTX_FIELD(karramotx_stmt, placeholders, 4);
+KARRAMOTX_FIELD(karramotx_stmt, live, 8);
+
+struct karramotx_cursor {
+    uint32_t id;
+    uint32_t stmt;                 /* the id of its statement */
+    uint32_t rows;                 /* rows that the engine reported */
+    uint32_t sent;                 /* rows sent so far */
+    bool live;
+};
+KARRAMOTX_SIZE(karramotx_cursor, 20);
+KARRAMOTX_FIELD(karramotx_cursor, id, 0);
+KARRAMOTX_FIELD(karramotx_cursor, stmt, 4);
+KARRAMOTX_FIELD(karramotx_cursor, rows, 8);
+KARRAMOTX_FIELD(karramotx_cursor, sent, 12);
+KARRAMOTX_FIELD(karramotx_cursor, live, 16);
+
+/* A free place of a table is not live and all 0. You may read it all; write none of it. */
+struct karramotx_session {
+    struct karramotx_stmt stmts[KARRAMOTX_MAX_STMTS];
+    struct karramotx_cursor cursors[KARRAMOTX_MAX_CURSORS];
+    bool closed;
+};
+KARRAMOTX_SIZE(karramotx_session, 1092);
+KARRAMOTX_FIELD(karramotx_session, stmts, 0);
+KARRAMOTX_FIELD(karramotx_session, cursors, 768);
+KARRAMOTX_FIELD(karramotx_session, closed, 1088);
+
+/* A session with no statement and no cursor. */
+struct karramotx_session karramotx_fresh(void);
+
+/* How many statements and cursors are live, and how many rows the cursors have still to send. */
+struct karramotx_counts {
+    uint64_t stmts;
+    uint64_t cursors;
+    uint64_t owed;
+};
+KARRAMOTX_SIZE(karramotx_counts, 24);
+KARRAMOTX_FIELD(karramotx_counts, stmts, 0);
+KARRAMOTX_FIELD(karramotx_counts, cursors, 8);
+KARRAMOTX_FIELD(karramotx_counts, owed, 16);
+
+struct karramotx_counts karramotx_counts(const struct karramotx_session *session);
+
+/* ---- Look and step ---- */
+
+/* The work that a frame wants of your engine. */
+enum karramotx_work {
+    KARRAMOTX_WORK_NONE = 0,
+    KARRAMOTX_WORK_PREPARE = 1,
+    KARRAMOTX_WORK_EXECUTE = 2,
+    KARRAMOTX_WORK_OPEN = 3,
+    KARRAMOTX_WORK_FETCH = 4
+};
+
+struct karramotx_look {
+    uint64_t reason;               /* 0, or why a step will refuse the frame */
+    uint64_t work;                 /* enum karramotx_work */
+    uint64_t first;                /* of a Fetch, the first row to send, from 0; else 0 */
+    uint64_t count;                /* of a Fetch, how many rows to send; else 0 */
+};
+KARRAMOTX_SIZE(karramotx_look, 32);
+KARRAMOTX_FIELD(karramotx_look, reason, 0);
+KARRAMOTX_FIELD(karramotx_look, work, 8);
+KARRAMOTX_FIELD(karramotx_look, first, 16);
+KARRAMOTX_FIELD(karramotx_look, count, 24);
+
+/* A look changes nothing. Bytes past the frame are not read. */
+struct karramotx_look karramotx_look(const struct karramotx_session *session, const uint8_t *frame, size_t len);
+
+/* What your engine did. */
+enum karramotx_report_kind {
+    KARRAMOTX_REPORT_NONE = 0,     /* no work was wanted */
+    KARRAMOTX_REPORT_PREPARED = 1, /* a placeholders, 0 to 65,535 */
+    KARRAMOTX_REPORT_RESULT = 2,   /* a columns, 0 to 4,096; b rows, 0 to 2^32 - 1; no columns, no rows */
+    KARRAMOTX_REPORT_DONE = 3,     /* the rows of a Fetch are ready */
+    KARRAMOTX_REPORT_FAILED = 4    /* a the error code, 1 to 2^32 - 1 */
+};
+
+struct karramotx_report {
+    uint64_t kind;                 /* enum karramotx_report_kind; another number is refused 15 */
+    uint64_t a;
+    uint64_t b;
+};
+KARRAMOTX_SIZE(karramotx_report, 24);
+KARRAMOTX_FIELD(karramotx_report, kind, 0);
+KARRAMOTX_FIELD(karramotx_report, a, 8);
+KARRAMOTX_FIELD(karramotx_report, b, 16);
+
+struct karramotx_answer {
+    uint64_t reason;               /* 0, or why the frame is refused; the session is then as it was */
+    size_t used;                   /* bytes of the frame; 0 where it is refused 1, 2 or 3 */
+    size_t reply;                  /* bytes of the reply, an Error frame where it is refused 4 or more */
+    bool columns;                  /* whether columns go out, ahead of the rows */
+    uint64_t first;                /* the first row to send, from 0 */
+    uint64_t count;                /* how many rows to send, ahead of the reply */
+};
+KARRAMOTX_SIZE(karramotx_answer, 48);
+KARRAMOTX_FIELD(karramotx_answer, reason, 0);
+KARRAMOTX_FIELD(karramotx_answer, used, 8);
+KARRAMOTX_FIELD(karramotx_answer, reply, 16);
+KARRAMOTX_FIELD(karramotx_answer, columns, 24);
+KARRAMOTX_FIELD(karramotx_answer, first, 32);
+KARRAMOTX_FIELD(karramotx_answer, count, 40);
+
+/* A step on a frame, in place: `*session` is the session after it. */
+struct karramotx_answer karramotx_step(struct karramotx_session *session, const uint8_t *frame, size_t len,
+                                       struct karramotx_report report, uint8_t *reply, size_t reply_len);
+
+/* ---- Reading a frame by itself ---- */
+
+struct karramotx_optional {
+    bool present;
+    uint64_t value;                /* 0 where it is absent */
+};
+KARRAMOTX_SIZE(karramotx_optional, 16);
+KARRAMOTX_FIELD(karramotx_optional, present, 0);
+KARRAMOTX_FIELD(karramotx_optional, value, 8);
+
+/* Some bytes of a frame. */
+struct karramotx_part {
+    size_t start;
+    size_t len;
+};
+KARRAMOTX_SIZE(karramotx_part, 16);
+KARRAMOTX_FIELD(karramotx_part, start, 0);
+KARRAMOTX_FIELD(karramotx_part, len, 8);
+
+struct karramotx_arguments {
+    bool good;
+    size_t count;
+    uint64_t kind;                 /* 2 where there is an object, 3 an array: the first one; else 0 */
+    size_t index;                  /* its index */
+    size_t start;                  /* the message that holds the arguments: its place ... */
+    size_t end;                    /* ... and the place behind it */
+};
+KARRAMOTX_SIZE(karramotx_arguments, 48);
+KARRAMOTX_FIELD(karramotx_arguments, good, 0);
+KARRAMOTX_FIELD(karramotx_arguments, count, 8);
+KARRAMOTX_FIELD(karramotx_arguments, kind, 16);
+KARRAMOTX_FIELD(karramotx_arguments, index, 24);
+KARRAMOTX_FIELD(karramotx_arguments, start, 32);
+KARRAMOTX_FIELD(karramotx_arguments, end, 40);
+
+/* What a frame holds. What its type does not have is 0 or absent. */
+struct karramotx_message {
+    uint64_t reason;               /* 0, or 1, 2, 5, 6: refused whatever the session, all but `used` 0 */
+    size_t used;                   /* the frame's length; 0 where it is refused 1 or 2 */
+    uint64_t kind;                 /* enum karramotx_kind */
+    uint64_t stmt;                 /* the statement id */
+    uint64_t cursor;               /* the cursor id */
+    struct karramotx_optional rows;       /* fetch_rows */
+    struct karramotx_optional compact;    /* compact_metadata, 0 or 1 */
+    uint64_t choice;               /* of a Prepare, enum karramotx_choice */
+    struct karramotx_part body;    /* the body that a Prepare's type chooses; an Open's Execute */
+    struct karramotx_arguments args;
+};
+KARRAMOTX_SIZE(karramotx_message, 144);
+KARRAMOTX_FIELD(karramotx_message, reason, 0);
+KARRAMOTX_FIELD(karramotx_message, used, 8);
+KARRAMOTX_FIELD(karramotx_message, kind, 16);
+KARRAMOTX_FIELD(karramotx_message, stmt, 24);
+KARRAMOTX_FIELD(karramotx_message, cursor, 32);
+KARRAMOTX_FIELD(karramotx_message, rows, 40);
+KARRAMOTX_FIELD(karramotx_message, compact, 56);
+KARRAMOTX_FIELD(karramotx_message, choice, 72);
+KARRAMOTX_FIELD(karramotx_message, body, 80);
+KARRAMOTX_FIELD(karramotx_message, args, 96);
+
+struct karramotx_message karramotx_read(const uint8_t *frame, size_t len);
+
+/* The chosen body alone, as a part of the frame; empty where there is none. */
+struct karramotx_part karramotx_body(const uint8_t *frame, size_t len);
+
+/* ---- Arguments ---- */
+
+struct karramotx_value {
+    uint64_t reason;               /* 0, or 1, 2, 5, 6 as the frame's; 8 an object or array; 9 no more */
+    uint64_t kind;                 /* enum karramotx_scalar_kind; 0 where it is refused */
+    uint64_t value;                /* a sint (cast it to int64_t), a uint, a bool as 0 or 1, the bits of a
+                                      double, the bits of a float; else 0 */
+    size_t start;                  /* octets and strings: their place in the frame ... */
+    size_t len;                    /* ... and their length */
+    size_t next;                   /* karramotx_next_argument: the place behind it; else 0 */
+};
+KARRAMOTX_SIZE(karramotx_value, 48);
+KARRAMOTX_FIELD(karramotx_value, reason, 0);
+KARRAMOTX_FIELD(karramotx_value, kind, 8);
+KARRAMOTX_FIELD(karramotx_value, value, 16);
+KARRAMOTX_FIELD(karramotx_value, start, 24);
+KARRAMOTX_FIELD(karramotx_value, len, 32);
+KARRAMOTX_FIELD(karramotx_value, next, 40);
+
+/* The argument with an index, from 0. Each call reads the frame anew: for all of them go in one pass. */
+struct karramotx_value karramotx_argument(const uint8_t *frame, size_t len, size_t index);
+
+/*
+ * All arguments in one pass, after `m = karramotx_read(frame, len)`:
+ *
+ *     for (size_t at = m.args.start; at < m.args.end; at = v.next) {
+ *         v = karramotx_next_argument(frame, m.args.end, at);
+ *         if (v.reason == KARRAMOTX_FEW_ARGUMENTS) break;
+ *         ...
+ *     }
+ *
+ * `end` is the place behind the message that holds them. An object or array has reason 8 and a `next`.
+ */
+struct karramotx_value karramotx_next_argument(const uint8_t *frame, size_t end, size_t at);
+
+/* ---- Writing ---- */
+
+/* One of the eight client messages. What its kind does not have is ignored. */
+struct karramotx_draft {
+    uint64_t kind;                 /* enum karramotx_kind; another number is refused 6 */
+    uint32_t stmt;                 /* Prepare, Execute, Deallocate, Open */
+    uint32_t cursor;               /* Open, Close, Fetch */
+    bool hasrows;                  /* Open, Fetch: whether fetch_rows is present */
+    uint64_t rows;
+    bool hascompact;               /* Execute, Open: whether compact_metadata is present */
+    bool compact;
+    uint64_t choice;               /* Prepare: enum karramotx_choice; another number is refused 6 */
+};
+KARRAMOTX_SIZE(karramotx_draft, 48);
+KARRAMOTX_FIELD(karramotx_draft, kind, 0);
+KARRAMOTX_FIELD(karramotx_draft, stmt, 8);
+KARRAMOTX_FIELD(karramotx_draft, cursor, 12);
+KARRAMOTX_FIELD(karramotx_draft, hasrows, 16);
+KARRAMOTX_FIELD(karramotx_draft, rows, 24);
+KARRAMOTX_FIELD(karramotx_draft, hascompact, 32);
+KARRAMOTX_FIELD(karramotx_draft, compact, 33);
+KARRAMOTX_FIELD(karramotx_draft, choice, 40);
+
+struct karramotx_sent {
+    uint64_t reason;               /* 0, or 6, 2, 3: then nothing is written */
+    size_t len;                    /* bytes of the frame or of the stretch; 0 where it is refused */
+};
+KARRAMOTX_SIZE(karramotx_sent, 16);
+KARRAMOTX_FIELD(karramotx_sent, reason, 0);
+KARRAMOTX_FIELD(karramotx_sent, len, 8);
+
+/*
+ * A message at the front of `buf`. `body` is a Prepare's body, encoded; `args` are the args fields of an
+ * Execute or Open as karramotx_append builds them. Refused 6 for a bad stretch, a bad body or an unlisted
+ * kind or choice, 2 where the frame passes the limit, 3 exactly where the buffer is too small.
+ */
+struct karramotx_sent karramotx_write(struct karramotx_draft draft, const uint8_t *body, size_t body_len,
+                                      const uint8_t *args, size_t args_len, uint8_t *buf, size_t buf_len);
+
+/* One scalar to write. */
+struct karramotx_scalar {
+    uint64_t kind;                 /* enum karramotx_scalar_kind; another number is refused 6 */
+    uint64_t value;                /* as in karramotx_value */
+};
+KARRAMOTX_SIZE(karramotx_scalar, 16);
+KARRAMOTX_FIELD(karramotx_scalar, kind, 0);
+KARRAMOTX_FIELD(karramotx_scalar, value, 8);
+
+/*
+ * One argument more: the scalar as an args field behind the first `at` bytes of `buf`; begin with at 0
+ * and go on with the answer's `len`. `bytes` are those of octets and strings; other kinds ignore them.
+ */
+struct karramotx_sent karramotx_append(struct karramotx_scalar scalar, const uint8_t *bytes, size_t bytes_len,
+                                       uint8_t *buf, size_t buf_len, size_t at);
+
+#ifdef __cplusplus
+}
+#endif
+
+#endif
