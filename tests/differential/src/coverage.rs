@@ -1,0 +1,121 @@
+//! What a run has met, so that one can see it was not idle.
+
+use crate::implementation::*;
+use std::fmt;
+
+const NAMES: [&str; 9] =
+    ["Reset", "SessClose", "Prepare", "Execute", "Dealloc", "Open", "Close", "Fetch", "other"];
+/// Document 01's marks, and the order they are printed in.
+const MARKS: [char; 6] = ['O', 'S', 'D', 'X', 'E', 'N'];
+const TYPES: [&str; 10] =
+    ["sint", "uint", "null", "octets", "double", "float", "bool", "string", "object", "array"];
+
+#[derive(Clone, Debug, Default)]
+pub struct Coverage {
+    pub steps: u64,
+    /// By kind of message, then by reason, 0 for accepted.
+    pub reasons: [[u64; 17]; 9],
+    pub marks: [[u64; 6]; 9],
+    pub arguments: [u64; 10],
+    pub drafts: [u64; 17],
+    pub stretches: [u64; 17],
+}
+
+impl Coverage {
+    pub fn step(&mut self, frame: &[u8], message: &Message, answer: &Answer, reply: &[u8]) {
+        self.steps += 1;
+        let byte = frame.get(4).copied().unwrap_or(0);
+        let kind = KINDS.iter().position(|k| *k == byte).unwrap_or(8);
+        self.reasons[kind][usize::from(answer.reason).min(16)] += 1;
+        let mark = mark(reply);
+        let place = MARKS.iter().position(|m| *m == mark).unwrap_or(5);
+        self.marks[kind][place] += 1;
+        for value in &message.args {
+            self.arguments[type_of(value)] += 1;
+        }
+    }
+
+    pub fn draft(&mut self, written: Written) {
+        self.drafts[usize::from(written.reason).min(16)] += 1;
+    }
+
+    pub fn stretch(&mut self, written: Written) {
+        self.stretches[usize::from(written.reason).min(16)] += 1;
+    }
+
+    /// How often a reason was given, over all kinds.
+    pub fn reason(&self, reason: usize) -> u64 {
+        self.reasons.iter().map(|row| row[reason]).sum()
+    }
+
+    pub fn accepted_share(&self) -> f64 {
+        self.reason(0) as f64 / self.steps.max(1) as f64
+    }
+}
+
+/// Document 01's mark of a reply, told by the type of its first frame.
+pub fn mark(reply: &[u8]) -> char {
+    match reply.get(4) {
+        Some(0) => 'O',
+        Some(1) => 'E',
+        Some(14) => 'D',
+        Some(15) => 'S',
+        Some(17) => 'X',
+        _ => 'N',
+    }
+}
+
+fn type_of(value: &Value) -> usize {
+    match value {
+        Value::Sint(_) => 0,
+        Value::Uint(_) => 1,
+        Value::Null => 2,
+        Value::Octets(_) => 3,
+        Value::Double(_) => 4,
+        Value::Float(_) => 5,
+        Value::Bool(_) => 6,
+        Value::Text(_) => 7,
+        Value::Object => 8,
+        Value::Array => 9,
+    }
+}
+
+impl fmt::Display for Coverage {
+    fn fmt(&self, f: &mut fmt::Formatter) -> fmt::Result {
+        write!(f, "{:>9}", "")?;
+        for reason in 0..17 {
+            write!(f, " {reason:>6}")?;
+        }
+        for mark in MARKS {
+            write!(f, " {mark:>6}")?;
+        }
+        for (kind, name) in NAMES.iter().enumerate() {
+            write!(f, "\n{name:>9}")?;
+            for count in self.reasons[kind].iter().chain(&self.marks[kind]) {
+                write!(f, " {count:>6}")?;
+            }
+        }
+        write!(f, "\n{:>9}", "all")?;
+        for reason in 0..17 {
+            write!(f, " {:>6}", self.reason(reason))?;
+        }
+        for mark in 0..6 {
+            write!(f, " {:>6}", self.marks.iter().map(|row| row[mark]).sum::<u64>())?;
+        }
+        write!(f, "\naccepted  {:.1} %", 100.0 * self.accepted_share())?;
+        write!(f, "\narguments")?;
+        for (name, count) in TYPES.iter().zip(self.arguments) {
+            write!(f, "  {name} {count}")?;
+        }
+        by_reason(f, "drafts   ", &self.drafts)?;
+        by_reason(f, "stretches", &self.stretches)
+    }
+}
+
+fn by_reason(f: &mut fmt::Formatter, name: &str, counts: &[u64; 17]) -> fmt::Result {
+    write!(f, "\n{name}")?;
+    for (reason, count) in counts.iter().enumerate().filter(|(_, count)| **count > 0) {
+        write!(f, "  reason {reason}: {count}")?;
+    }
+    Ok(())
+}

@@ -1,0 +1,145 @@
+//! Whole frames of the eight kinds from an intent.
+
+use super::encode::Encoder;
+use super::values::number;
+use crate::implementation::*;
+
+/// What a frame is to say; how it says it is the encoder's choice.
+#[derive(Clone, Copy, Debug, Default)]
+pub struct Intent {
+    pub kind: u8,
+    pub stmt: u32,
+    pub cursor: u32,
+    pub rows: Option<u64>,
+    pub args: usize,
+    pub objects: bool,
+}
+
+/// Length, type and payload.
+pub fn framed(kind: u8, payload: &[u8]) -> Vec<u8> {
+    let mut frame = (payload.len() as u32 + 1).to_le_bytes().to_vec();
+    frame.push(kind);
+    frame.extend(payload);
+    frame
+}
+
+impl Encoder<'_> {
+    pub fn frame(&mut self, intent: &Intent) -> Vec<u8> {
+        let payload = self.payload(intent);
+        framed(intent.kind, &payload)
+    }
+
+    fn payload(&mut self, intent: &Intent) -> Vec<u8> {
+        match intent.kind {
+            PREPARE => self.prepare(intent),
+            EXECUTE => self.execute(intent),
+            CURSOR_OPEN => self.open(intent),
+            DEALLOCATE => self.with_id(intent.stmt, Vec::new()),
+            CURSOR_CLOSE => self.with_id(intent.cursor, Vec::new()),
+            CURSOR_FETCH => {
+                let rows = self.rows(2, intent.rows);
+                self.with_id(intent.cursor, rows)
+            }
+            _ => self.message(Vec::new()),
+        }
+    }
+
+    /// A message of an id and other fields.
+    fn with_id(&mut self, id: u32, mut fields: Vec<Vec<u8>>) -> Vec<u8> {
+        let field = self.low32(1, id);
+        fields.insert(0, field);
+        self.again(&mut fields, |e| e.low32(1, 9));
+        self.message(fields)
+    }
+
+    fn rows(&mut self, number: u32, rows: Option<u64>) -> Vec<Vec<u8>> {
+        let mut fields = Vec::new();
+        if let Some(rows) = rows {
+            fields.push(self.number(number, rows));
+            self.again(&mut fields, |e| e.number(number, 1));
+        }
+        fields
+    }
+
+    fn prepare(&mut self, intent: &Intent) -> Vec<u8> {
+        let mut choice = self.random.pick(&[0, 1, 2, 4, 5, 5, 5]);
+        if self.noise.bad > 0 && self.random.permille(100) {
+            choice = self.random.pick(&[3, 6, 7, u32::MAX]);
+        }
+        let body = self.prepare_body(choice);
+        let number = if choice < 3 { choice + 2 } else { choice.saturating_add(1) & 0xff };
+        let mut fields = vec![self.bytes(number, &body)];
+        self.again_bytes(number, &mut fields);
+        // Bodies the type does not choose are skipped unread.
+        self.again_bytes(if number == 3 { 4 } else { 3 }, &mut fields);
+        fields.insert(0, self.low32(1, choice));
+        self.enum_noise(&mut fields, &[3, 6, 1 << 40 | 3], &[0, 5]);
+        let stmt = self.message(fields);
+        let mut fields = vec![self.bytes(2, &stmt)];
+        self.again_bytes(2, &mut fields);
+        self.with_id(intent.stmt, fields)
+    }
+
+    /// A body for a Prepare type.
+    pub fn prepare_body(&mut self, choice: u32) -> Vec<u8> {
+        let mut fields = Vec::new();
+        if choice == 5 {
+            let len = self.random.below(20);
+            let text = self.random.bytes(len);
+            fields.push(self.bytes(1, &text));
+            let count = self.random.below(3);
+            let objects = self.random.permille(200);
+            fields.extend(self.args(count, objects));
+            if self.random.permille(300) {
+                fields.push(self.bytes(3, b"sql"));
+                fields.push(self.number(4, 1));
+            }
+        } else {
+            for _ in 0..self.random.below(3) {
+                fields.push(self.unknown());
+            }
+        }
+        self.message(fields)
+    }
+
+    fn execute(&mut self, intent: &Intent) -> Vec<u8> {
+        let mut fields = self.args(intent.args, intent.objects);
+        if self.random.permille(250) {
+            let value = if self.random.permille(200) { number(self.random) } else { 1 };
+            fields.push(self.number(3, value));
+            self.again(&mut fields, |e| e.number(3, 0));
+        }
+        self.with_id(intent.stmt, fields)
+    }
+
+    fn open(&mut self, intent: &Intent) -> Vec<u8> {
+        let execute = self.execute(intent);
+        let mut fields = vec![self.bytes(2, &execute)];
+        self.again_bytes(2, &mut fields);
+        let bad_type = self.noise.bad > 0 && self.random.permille(100);
+        fields.insert(0, self.low32(1, u32::from(bad_type)));
+        self.enum_noise(&mut fields, &[1, 5, 1 << 32 | 1], &[0, 1 << 32]);
+        let stmt = self.message(fields);
+        let mut fields = vec![self.bytes(4, &stmt)];
+        self.again_bytes(4, &mut fields);
+        fields.extend(self.rows(5, intent.rows));
+        self.with_id(intent.cursor, fields)
+    }
+
+    /// Grows a frame by one unknown field until its length field is `length`.
+    pub fn grown(&mut self, frame: &[u8], length: usize) -> Vec<u8> {
+        let mut payload = frame[5..].to_vec();
+        // The tag of field 40 and three length bytes, needed or not.
+        let Some(fill) = length.checked_sub(1 + payload.len() + 5) else {
+            return frame.to_vec();
+        };
+        payload.extend([0xc2, 0x02]);
+        payload.extend([
+            fill as u8 & 0x7f | 0x80,
+            (fill >> 7) as u8 & 0x7f | 0x80,
+            (fill >> 14) as u8,
+        ]);
+        payload.resize(length - 1, 0xaa);
+        framed(frame[4], &payload)
+    }
+}

@@ -1,0 +1,136 @@
+//! Random sequences of events, the same for the same seed.
+
+mod damage;
+mod encode;
+mod frames;
+mod intent;
+mod probes;
+mod random;
+mod reports;
+mod systematic;
+mod values;
+
+pub use encode::{Encoder, Noise};
+pub use frames::{framed, Intent};
+pub use probes::{StretchProbe, WriteProbe};
+pub use random::Random;
+pub use systematic::all as systematic;
+
+use crate::implementation::*;
+use crate::model::{Model, Session};
+use intent::Mode;
+
+/// One step: a frame, a report and a reply buffer of `room` bytes.
+#[derive(Clone, Debug)]
+pub struct Step {
+    pub frame: Vec<u8>,
+    pub report: Report,
+    pub room: usize,
+}
+
+/// What a sequence is made of. Probes touch no session.
+#[derive(Clone, Debug)]
+pub enum Event {
+    Step(Step),
+    Write(WriteProbe),
+    Stretch(StretchProbe),
+}
+
+/// A sequence on one fresh session.
+pub fn sequence(random: &mut Random) -> Vec<Event> {
+    let mode = random.pick(&[Mode::Few, Mode::Few, Mode::Edges, Mode::Fill]);
+    let steps = if mode == Mode::Fill { random.range(100, 300) } else { random.range(1, 160) };
+    let mut guide = Guide { session: Session::fresh(), mode };
+    let mut events = Vec::new();
+    let mut after_close = random.below(6);
+    for _ in 0..steps {
+        events.push(Event::Step(guide.step(random)));
+        probes(random, &mut events);
+        if guide.session.tables.closed {
+            // Nothing but refusal 4 from here on; a few of these are enough.
+            if after_close == 0 {
+                break;
+            }
+            after_close -= 1;
+        }
+    }
+    events
+}
+
+fn probes(random: &mut Random, events: &mut Vec<Event>) {
+    if random.permille(150) {
+        events.push(Event::Write(probes::write_probe(random)));
+    }
+    if random.permille(150) {
+        events.push(Event::Stretch(probes::stretch_probe(random)));
+    }
+}
+
+/// Takes the honest model along, to know which ids are live.
+struct Guide {
+    session: Session,
+    mode: Mode,
+}
+
+impl Guide {
+    fn step(&mut self, random: &mut Random) -> Step {
+        let intent = intent::next(random, self.mode, &self.session.tables);
+        let frame = self.frame(random, &intent);
+        let model = Model::honest();
+        let look = model.look(&self.session, &frame);
+        let report = reports::report(random, look.work);
+        let room = if random.permille(970) { 200 } else { random.pick(&[0, 127, 128, 129, 4096]) };
+        let mut reply = vec![0; room];
+        self.session = model.step(self.session.clone(), &frame, report, &mut reply).0;
+        Step { frame, report, room }
+    }
+
+    fn frame(&self, random: &mut Random, intent: &Intent) -> Vec<u8> {
+        // Filling a table takes many accepted steps in a row.
+        let spoilt = if self.mode == Mode::Fill { 60 } else { 160 };
+        let noise = noise(random, spoilt);
+        let mut encoder = Encoder { random, noise };
+        let mut frame = encoder.frame(intent);
+        if encoder.random.permille(3) {
+            let length = encoder.random.pick(&[LONGEST, LONGEST, LONGEST - 1, LONGEST + 1]);
+            frame = encoder.grown(&frame, length);
+        } else if encoder.random.permille(1) && encoder.random.permille(400) {
+            frame = many_arguments(encoder.random, intent);
+        }
+        if self.session.tables.closed && random.permille(200) {
+            // Which is told first, 4 or 5?
+            frame[4] = 46;
+        }
+        if random.permille(spoilt) {
+            frame = damage::damaged(random, frame);
+        }
+        if random.permille(80) {
+            let len = random.range(1, 6);
+            frame.extend(random.bytes(len));
+        }
+        frame
+    }
+}
+
+fn noise(random: &mut Random, spoilt: usize) -> Noise {
+    let bad = if random.permille(spoilt) { 350 } else { 0 };
+    match random.below(3) {
+        0 => Noise { bad, ..Noise::default() },
+        1 => Noise { pad: 60, extra: 60, again: 40, shuffle: 20, bad },
+        _ => Noise { pad: 250, extra: 200, again: 120, shuffle: 60, bad },
+    }
+}
+
+/// An Execute with as many of the shortest arguments as a frame can hold: the
+/// last one now and then an array, to be named by its index.
+fn many_arguments(random: &mut Random, intent: &Intent) -> Vec<u8> {
+    let mut payload = Encoder { random, noise: Noise::default() }.number(1, u64::from(intent.stmt));
+    let null = [0x12, 0x06, 0x08, 0x01, 0x12, 0x02, 0x08, 0x03];
+    while payload.len() + null.len() + 4 < LONGEST {
+        payload.extend(null);
+    }
+    if random.permille(500) {
+        payload.extend([0x12, 0x02, 0x08, 0x03]);
+    }
+    framed(EXECUTE, &payload)
+}

@@ -1,0 +1,229 @@
+//! The library under test, through the raw functions of its crate: numbers that the safe wrappers rule out
+//! (a report kind of 9, a draft kind of 99) get to it too.
+
+use crate::implementation::*;
+use karramotx::ffi;
+
+pub struct Library;
+
+fn narrow<T: TryFrom<u64>>(number: u64) -> T {
+    T::try_from(number)
+        .unwrap_or_else(|_| panic!("the library answers {number}, which is out of range"))
+}
+
+/// An argument as the library tells it. Reason 8 does not say which of the two it is; the frame's summary
+/// does, and `Library::args` puts it right.
+fn argument(v: ffi::Value) -> Argument {
+    if v.reason != 0 {
+        return Err(narrow(v.reason));
+    }
+    let place = Place { start: v.start, len: v.len };
+    Ok(match v.kind {
+        1 => Value::Sint(v.value as i64),
+        2 => Value::Uint(v.value),
+        3 => Value::Null,
+        4 => Value::Octets(place),
+        5 => Value::Double(v.value),
+        6 => Value::Float(narrow(v.value)),
+        7 => Value::Bool(v.value != 0),
+        8 => Value::Text(place),
+        other => panic!("the library answers scalar type {other}"),
+    })
+}
+
+fn raw(frame: &[u8]) -> ffi::Message {
+    // SAFETY: the pointer and the length are those of a slice.
+    unsafe { ffi::karramotx_read(frame.as_ptr(), frame.len()) }
+}
+
+fn optional(o: ffi::Optional) -> Option<u64> {
+    o.present.then_some(o.value)
+}
+
+fn written(sent: ffi::Sent) -> Written {
+    Written { reason: narrow(sent.reason), length: sent.len }
+}
+
+impl Library {
+    /// The arguments of a good frame. Of several objects and arrays the library tells the first one's type.
+    fn args(frame: &[u8], m: ffi::Message) -> Vec<Value> {
+        let passed = Library.pass(frame);
+        let scalars = passed.iter().take(m.args.count).enumerate();
+        scalars
+            .map(|(i, a)| match a {
+                Ok(value) => *value,
+                Err(8) if i == m.args.index && m.args.kind == 3 => Value::Array,
+                Err(8) => Value::Object,
+                Err(other) => panic!("argument {i} of a good frame is refused {other}"),
+            })
+            .collect()
+    }
+}
+
+impl Implementation for Library {
+    type Session = ffi::Session;
+
+    fn name(&self) -> String {
+        "library".into()
+    }
+
+    fn fresh(&self) -> ffi::Session {
+        // SAFETY: it takes nothing.
+        unsafe { ffi::karramotx_fresh() }
+    }
+
+    fn tables(&self, s: &ffi::Session) -> Tables {
+        Tables {
+            closed: s.closed,
+            statements: s.stmts.map(|x| Statement {
+                live: x.live,
+                id: x.id,
+                placeholders: x.placeholders.into(),
+            }),
+            cursors: s.cursors.map(|x| Cursor {
+                live: x.live,
+                id: x.id,
+                stmt: x.stmt,
+                rows: x.rows.into(),
+                sent: x.sent.into(),
+            }),
+        }
+    }
+
+    fn read(&self, frame: &[u8]) -> Message {
+        let m = raw(frame);
+        if m.reason != 0 {
+            let args = ffi::Arguments { good: true, ..Default::default() };
+            let rest = ffi::Message { reason: m.reason, used: m.used, args, ..Default::default() };
+            assert_eq!(m, rest, "a refused message holds nothing");
+            return Message::refused(narrow(m.reason), m.used);
+        }
+        Message {
+            reason: 0,
+            used: m.used,
+            kind: narrow(m.kind),
+            stmt: narrow(m.stmt),
+            cursor: narrow(m.cursor),
+            fetch_rows: optional(m.rows),
+            compact_metadata: optional(m.compact).map(|v| narrow::<u8>(v) == 1),
+            choice: narrow(m.choice),
+            body: Place { start: m.body.start, len: m.body.len },
+            args_place: Place { start: m.args.start, len: m.args.end - m.args.start },
+            args: Library::args(frame, m),
+        }
+    }
+
+    fn argument(&self, frame: &[u8], index: u64) -> Argument {
+        // SAFETY: the pointer and the length are those of a slice.
+        let v = unsafe { ffi::karramotx_argument(frame.as_ptr(), frame.len(), index as usize) };
+        assert_eq!(v.next, 0, "an argument by index has no next place");
+        argument(v)
+    }
+
+    fn pass(&self, frame: &[u8]) -> Vec<Argument> {
+        let m = raw(frame);
+        if m.reason != 0 {
+            return vec![Err(narrow(m.reason))];
+        }
+        let mut found = Vec::new();
+        let mut at = m.args.start;
+        loop {
+            // SAFETY: the message that holds the arguments ends in the frame.
+            let v = unsafe { ffi::karramotx_next_argument(frame.as_ptr(), m.args.end, at) };
+            found.push(argument(v));
+            if !matches!(v.reason, 0 | 8) {
+                return found;
+            }
+            assert!(at < v.next, "the pass goes forward");
+            at = v.next;
+        }
+    }
+
+    fn body<'f>(&self, frame: &'f [u8]) -> &'f [u8] {
+        // SAFETY: the pointer and the length are those of a slice.
+        let part = unsafe { ffi::karramotx_body(frame.as_ptr(), frame.len()) };
+        &frame[part.start..][..part.len]
+    }
+
+    fn look(&self, session: &ffi::Session, frame: &[u8]) -> Look {
+        // SAFETY: the pointer and the length are those of a slice.
+        let look = unsafe { ffi::karramotx_look(session, frame.as_ptr(), frame.len()) };
+        let works = [Work::None, Work::Prepare, Work::Execute, Work::Open, Work::Fetch];
+        Look {
+            reason: narrow(look.reason),
+            work: works[narrow::<usize>(look.work)],
+            first: look.first,
+            count: look.count,
+        }
+    }
+
+    fn step(
+        &self,
+        mut session: ffi::Session,
+        frame: &[u8],
+        report: Report,
+        reply: &mut [u8],
+    ) -> (ffi::Session, Answer) {
+        let report = ffi::Report { kind: report.kind.into(), a: report.a, b: report.b };
+        // SAFETY: pointers and lengths are those of slices, and what is written is borrowed uniquely.
+        let answer = unsafe {
+            ffi::karramotx_step(
+                &mut session,
+                frame.as_ptr(),
+                frame.len(),
+                report,
+                reply.as_mut_ptr(),
+                reply.len(),
+            )
+        };
+        let answer = Answer {
+            reason: narrow(answer.reason),
+            used: answer.used,
+            reply: answer.reply,
+            columns: answer.columns,
+            first: answer.first,
+            count: answer.count,
+        };
+        (session, answer)
+    }
+
+    fn write(&self, draft: &Draft, body: &[u8], args: &[u8], out: &mut [u8]) -> Written {
+        let draft = ffi::Draft {
+            kind: draft.kind.into(),
+            stmt: draft.stmt,
+            cursor: draft.cursor,
+            hasrows: draft.has_rows,
+            rows: draft.rows,
+            hascompact: draft.has_compact,
+            compact: draft.compact,
+            choice: draft.choice.into(),
+        };
+        // SAFETY: pointers and lengths are those of slices, and the buffer is borrowed uniquely.
+        written(unsafe {
+            ffi::karramotx_write(
+                draft,
+                body.as_ptr(),
+                body.len(),
+                args.as_ptr(),
+                args.len(),
+                out.as_mut_ptr(),
+                out.len(),
+            )
+        })
+    }
+
+    fn append(&self, buffer: &mut [u8], at: usize, scalar: &Scalar) -> Written {
+        let raw = ffi::Scalar { kind: scalar.kind.into(), value: scalar.bits };
+        // SAFETY: pointers and lengths are those of slices, and the buffer is borrowed uniquely.
+        written(unsafe {
+            ffi::karramotx_append(
+                raw,
+                scalar.bytes.as_ptr(),
+                scalar.bytes.len(),
+                buffer.as_mut_ptr(),
+                buffer.len(),
+                at,
+            )
+        })
+    }
+}

@@ -1,0 +1,158 @@
+//! The deliberate mistakes the model can be told to make.
+//!
+//! Each is a plausible misreading of document 01 and one line of difference
+//! where the rule is applied. `mutants` shows that the comparison finds all.
+
+macro_rules! mistakes {
+    ($($(#[$doc:meta])* $name:ident,)*) => {
+        #[derive(Clone, Copy, Debug, PartialEq, Eq)]
+        pub enum Mistake { $($(#[$doc])* $name,)* }
+
+        /// Every mistake, in the order of the declaration.
+        pub const ALL: &[Mistake] = &[$(Mistake::$name,)*];
+    };
+}
+
+mistakes! {
+    // Reading.
+    /// An eleventh byte of a varint is let through.
+    ElevenByteVarint,
+    /// A tag above 2^32 is accepted, its high bits dropped.
+    WideTag,
+    /// A length is taken modulo 2^32.
+    LengthWraps,
+    /// Groups nest to depth 33.
+    Depth33,
+    /// Groups nest to depth 31 only.
+    Depth31,
+    /// A group's end may carry any number.
+    AnyGroupEnd,
+    /// An end without a start is skipped.
+    LoneEnd,
+    /// An unlisted enum value overwrites the earlier good one.
+    UnlistedOverwrites,
+    /// An enum is compared in all 64 bits.
+    WideEnum,
+    /// An id above 32 bits is bad instead of cut to 32.
+    WideIdBad,
+    /// The first of several embedded messages counts.
+    FirstEmbedded,
+    /// Earlier embedded messages must be well-formed too.
+    EarlierEmbeddedRead,
+    /// The first of several plain values counts.
+    FirstValue,
+    /// A known number with another wire type is bad.
+    OtherWireBad,
+    /// The scalar of an object or array is read.
+    UnchosenScalarRead,
+    /// Prepare type 3 chooses field 5, as if the types were counted through.
+    PrepareType3,
+    /// A bool of 2 is read as false.
+    BoolTwoFalse,
+    /// A signaling NaN in a float loses that bit.
+    NanQuieted,
+    /// Zigzag by dividing signed numbers, which loses the upper half.
+    ZigzagDivides,
+    /// A Reset's payload is not looked at.
+    ResetUnread,
+    /// An empty find body counts as missing.
+    EmptyBodyMissing,
+    /// Bytes past the frame are counted as used.
+    AllBytesUsed,
+    /// A refused payload is not used.
+    BadUsesNothing,
+    /// An object among a Prepare's own arguments is bad.
+    PrepareObjectBad,
+    /// A StmtExecute may lack its text.
+    TextOptional,
+    /// Octets and strings may lack their bytes.
+    OctetsOptional,
+    /// Places of bytes are counted from the payload.
+    PlaceInPayload,
+    /// A pass over the arguments stops at an object.
+    PassStopsAtObject,
+
+    // Looking.
+    /// An unknown type is told before a closed session.
+    UnknownBeforeClosed,
+    /// Too few arguments (9) is told before an unsupported one (8).
+    NineBeforeEight,
+    /// 8 names the last object or array instead of the first.
+    LastObjectNamed,
+    /// 9 names the placeholder count instead of the argument count.
+    NineNamesPlaceholders,
+    /// Ids in texts are printed signed.
+    SignedId,
+    /// An Open at 16 cursors is refused though its own id is among them.
+    OpenFullRefused,
+    /// A Prepare at 64 statements is refused though its own id is among them.
+    PrepareFullRefused,
+    /// 14 is told before 12.
+    FullBeforeOther,
+    /// The cursor of another id is closed, as the worklog has it, not refused 12.
+    OtherCursorClosed,
+    /// Fetching from a cursor without rows left gives FetchDone again, not 11.
+    FetchPastEnd,
+
+    // Stepping.
+    /// Replacing a statement keeps its cursor.
+    ReplaceKeepsCursor,
+    /// Execute keeps the statement's cursor.
+    ExecuteKeepsCursor,
+    /// Deallocate keeps the statement's cursor.
+    DeallocateKeepsCursor,
+    /// A failed Execute ends the cursor already.
+    FailedExecuteEnds,
+    /// fetch_rows is added to the rows sent before comparing.
+    AddedFirst,
+    /// fetch_rows absent means none in a Fetch.
+    FetchAbsentNone,
+    /// fetch_rows absent means all in an Open.
+    OpenAbsentAll,
+    /// Sending exactly the last row suspends, as the worklog's example shows.
+    LastRowSuspends,
+    /// A new entry goes behind the last live one while there is room.
+    PlaceBehindLast,
+    /// A replaced cursor moves to the lowest free place.
+    ReplacedMoves,
+    /// A freed place keeps its numbers.
+    FreedKeepsNumbers,
+    /// Session close leaves the tables.
+    CloseKeepsTables,
+    /// A report of rows without columns is accepted.
+    RowsWithoutColumns,
+    /// A failure code is not held to 32 bits.
+    WideCode,
+    /// A failure code of 0 is passed on.
+    CodeZero,
+    /// 65,536 placeholders are accepted.
+    MorePlaceholders,
+    /// 4,097 columns are accepted.
+    MoreColumns,
+    /// 2^32 rows are accepted.
+    MoreRows,
+    /// A report is asked for where no work is wanted.
+    ReportAlways,
+    /// Execute without columns gives FetchDone all the same.
+    ExecuteAlwaysDone,
+    /// Open without columns gives StmtExecuteOk alone, as Execute does.
+    OpenWithoutDone,
+    /// A reply of 128 bytes is refused 3.
+    Reply128Refused,
+    /// The rest of the reply buffer is cleared.
+    ReplyCleared,
+
+    // Writing.
+    /// An absent compact_metadata is written as false.
+    WritesAbsent,
+    /// A frame of exactly the limit is refused 2.
+    LimitRefused,
+    /// 3 is told before 2.
+    RoomBeforeLimit,
+    /// The stretch may hold other fields than arguments.
+    LooseStretch,
+    /// Ids are written as int32, so those above 2^31 take ten bytes.
+    IdWrittenSigned,
+    /// An argument that just fills the buffer is refused 3.
+    FullStretchRefused,
+}

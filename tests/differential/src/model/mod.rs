@@ -1,0 +1,116 @@
+//! The model: document 01 once more, written from the papers alone.
+//!
+//! It is written to be read beside the document, one file for each chapter,
+//! and takes the plain way everywhere: lists of fields, copies of sessions.
+
+mod mistake;
+mod read;
+mod reply;
+mod rules;
+mod scalar;
+mod session;
+mod step;
+mod wire;
+mod write;
+
+pub use mistake::{Mistake, ALL as MISTAKES};
+pub use session::Session;
+pub use wire::shortest;
+
+use crate::implementation::*;
+
+/// The model, honest unless told to make one mistake.
+#[derive(Clone, Copy, Debug, Default)]
+pub struct Model {
+    pub mistake: Option<Mistake>,
+}
+
+impl Model {
+    pub fn honest() -> Model {
+        Model { mistake: None }
+    }
+
+    pub fn wrong(mistake: Mistake) -> Model {
+        Model { mistake: Some(mistake) }
+    }
+
+    fn makes(&self, mistake: Mistake) -> bool {
+        self.mistake == Some(mistake)
+    }
+}
+
+/// An argument asked for by itself: objects and arrays are refused 8.
+fn alone(value: Value) -> Argument {
+    match value {
+        Value::Object | Value::Array => Err(8),
+        scalar => Ok(scalar),
+    }
+}
+
+impl Implementation for Model {
+    type Session = Session;
+
+    fn name(&self) -> String {
+        match self.mistake {
+            None => "model".into(),
+            Some(mistake) => format!("model with {mistake:?}"),
+        }
+    }
+
+    fn fresh(&self) -> Session {
+        Session::fresh()
+    }
+
+    fn tables(&self, session: &Session) -> Tables {
+        session.tables.clone()
+    }
+
+    fn read(&self, frame: &[u8]) -> Message {
+        self.read_frame(frame)
+    }
+
+    fn argument(&self, frame: &[u8], index: u64) -> Argument {
+        let message = self.read_frame(frame);
+        if message.reason != 0 {
+            return Err(message.reason);
+        }
+        let found = usize::try_from(index).ok().and_then(|i| message.args.get(i));
+        found.map_or(Err(9), |value| alone(*value))
+    }
+
+    fn pass(&self, frame: &[u8]) -> Vec<Argument> {
+        let message = self.read_frame(frame);
+        if message.reason != 0 {
+            return vec![Err(message.reason)];
+        }
+        let stops = self.makes(Mistake::PassStopsAtObject);
+        let all = message.args.into_iter().map(alone);
+        all.take_while(|one| !stops || one.is_ok()).chain([Err(9)]).collect()
+    }
+
+    fn body<'f>(&self, frame: &'f [u8]) -> &'f [u8] {
+        self.read_frame(frame).body.of(frame)
+    }
+
+    fn look(&self, session: &Session, frame: &[u8]) -> Look {
+        self.look_at(session, frame)
+    }
+
+    fn step(
+        &self,
+        session: Session,
+        frame: &[u8],
+        report: Report,
+        reply: &mut [u8],
+    ) -> (Session, Answer) {
+        self.take_step(session, frame, report, reply)
+    }
+
+    fn write(&self, draft: &Draft, body: &[u8], args: &[u8], out: &mut [u8]) -> Written {
+        self.write_message(draft, body, args, out)
+    }
+
+    fn append(&self, buffer: &mut [u8], at: usize, scalar: &Scalar) -> Written {
+        self.append_scalar(buffer, at, scalar)
+    }
+}

@@ -1,0 +1,222 @@
+//! Payload rules: varints, tags, lengths and groups.
+
+use super::{Mistake, Model};
+use crate::implementation::Place;
+
+pub const VARINT: u8 = 0;
+pub const FIXED64: u8 = 1;
+pub const BYTES: u8 = 2;
+const START: u8 = 3;
+const END: u8 = 4;
+pub const FIXED32: u8 = 5;
+
+const GROUP_DEPTH: u32 = 32;
+
+/// One field as it stands in a message. Numbers lie in `value`, whatever
+/// their width; `place` is where the bytes of a length-delimited one lie.
+#[derive(Clone, Copy, Debug)]
+pub struct Field {
+    pub number: u32,
+    pub wire: u8,
+    pub value: u64,
+    pub place: Place,
+}
+
+/// A message split into its fields, in their order.
+pub struct Fields<'a> {
+    model: Model,
+    bytes: &'a [u8],
+    list: Vec<Field>,
+}
+
+impl Model {
+    /// Splits a message; `None` if it is not a good field list.
+    pub(super) fn fields<'a>(&self, bytes: &'a [u8], part: Place) -> Option<Fields<'a>> {
+        let mut scan = Scan { model: *self, bytes, at: part.start, end: part.end() };
+        let mut list = Vec::new();
+        while scan.at < scan.end {
+            list.push(scan.field()?);
+        }
+        Some(Fields { model: *self, bytes, list })
+    }
+}
+
+/// A place in a message that moves forward as its parts are read.
+struct Scan<'a> {
+    model: Model,
+    bytes: &'a [u8],
+    at: usize,
+    end: usize,
+}
+
+impl Scan<'_> {
+    fn varint(&mut self) -> Option<u64> {
+        let longest = if self.model.makes(Mistake::ElevenByteVarint) { 11 } else { 10 };
+        let mut value = 0;
+        for group in 0..longest {
+            let byte = *self.bytes[..self.end].get(self.at)?;
+            self.at += 1;
+            // In the tenth byte all bits but one fall off the upper end.
+            value |= if group < 10 { u64::from(byte & 0x7f) << (7 * group) } else { 0 };
+            if byte < 0x80 {
+                return Some(value);
+            }
+        }
+        None
+    }
+
+    /// A field number and a wire type.
+    fn tag(&mut self) -> Option<(u32, u8)> {
+        let mut tag = self.varint()?;
+        if self.model.makes(Mistake::WideTag) {
+            tag &= 0xffff_ffff;
+        }
+        let tag = u32::try_from(tag).ok()?;
+        let (number, wire) = (tag >> 3, (tag & 7) as u8);
+        (number >= 1).then_some((number, wire))
+    }
+
+    fn skip(&mut self, len: u64) -> Option<Place> {
+        if len > (self.end - self.at) as u64 {
+            return None;
+        }
+        let place = Place { start: self.at, len: len as usize };
+        self.at = place.end();
+        Some(place)
+    }
+
+    fn field(&mut self) -> Option<Field> {
+        let (number, wire) = self.tag()?;
+        self.value(number, wire, GROUP_DEPTH)
+    }
+
+    /// The value behind a tag; `depth` groups may still be opened.
+    fn value(&mut self, number: u32, wire: u8, depth: u32) -> Option<Field> {
+        let mut field = Field { number, wire, value: 0, place: Place::default() };
+        match wire {
+            VARINT => field.value = self.varint()?,
+            FIXED64 => field.value = self.fixed(8)?,
+            FIXED32 => field.value = self.fixed(4)?,
+            BYTES => {
+                let len = self.varint()?;
+                let wraps = self.model.makes(Mistake::LengthWraps);
+                field.place = self.skip(if wraps { len & 0xffff_ffff } else { len })?;
+            }
+            START => self.group(number, depth)?,
+            END if self.model.makes(Mistake::LoneEnd) => {}
+            // A lone end, and wire types 6 and 7.
+            _ => return None,
+        }
+        Some(field)
+    }
+
+    fn fixed(&mut self, len: u64) -> Option<u64> {
+        let place = self.skip(len)?;
+        let bytes = place.of(self.bytes);
+        Some(bytes.iter().rev().fold(0, |value, byte| value << 8 | u64::from(*byte)))
+    }
+
+    /// Skips a group up to the end that carries its number.
+    fn group(&mut self, number: u32, depth: u32) -> Option<()> {
+        let last = match self.model.mistake {
+            Some(Mistake::Depth31) => 1,
+            Some(Mistake::Depth33) => u32::MAX,
+            _ => 0,
+        };
+        if depth == last {
+            return None;
+        }
+        loop {
+            let (inner, wire) = self.tag()?;
+            if wire == END {
+                let same = inner == number || self.model.makes(Mistake::AnyGroupEnd);
+                return same.then_some(());
+            }
+            // Depth 33 counts on below 0, which only that mistake reaches.
+            self.value(inner, wire, depth.wrapping_sub(1))?;
+        }
+    }
+}
+
+impl Fields<'_> {
+    fn of(&self, number: u32, wire: u8) -> impl DoubleEndedIterator<Item = &Field> {
+        self.list.iter().filter(move |f| f.number == number && f.wire == wire)
+    }
+
+    fn last(&self, number: u32, wire: u8) -> Option<&Field> {
+        if self.model.makes(Mistake::OtherWireBad) {
+            let other = self.list.iter().any(|f| f.number == number && f.wire != wire);
+            return if other { None } else { self.of(number, wire).next_back() };
+        }
+        if self.model.makes(Mistake::FirstValue) {
+            return self.of(number, wire).next();
+        }
+        self.of(number, wire).next_back()
+    }
+
+    /// The last plain number of a field: wire type 0, 1 or 5.
+    pub fn number(&self, number: u32, wire: u8) -> Option<u64> {
+        self.last(number, wire).map(|f| f.value)
+    }
+
+    pub fn uint32(&self, number: u32) -> Option<u32> {
+        let value = self.number(number, VARINT)?;
+        if self.model.makes(Mistake::WideIdBad) && value >> 32 != 0 {
+            return None;
+        }
+        Some(value as u32)
+    }
+
+    pub fn boolean(&self, number: u32) -> Option<bool> {
+        let two_false = self.model.makes(Mistake::BoolTwoFalse);
+        self.number(number, VARINT).map(|v| if two_false { v == 1 } else { v != 0 })
+    }
+
+    /// The last listed value of an enum; others count as unknown fields.
+    pub fn listed(&self, number: u32, values: &[u32]) -> Option<u32> {
+        let wide = self.model.makes(Mistake::WideEnum);
+        let good = |v: u64| values.contains(&(v as u32)) && (!wide || v >> 32 == 0);
+        if self.model.makes(Mistake::UnlistedOverwrites) {
+            return self.number(number, VARINT).filter(|v| good(*v)).map(|v| v as u32);
+        }
+        let mut found = self.of(number, VARINT).filter(|f| good(f.value));
+        found.next_back().map(|f| f.value as u32)
+    }
+
+    /// The last occurrence of a bytes field.
+    pub fn bytes(&self, number: u32) -> Option<Place> {
+        self.last(number, BYTES).map(|f| f.place)
+    }
+
+    /// Every occurrence of a repeated embedded message.
+    pub fn repeated(&self, number: u32) -> Vec<Place> {
+        self.of(number, BYTES).map(|f| f.place).collect()
+    }
+
+    /// The embedded message that counts: the last, earlier ones unread.
+    pub fn embedded(&self, number: u32) -> Option<Place> {
+        if self.model.makes(Mistake::EarlierEmbeddedRead) {
+            for place in self.repeated(number) {
+                self.model.fields(self.bytes, place)?;
+            }
+        }
+        if self.model.makes(Mistake::FirstEmbedded) {
+            return self.of(number, BYTES).next().map(|f| f.place);
+        }
+        self.of(number, BYTES).next_back().map(|f| f.place)
+    }
+
+    /// Whether every field is this number with bytes.
+    pub fn only(&self, number: u32) -> bool {
+        self.list.iter().all(|f| f.number == number && f.wire == BYTES)
+    }
+}
+
+/// A number as the shortest varint.
+pub fn shortest(mut value: u64, out: &mut Vec<u8>) {
+    while value >= 0x80 {
+        out.push(value as u8 | 0x80);
+        value >>= 7;
+    }
+    out.push(value as u8);
+}

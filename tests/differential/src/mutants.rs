@@ -1,0 +1,53 @@
+//! Would the comparison notice? Every mistake the model can make must be
+//! found by the same generator and the same comparison as the library gets.
+
+use crate::compare::{run, shrink, Found};
+use crate::coverage::Coverage;
+use crate::generate::{sequence, Random};
+use crate::implementation::Implementation;
+use crate::model::{Mistake, Model, MISTAKES};
+
+/// Every mistake must show within this many steps.
+pub const WITHIN: u64 = 50_000;
+
+/// How a mistake was found.
+pub struct Caught {
+    pub mistake: Mistake,
+    /// Steps run until then; `None` if it was not found within the limit.
+    pub steps: Option<u64>,
+    pub found: Option<Found>,
+}
+
+/// Runs an honest implementation against one mutant.
+pub fn hunt<I: Implementation>(honest: &I, mistake: Mistake, seed: u64) -> Caught {
+    let wrong = Model::wrong(mistake);
+    let mut random = Random::new(seed);
+    let mut coverage = Coverage::default();
+    while coverage.steps < WITHIN {
+        let events = sequence(&mut random);
+        if run(honest, &wrong, &events, &mut coverage).is_some() {
+            // The step that shows the difference is not counted by coverage.
+            let steps = Some(coverage.steps + 1);
+            return Caught { mistake, steps, found: Some(shrink(honest, &wrong, events)) };
+        }
+    }
+    Caught { mistake, steps: None, found: None }
+}
+
+/// Every mutant, in the order of their declaration.
+pub fn hunt_all<I: Implementation>(honest: &I, seed: u64) -> Vec<Caught> {
+    MISTAKES.iter().map(|mistake| hunt(honest, *mistake, seed)).collect()
+}
+
+impl std::fmt::Display for Caught {
+    fn fmt(&self, f: &mut std::fmt::Formatter) -> std::fmt::Result {
+        let name = format!("{:?}", self.mistake);
+        match (self.steps, &self.found) {
+            (Some(steps), Some(found)) => {
+                let (left, what) = (found.events.len(), &found.difference.what);
+                write!(f, "{name:<22} after {steps:>6} steps, shrunk to {left:>2} events: {what}")
+            }
+            _ => write!(f, "{name:<22} NOT FOUND within {WITHIN} steps"),
+        }
+    }
+}

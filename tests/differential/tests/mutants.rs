@@ -1,0 +1,57 @@
+//! Every deliberate mistake is found, and the honest model is not accused.
+
+use differential::compare::{search, sweep};
+use differential::coverage::Coverage;
+use differential::model::{Mistake, Model};
+use differential::mutants::{hunt_all, WITHIN};
+use differential::under_test;
+
+const SEED: u64 = 1;
+
+#[test]
+fn all_are_found() {
+    let caught = hunt_all(&under_test(), SEED);
+    caught.iter().for_each(|one| println!("{one}"));
+    let free: Vec<_> = caught.iter().filter(|one| one.steps.is_none()).collect();
+    assert!(free.is_empty(), "not found within {WITHIN} steps: {}", free.len());
+}
+
+/// Against itself a mutant differs in nothing: only the promises checked on
+/// each side alone, the tally first among them, can find it.
+#[test]
+fn promises_alone_find_these() {
+    use Mistake::*;
+    let broken = [
+        ReplaceKeepsCursor,
+        ExecuteKeepsCursor,
+        DeallocateKeepsCursor,
+        CloseKeepsTables,
+        FailedExecuteEnds,
+        OtherCursorClosed,
+        LastRowSuspends,
+        OpenWithoutDone,
+        ReplyCleared,
+    ];
+    for mistake in broken {
+        let mutant = Model::wrong(mistake);
+        let found = search(&mutant, &mutant, SEED, WITHIN, &mut Coverage::default());
+        assert!(found.is_some(), "{mistake:?} keeps all promises");
+    }
+}
+
+#[test]
+fn the_honest_model_is_not_accused() {
+    let (honest, other) = (Model::honest(), under_test());
+    let mut coverage = Coverage::default();
+    let found = sweep(&honest, &other, &mut coverage)
+        .or_else(|| search(&honest, &other, SEED, 60_000, &mut coverage));
+    if let Some(found) = found {
+        panic!("{}", found.print);
+    }
+    // A run that misses a refusal, or accepts next to nothing, proves little.
+    assert!((0..=16).all(|reason| coverage.reason(reason) > 0), "\n{coverage}");
+    assert!((0.4..0.7).contains(&coverage.accepted_share()), "\n{coverage}");
+    assert!(coverage.arguments.iter().all(|count| *count > 0), "\n{coverage}");
+    assert!([0, 2, 3, 6].iter().all(|reason| coverage.drafts[*reason] > 0), "\n{coverage}");
+    assert!([0, 3, 6].iter().all(|reason| coverage.stretches[*reason] > 0), "\n{coverage}");
+}
