@@ -7,7 +7,8 @@ use mathlib.Core.List.{List}
 use lib.ListN.{length, take}
 use borrow.Author.Tests.{le-leb, lt-leb}
 use Rattle.layout.specs.Slots.{badSlots}
-use Rattle.layout.specs.Fields.{fieldsAt, Noted, Holds}
+use Rattle.layout.specs.Fields.{fieldsAt}
+use Rattle.layout.specs.Arrays.{Noted, Holds}
 use Rattle.layout.specs.declared.slots.Slots.{Slots}
 use Rattle.args.specs.Part.{embedded}
 

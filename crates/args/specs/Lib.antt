@@ -1,4 +1,5 @@
 pub mod Part
 pub mod Value
+pub mod Pair
 pub mod Arguments
 pub mod Typed

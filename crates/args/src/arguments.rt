@@ -160,7 +160,7 @@ pub fn next_argument(s: &[u8], at: usize) -> NextArgument
 {
     match next_place(s, at) {
         ArgPlace::At { start, len, next } => NextArgument::Found {
-            value: crate::value::read_argument(s, start, len),
+            value: crate::value::quick_argument(s, start, len),
             next,
         },
         ArgPlace::End => NextArgument::End,

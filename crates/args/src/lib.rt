@@ -1,4 +1,5 @@
 // The arguments of a message: one by one, and all together.
 pub mod arguments;
+pub mod pair;
 pub mod part;
 pub mod value;

@@ -1,8 +1,9 @@
 // The value of one argument: an Any, and the Scalar in it.
 ghost use mathlib.Core.Path.{_≡_};
 ghost use mathlib.Core.Bool.{cond, true};
-ghost use Rattle.layout.specs.Fields.{fromArrays};
+ghost use Rattle.layout.specs.Arrays.{fromArrays};
 ghost use Rattle.args.specs.Value.{anyOf, argumentIn, bad, bytesIn, scalarIn, scalarOf};
+use crate::pair::Pair;
 use scalar::argument::Argument;
 
 // The named value must be present.
@@ -16,7 +17,7 @@ fn needed(has: bool, a: Argument) -> Argument
 fn read_bytes(s: &[u8], at: usize, n: usize, octets: bool) -> Argument
     ensures { λ r. ⌜ r ≡ bytesIn octets (now (s .entry)) at n ⌝ }
 {
-    let rows = layout::table::BYTES_ROWS;
+    let rows = layout::rows::bytes_rows();
     let mut seen = [false; 10];
     let mut values = [0; 10];
     let mut starts = [0; 10];
@@ -56,7 +57,7 @@ fn scalar_value(s: &[u8], seen: &[bool; 10], values: &[u64; 10], starts: &[usize
 fn read_scalar(s: &[u8], at: usize, n: usize) -> Argument
     ensures { λ r. ⌜ r ≡ scalarIn (now (s .entry)) at n ⌝ }
 {
-    let rows = layout::table::SCALAR_ROWS;
+    let rows = layout::rows::scalar_rows();
     let mut seen = [false; 10];
     let mut values = [0; 10];
     let mut starts = [0; 10];
@@ -83,7 +84,7 @@ fn any_value(s: &[u8], seen: &[bool; 10], values: &[u64; 10], starts: &[usize; 1
 pub fn read_argument(s: &[u8], at: usize, n: usize) -> Argument
     ensures { λ r. ⌜ r ≡ argumentIn (now (s .entry)) at n ⌝ }
 {
-    let rows = layout::table::ANY_ROWS;
+    let rows = layout::rows::any_rows();
     let mut seen = [false; 10];
     let mut values = [0; 10];
     let mut starts = [0; 10];
@@ -91,4 +92,67 @@ pub fn read_argument(s: &[u8], at: usize, n: usize) -> Argument
         return Argument::Refused(6);
     }
     any_value(s, &seen, &values, &starts)
+}
+
+// The keys of the short way: a Scalar's type times 256, and the tag of the value that the type names.
+const SINT: u64 = 0x01_10;
+
+const UINT: u64 = 0x02_18;
+
+const OCTETS: u64 = 0x04_2a;
+
+const DOUBLE: u64 = 0x05_31;
+
+const FLOAT: u64 = 0x06_3d;
+
+const BOOL: u64 = 0x07_40;
+
+const STRING: u64 = 0x08_4a;
+
+// The same for an Any: type 1 and the tag of its scalar.
+const ANY_SCALAR: u64 = 0x01_12;
+
+// The same as read_scalar, with the short way for a Scalar of two fields. The slice is lent anew to what is not inlined,
+// so that the short way keeps it in registers.
+fn quick_scalar(s: &[u8], at: usize, n: usize) -> Argument
+    ensures { λ r. ⌜ r ≡ scalarIn (now (s .entry)) at n ⌝ }
+{
+    let all = s.len();
+    if let Pair::Two {
+        first,
+        tag,
+        value,
+        start,
+    } = crate::pair::read_pair(s, at, n) {
+        let named = first * 256 + tag;
+        match named {
+            SINT => return scalar::argument::signed_argument(value),
+            UINT => return Argument::Unsigned(value),
+            OCTETS => return read_bytes(&s[..all], start, value as usize, true),
+            DOUBLE => return scalar::argument::double_argument(value),
+            FLOAT => return scalar::argument::float_argument((value % 0x1_0000_0000) as u32),
+            BOOL => return Argument::Bool(value != 0),
+            STRING => return read_bytes(&s[..all], start, value as usize, false),
+            _ => {}
+        }
+    }
+    read_scalar(&s[..all], at, n)
+}
+
+// The same as read_argument, with the short way for an Any of two fields, its type and its scalar.
+pub fn quick_argument(s: &[u8], at: usize, n: usize) -> Argument
+    ensures { λ r. ⌜ r ≡ argumentIn (now (s .entry)) at n ⌝ }
+{
+    let all = s.len();
+    if let Pair::Two {
+        first,
+        tag,
+        value,
+        start,
+    } = crate::pair::read_pair(s, at, n) {
+        if first * 256 + tag == ANY_SCALAR {
+            return quick_scalar(s, start, value as usize);
+        }
+    }
+    read_argument(&s[..all], at, n)
 }

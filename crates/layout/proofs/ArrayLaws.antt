@@ -14,7 +14,8 @@ use Rattle.wire.specs.declared.field.Field.{Field}
 use Rattle.wire.proofs.LongLaws.{both, LongField, field-long}
 use Rattle.layout.specs.Row.{numberOf, wireOf, isRepeated, listedOf, listed, rowFor, takes, slotCount}
 use Rattle.layout.specs.Slots.{noSlots, badSlots}
-use Rattle.layout.specs.Fields.{useOf, noted, onField, fieldsFrom, fieldList, hasRequired, checked, fieldsAt, fieldsTo, occurs, once, Holds, fromArrays, inArrays}
+use Rattle.layout.specs.Fields.{useOf, noted, onField, fieldsFrom, fieldList, hasRequired, checked, fieldsAt, fieldsTo}
+use Rattle.layout.specs.Arrays.{occurs, once, Holds, fromArrays, inArrays}
 use Rattle.layout.proofs.FieldsLaws.{getD-seen}
 use Rattle.layout.specs.declared.slots.Slots.{Slots}
 use Rattle.layout.specs.declared.fields.Use.{Use}
@@ -30,6 +31,11 @@ fields-whole rows s from =
 pub holds-whole : (rows : List (List ℕ)) (s : List ℕ) (from : ℕ) {g : Bool} {v : List Bool} {w u : List ℕ} →
     Holds (fieldsTo rows s from (length s)) g v w u → Holds (fieldsAt rows s from) g v w u
 holds-whole rows s from {g} {v} {w} {u} h = subst (λ (y : Slots). Holds y g v w u) (fields-whole rows s from) h
+
+-- the same where the rows lent are the message's by an equation
+pub holds-lent : {lent rows : List (List ℕ)} → lent ≡ rows → (s : List ℕ) (from : ℕ) {g : Bool} {v : List Bool} {w u : List ℕ} →
+    Holds (fieldsTo lent s from (length s)) g v w u → Holds (fieldsAt rows s from) g v w u
+holds-lent {rows = rows} e s from h = holds-whole rows s from (rw e at h)
 
 -- ---- what the arrays hold, by field number
 

@@ -15,7 +15,8 @@ use Rattle.wire.specs.declared.field.Field.{Field}
 use Rattle.wire.proofs.PastLaws.{field-past}
 use Rattle.layout.specs.Row.{numberOf, isRequired, isRepeated, rowFor, takes, slotCount}
 use Rattle.layout.specs.Slots.{noSlots, badSlots}
-use Rattle.layout.specs.Fields.{useOf, noted, onField, fieldsFrom, fieldList, hasRequired, checked, fieldsTo, occurs, seenOf, metBy, hasSeen, Noted, Listed, Holds}
+use Rattle.layout.specs.Fields.{useOf, noted, onField, fieldsFrom, fieldList, hasRequired, checked, fieldsTo}
+use Rattle.layout.specs.Arrays.{occurs, seenOf, metBy, hasSeen, Noted, Listed, Holds}
 use Rattle.layout.specs.declared.slots.Slots.{Slots}
 use Rattle.layout.specs.declared.fields.Use.{Use}
 

@@ -1,3 +1,4 @@
 pub mod RowLaws
 pub mod FieldsLaws
 pub mod ArrayLaws
+pub mod CountLaws

@@ -2,4 +2,5 @@ pub mod Table
 pub mod Row
 pub mod Slots
 pub mod Fields
+pub mod Arrays
 pub mod Numbers

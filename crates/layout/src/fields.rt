@@ -1,7 +1,8 @@
 // The one field-list reader, driven by a message's rows.
 ghost use mathlib.Core.Path.{_≡_};
 ghost use Rattle.layout.specs.Slots.{badSlots, noSlots};
-ghost use Rattle.layout.specs.Fields.{Holds, Listed, Noted, fieldList, fieldsTo, hasSeen, metBy, useOf};
+ghost use Rattle.layout.specs.Fields.{fieldList, fieldsTo, useOf};
+ghost use Rattle.layout.specs.Arrays.{Holds, Listed, Noted, hasSeen, metBy};
 use wire::field::Field;
 
 // What a message makes of a field: it is skipped, only counted (a repeated field, whose occurrences are

@@ -3,23 +3,30 @@ use Prim.Native.Nat.{ℕ, _+_}
 use mathlib.Core.Bool.{Bool, true, false, not, cond}
 use mathlib.Core.Path.{_≡_, refl, sym, ap, _∙_}
 use mathlib.Core.List.{List}
-use lib.ListN.{length, getD}
+use lib.ListN.{length, getD, take}
+use lib.Seq.{length-take-le}
 use lib.Dec.{eqb}
 use borrow.Author.Tests.{eq-eqb, ne-eqb}
 use Rattle.varint.proofs.PastLaws.{both}
 use Rattle.layout.specs.Row.{wireOf, rowFor}
-use Rattle.layout.specs.Table.{rowsOf, prepare, prepareStmt, execute, deallocate, open', openStmt}
-use Rattle.layout.specs.Fields.{fieldsAt, fieldsTo, Holds}
+use Rattle.layout.specs.Table.{rowsOf, prepare, prepareStmt, stmtExecute, execute, deallocate, open', openStmt}
+use Rattle.layout.specs.Fields.{useOf, fieldsAt, fieldsTo}
+use Rattle.layout.specs.Arrays.{Holds}
 use Rattle.layout.specs.declared.slots.Slots.{Slots}
+use Rattle.layout.specs.declared.fields.Use.{Use}
 use Rattle.layout.proofs.ArrayLaws.{holds-whole, held-good, held-value, held-start, held-seen, held-absent, held-present, bytes-long, bytes-long-to}
+use Rattle.layout.proofs.CountLaws.{good-list}
 use Rattle.args.specs.Part.{embedded, countOf, absent, valueOf, startOf, lenOf, low32}
 use Rattle.args.specs.Arguments.{noArguments}
 use Rattle.args.specs.declared.arguments.Arguments.{Arguments}
+use Rattle.args.proofs.NoneLaws.{no-arguments}
 use Rattle.message.specs.Message.{payload, message, noOptional, noPart, optionalBy, optionalOf, refused, sound, truthOf}
 use Rattle.message.specs.Simple.{deallocateIn, cursorIn}
-use Rattle.message.specs.Execute.{argumentsWithin, badExecute, executeOf, executeIn, openMade, openInside, openMessage}
-use Rattle.message.specs.Prepare.{chosen, bodyIn, prepareFrom, prepareChosen, prepareTyped, prepareInside, prepareMessage}
-use Rattle.message.proofs.MessageLaws.{sound-no, sound-yes, deallocate-good, cursor-good, execute-bad, execute-worse, execute-good, prepare-absent, prepare-there}
+use Rattle.message.specs.Execute.{argumentsWithin, badExecute, executeOf, executeIn, openMessage}
+use Rattle.message.specs.Inside.{openMade, openInside}
+use Rattle.message.specs.Prepare.{chosen, bodyIn, prepareFrom, prepareChosen, prepareTyped, prepareMessage}
+use Rattle.message.specs.Inside.{prepareInside}
+use Rattle.message.proofs.MessageLaws.{sound-no, sound-yes, within-there, deallocate-good, cursor-good, execute-bad, execute-worse, execute-good, prepare-absent, prepare-there}
 use Rattle.message.specs.declared.message.Optional.{Optional}
 use Rattle.message.specs.declared.message.Message.{Message}
 use Rattle.message.specs.declared.execute.Execute.{Execute}
@@ -29,6 +36,24 @@ optional-held : {x : Slots} {g : Bool} {v : List Bool} {w u : List ℕ} → Hold
     optionalBy (getD v k false) (getD w k 0) ≡ optionalOf x k
 optional-held {x} {g} {v} {w} {u} h k =
     ap (λ (b : Bool). optionalBy b (getD w k 0)) (held-seen h k) ∙ ap (optionalBy (not (eqb (countOf x k) 0))) (held-value h k)
+
+-- each args field is counted, so a message whose arrays show none has no arguments
+pub execute-counts : (v : ℕ) → Use.Counted ≡ useOf (rowsOf execute) 2 2 v
+unfolding rowsOf rowFor
+execute-counts v = refl
+
+pub stmt-counts : (v : ℕ) → Use.Counted ≡ useOf (rowsOf stmtExecute) 2 2 v
+unfolding rowsOf rowFor
+stmt-counts v = refl
+
+pub within-none : (rows : List (List ℕ)) → ((k : ℕ) → Use.Counted ≡ useOf rows 2 2 k) → (s : List ℕ) (at n : ℕ) {g : Bool} {v : List Bool}
+    {w u : List ℕ} → Holds (embedded rows s at n) g v w u → g ≡ true → getD v 2 false ≡ false → argumentsWithin s at n ≡ noArguments at (at + n)
+within-none rows counts s at n h e f =
+    let good = held-good h e in
+    let list = good-list rows s at (at + n) good in
+    sym (within-there s at n (list .0))
+    ∙ sym (no-arguments rows counts (take (at + n) s) at (rw (list .1) at good) (rw (list .1) at (held-absent h 2 f)))
+    ∙ ap (noArguments at) (length-take-le (at + n) s (list .0))
 
 module _ (s : List ℕ) {g : Bool} {v : List Bool} {w u : List ℕ} where
   pub deallocate-held : Holds (fieldsAt (rowsOf deallocate) s payload) g v w u → g ≡ true →

@@ -6,13 +6,13 @@ use mathlib.Core.Path.{_≡_, refl, sym, ap, _∙_}
 use mathlib.Core.List.{List, [], _∷_}
 use lib.ListN.{length, take, length-take}
 use lib.Dec.{leb, ltb, eqb}
-use borrow.Author.Tests.{leb-true, ltb-false, eq-eqb, ne-eqb}
+use borrow.Author.Tests.{ltb-false, eq-eqb, ne-eqb}
 use Rattle.varint.proofs.PastLaws.{both}
 use Rattle.scalar.specs.declared.argument.Argument.{Argument}
 use Rattle.layout.specs.Table.{rowsOf, prepare, prepareStmt, stmtExecute, execute, deallocate, open', openStmt, close, fetch}
 use Rattle.layout.specs.Fields.{fieldsAt}
-use Rattle.layout.specs.Slots.{badSlots}
 use Rattle.layout.specs.declared.slots.Slots.{Slots}
+use Rattle.layout.proofs.CountLaws.{good-list}
 use Rattle.args.specs.Part.{embedded, absent, valueOf, startOf, lenOf, low32}
 use Rattle.args.specs.Arguments.{anyTypeOf, noArguments, badArguments, withType, counted, together, argumentsIn, argumentsAt}
 use Rattle.args.specs.declared.part.Part.{Part}
@@ -66,12 +66,7 @@ within-end s at n =
 
 -- what is good lies within the bytes
 embedded-within : (rows : List (List ℕ)) (s : List ℕ) (at n : ℕ) → embedded rows s at n .good ≡ true → at + n ≤ length s
-embedded-within rows s at n = go (leb (at + n) (length s)) refl
-  where
-    go : (b : Bool) → leb (at + n) (length s) ≡ b → embedded rows s at n .good ≡ true → at + n ≤ length s
-    go true e h = leb-true (at + n) (length s) e
-    go false e h = absurd (let g : badSlots .good ≡ true = ap (λ (t : Bool). cond t (fieldsAt rows (take (at + n) s) at) badSlots .good) (sym e) ∙ h in
-        let z : _≡_ {A = ℕ} 0 1 = cc in omega arith)
+embedded-within rows s at n h = good-list rows s at (at + n) h .0
 
 execute-good-inv : (x : Slots) (a : Arguments) → executeOf x a .good ≡ true → (x .good ≡ true) × (executeOf x a .args ≡ a)
 execute-good-inv x a h = go (x .good) refl (a .good) refl

@@ -53,20 +53,6 @@ openOf s x y =
     sound s (x .good)
     (sound s (y .good) (sound s (not (absent y 2)) (openFrom s x y (executeIn s (startOf y 2) (lenOf y 2)))))
 
--- the same from the numbers that an Open's own fields give, with its statement in n bytes of s from the place `at` on
-abbrev pub openMade : List ℕ → ℕ → Optional → Part → Execute → Message
-openMade s id rows body e =
-    sound s (e .good) (message (length s) open' (e .stmt) (low32 id) rows (e .compact) 0 body (e .args))
-
-abbrev pub openChosen : List ℕ → ℕ → Optional → Slots → Message
-openChosen s id rows y =
-    sound s (y .good)
-    (sound s (not (absent y 2))
-    (openMade s id rows (record { start = startOf y 2; len = lenOf y 2 }) (executeIn s (startOf y 2) (lenOf y 2))))
-
-abbrev pub openInside : List ℕ → ℕ → Optional → ℕ → ℕ → Message
-openInside s id rows at n = openChosen s id rows (embedded (rowsOf openStmt) s at n)
-
 abbrev pub openWith : List ℕ → Slots → Message
 openWith s x = openOf s x (embedded (rowsOf openStmt) s (startOf x 4) (lenOf x 4))
 

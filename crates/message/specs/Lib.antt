@@ -5,3 +5,4 @@ pub mod Execute
 pub mod Prepare
 pub mod Frame
 pub mod Numbers
+pub mod Inside

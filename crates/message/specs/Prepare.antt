@@ -41,12 +41,6 @@ prepareTyped s id y t = prepareChosen s id y t (chosen t)
 abbrev pub prepareOf : List ℕ → Slots → Slots → Message
 prepareOf s x y = sound s (x .good) (sound s (y .good) (prepareTyped s (valueOf x 1) y (low32 (valueOf y 1))))
 
--- the same from the id, with the statement in n bytes of s from the place `at` on
-abbrev pub prepareInside : List ℕ → ℕ → ℕ → ℕ → Message
-prepareInside s id at n =
-    sound s (embedded (rowsOf prepareStmt) s at n .good)
-    (prepareTyped s id (embedded (rowsOf prepareStmt) s at n) (low32 (valueOf (embedded (rowsOf prepareStmt) s at n) 1)))
-
 abbrev pub prepareWith : List ℕ → Slots → Message
 prepareWith s x = prepareOf s x (embedded (rowsOf prepareStmt) s (startOf x 2) (lenOf x 2))
 

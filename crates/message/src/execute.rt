@@ -1,15 +1,10 @@
 // Execute, and Open with the Execute in it.
 ghost use mathlib.Core.Path.{_≡_};
-ghost use Rattle.message.specs.Execute.{
-  argumentsWithin,
-  badExecute,
-  executeFrom,
-  executeIn,
-  executeMessage,
-  openInside,
-  openMade,
-  openMessage,
-};
+ghost use mathlib.Core.Bool.{false};
+ghost use Prim.Native.Nat.{_+_};
+ghost use Rattle.args.specs.Arguments.{noArguments};
+ghost use Rattle.message.specs.Execute.{argumentsWithin, badExecute, executeFrom, executeIn, executeMessage, openMessage};
+ghost use Rattle.message.specs.Inside.{openInside, openMade};
 use crate::message::Message;
 use crate::message::Optional;
 use args::arguments::Arguments;
@@ -41,8 +36,10 @@ impl Execute {
     }
 }
 
-// The arguments in `n` bytes of s from `at` on.
-pub fn arguments_within(s: &[u8], at: usize, n: usize) -> Arguments
+// The arguments in `n` bytes of s from `at` on. `any` says whether the field list has some: where it has none, its bytes
+// are not gone over again.
+pub(crate) fn arguments_within(s: &[u8], at: usize, n: usize, any: bool) -> Arguments
+    requires { ⌜ (any ≡ false → argumentsWithin (now s) at n ≡ noArguments at (at + n)) ⌝ }
     ensures { λ r. ⌜ r ≡ argumentsWithin (now (s .entry)) at n ⌝ }
 {
     if s.len() < at {
@@ -52,6 +49,9 @@ pub fn arguments_within(s: &[u8], at: usize, n: usize) -> Arguments
         return Arguments::bad();
     }
     let end = at + n;
+    if !any {
+        return Arguments::none(at, end);
+    }
     args::arguments::read_arguments(&s[..end], at)
 }
 
@@ -59,14 +59,14 @@ pub fn arguments_within(s: &[u8], at: usize, n: usize) -> Arguments
 fn execute_in(s: &[u8], at: usize, n: usize) -> Execute
     ensures { λ r. ⌜ r ≡ executeIn (now (s .entry)) at n ⌝ }
 {
-    let rows = layout::table::EXECUTE_ROWS;
+    let rows = layout::rows::execute_rows();
     let mut seen = [false; 10];
     let mut values = [0; 10];
     let mut starts = [0; 10];
     if !fill_part(&rows, s, at, n, &mut seen, &mut values, &mut starts) {
         return Execute::bad();
     }
-    let args = arguments_within(s, at, n);
+    let args = arguments_within(s, at, n, seen[2]);
     if !args.good {
         return Execute::bad();
     }
@@ -125,7 +125,7 @@ fn open_from(s: &[u8], id: u64, rows: Optional, body: Part, e: Execute) -> Messa
 fn open_inside(s: &[u8], id: u64, asked: Optional, at: usize, n: usize) -> Message
     ensures { λ r. ⌜ r ≡ openInside (now (s .entry)) id asked at n ⌝ }
 {
-    let rows = layout::table::OPEN_STMT_ROWS;
+    let rows = layout::rows::open_stmt_rows();
     let mut seen = [false; 10];
     let mut values = [0; 10];
     let mut starts = [0; 10];
@@ -143,7 +143,7 @@ fn open_inside(s: &[u8], id: u64, asked: Optional, at: usize, n: usize) -> Messa
 pub fn read_open(s: &[u8]) -> Message
     ensures { λ r. ⌜ r ≡ openMessage (now (s .entry)) ⌝ }
 {
-    let rows = layout::table::OPEN_ROWS;
+    let rows = layout::rows::open_rows();
     let mut seen = [false; 10];
     let mut values = [0; 10];
     let mut starts = [0; 10];

@@ -1,9 +1,11 @@
 // Prepare, with the body that its type chooses.
 ghost use mathlib.Core.Path.{_≡_};
 ghost use Prim.Native.Nat.{_<_};
-ghost use Rattle.message.specs.Prepare.{bodyIn, chosen, prepareFrom, prepareInside, prepareMessage};
+ghost use Rattle.message.specs.Prepare.{bodyIn, chosen, prepareFrom, prepareMessage};
+ghost use Rattle.message.specs.Inside.{prepareInside};
 use crate::message::Message;
 use args::arguments::Arguments;
+use args::pair::Pair;
 use args::part::Part;
 use args::part::fill_part;
 use layout::fields::fill_fields;
@@ -31,7 +33,7 @@ pub fn chosen_field(t: u64) -> usize
 pub fn read_body(s: &[u8], t: u64, at: usize, n: usize) -> Arguments
     ensures { λ r. ⌜ r ≡ bodyIn (now (s .entry)) t at n ⌝ }
 {
-    let rows = layout::table::STMT_EXECUTE_ROWS;
+    let rows = layout::rows::stmt_execute_rows();
     let mut seen = [false; 10];
     let mut values = [0; 10];
     let mut starts = [0; 10];
@@ -39,7 +41,7 @@ pub fn read_body(s: &[u8], t: u64, at: usize, n: usize) -> Arguments
         if !fill_part(&rows, s, at, n, &mut seen, &mut values, &mut starts) {
             return Arguments::bad();
         }
-        return crate::execute::arguments_within(s, at, n);
+        return crate::execute::arguments_within(s, at, n, seen[2]);
     }
     if !fill_part(&rows[..0], s, at, n, &mut seen, &mut values, &mut starts) {
         return Arguments::bad();
@@ -65,7 +67,7 @@ fn prepare_from(s: &[u8], id: u64, t: u64, body: Part, b: Arguments) -> Message
 fn prepare_inside(s: &[u8], id: u64, at: usize, n: usize) -> Message
     ensures { λ r. ⌜ r ≡ prepareInside (now (s .entry)) id at n ⌝ }
 {
-    let rows = layout::table::PREPARE_STMT_ROWS;
+    let rows = layout::rows::prepare_stmt_rows();
     let mut seen = [false; 10];
     let mut values = [0; 10];
     let mut starts = [0; 10];
@@ -82,15 +84,37 @@ fn prepare_inside(s: &[u8], id: u64, at: usize, n: usize) -> Message
     prepare_from(s, id, t, Part { start, len }, read_body(s, t, start, len))
 }
 
+// A Prepare's statement of type 5, and the tag of the StmtExecute that it chooses, in one number.
+const CHOSEN_EXECUTE: u64 = 0x05_32;
+
+// The same as prepare_inside, with a short way for a statement of two fields, its type 5 and its body.
+fn quick_inside(s: &[u8], id: u64, at: usize, n: usize) -> Message
+    ensures { λ r. ⌜ r ≡ prepareInside (now (s .entry)) id at n ⌝ }
+{
+    let all = s.len();
+    if let Pair::Two {
+        first,
+        tag,
+        value,
+        start,
+    } = args::pair::read_pair(s, at, n) {
+        if first * 256 + tag == CHOSEN_EXECUTE {
+            let len = value as usize;
+            return prepare_from(s, id, 5, Part { start, len }, read_body(s, 5, start, len));
+        }
+    }
+    prepare_inside(&s[..all], id, at, n)
+}
+
 pub fn read_prepare(s: &[u8]) -> Message
     ensures { λ r. ⌜ r ≡ prepareMessage (now (s .entry)) ⌝ }
 {
-    let rows = layout::table::PREPARE_ROWS;
+    let rows = layout::rows::prepare_rows();
     let mut seen = [false; 10];
     let mut values = [0; 10];
     let mut starts = [0; 10];
     if !fill_fields(&rows, s, 5, s.len(), &mut seen, &mut values, &mut starts) {
         return Message::refused(6, s.len());
     }
-    prepare_inside(s, values[1], starts[2], values[2] as usize)
+    quick_inside(s, values[1], starts[2], values[2] as usize)
 }

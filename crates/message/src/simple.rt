@@ -10,7 +10,7 @@ use layout::fields::fill_fields;
 pub fn read_plain(s: &[u8], kind: u64) -> Message
     ensures { λ r. ⌜ r ≡ plainMessage (now (s .entry)) kind ⌝ }
 {
-    let rows = layout::table::CLOSE_ROWS;
+    let rows = layout::rows::close_rows();
     let mut seen = [false; 10];
     let mut values = [0; 10];
     let mut starts = [0; 10];
@@ -31,7 +31,7 @@ pub fn read_plain(s: &[u8], kind: u64) -> Message
 pub fn read_deallocate(s: &[u8]) -> Message
     ensures { λ r. ⌜ r ≡ deallocateMessage (now (s .entry)) ⌝ }
 {
-    let rows = layout::table::DEALLOCATE_ROWS;
+    let rows = layout::rows::deallocate_rows();
     let mut seen = [false; 10];
     let mut values = [0; 10];
     let mut starts = [0; 10];
@@ -63,13 +63,13 @@ fn cursor_message(rows: &[[u16; 6]], s: &[u8], kind: u64) -> Message
 pub fn read_close(s: &[u8]) -> Message
     ensures { λ r. ⌜ r ≡ closeMessage (now (s .entry)) ⌝ }
 {
-    let rows = layout::table::CLOSE_ROWS;
+    let rows = layout::rows::close_rows();
     cursor_message(&rows, s, 44)
 }
 
 pub fn read_fetch(s: &[u8]) -> Message
     ensures { λ r. ⌜ r ≡ fetchMessage (now (s .entry)) ⌝ }
 {
-    let rows = layout::table::FETCH_ROWS;
+    let rows = layout::rows::fetch_rows();
     cursor_message(&rows, s, 45)
 }

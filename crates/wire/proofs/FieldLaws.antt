@@ -41,13 +41,13 @@ pub quick-none : (s : List ℕ) (at : ℕ) → length s ≤ at → Field.Bad ≡
 quick-none s at h = sym (field-tagged s at Tag.Bad (ap tagOf (sym (varint-none s at h))))
 
 module _ (s : List ℕ) (at b : ℕ) (inside : at < length s) (is : b ≡ getD s at 0) (short : b < 128) where
-  one : Varint.Number b (at + 1) ≡ varintAt s at
-  one = rw is (varint-one s at inside (rw is at short))
+  pub one-byte : Varint.Number b (at + 1) ≡ varintAt s at
+  one-byte = rw is (varint-one s at inside (rw is at short))
 
   pub quick-low : b < 8 → Field.Bad ≡ fieldAt s at
-  quick-low h = sym (field-tagged s at Tag.Bad (sym (tag-low b (at + 1) (omega arith) h ∙ ap tagOf one)))
+  quick-low h = sym (field-tagged s at Tag.Bad (sym (tag-low b (at + 1) (omega arith) h ∙ ap tagOf one-byte)))
 
   pub quick-wire : (wire : ℕ) → 8 ≤ b → b % 8 ≡ wire → wire < 6 → fieldOf s (b / 8) wire (at + 1) ≡ fieldAt s at
   quick-wire wire h e w =
       ap (λ (k : ℕ). fieldOf s (b / 8) k (at + 1)) (sym e)
-      ∙ sym (field-tagged s at (Tag.Field (b / 8) (b % 8) (at + 1)) (sym (tag-good b (at + 1) (omega arith) h (omega arith) ∙ ap tagOf one)))
+      ∙ sym (field-tagged s at (Tag.Field (b / 8) (b % 8) (at + 1)) (sym (tag-good b (at + 1) (omega arith) h (omega arith) ∙ ap tagOf one-byte)))

@@ -1,5 +1,4 @@
 -- `args::value::read_bytes` meets its contract. Assumes nothing.
-use Rattle.layout.specs.Table.{rowsOf}
 use mathlib.Core.Path.{_∙_}
 use borrow.Author.Tests.{not-true, not-false}
 use Rattle.args.proofs.PartLaws.{yes, no as without}
@@ -9,29 +8,30 @@ use Rattle.args.proofs.value.read_bytes.Statement.{statement}
 use Rattle.args.proofs.value.read_bytes.Tie as tie
 
 returns : tie.Need-returns
-unfolding rowsOf
 returns c =
-    let a = c .before .before .before .before .before .before .before .args in
-    bytes-refused (a .s .now) (a .at) (a .n) (a .octets) (c .before .fill-part .ensures) (not-true _ (c .if1 .taken))
+    let r = c .before .before .before .before .before .before in
+    let a = r .before .before .args in
+    bytes-refused (a .s .now) (a .at) (a .n) (a .octets) (rw (r .bytes-rows .ensures) at (c .before .fill-part .ensures)) (not-true _ (c .if1 .taken))
 
 returns-2 : tie.Need-returns-2
-unfolding rowsOf
 returns-2 c =
-    let a = c .before .before .before .before .before .before .before .before .args in
+    let r = c .before .before .before .before .before .before .before in
+    let a = r .before .before .args in
     yes _ _ (c .if2 .taken)
-    ∙ bytes-held (a .s .now) (a .at) (a .n) (a .octets) (c .before .before .fill-part .ensures) (not-false _ (c .before .if1 .left))
+    ∙ bytes-held (a .s .now) (a .at) (a .n) (a .octets) (rw (r .bytes-rows .ensures) at (c .before .before .fill-part .ensures)) (not-false _ (c .before .if1 .left))
 
 returns-3 : tie.Need-returns-3
-unfolding rowsOf
 returns-3 c =
-    let a = c .before .before .before .before .before .before .before .before .args in
+    let r = c .before .before .before .before .before .before .before in
+    let a = r .before .before .args in
     without _ _ (c .if2 .left)
-    ∙ bytes-held (a .s .now) (a .at) (a .n) (a .octets) (c .before .before .fill-part .ensures) (not-false _ (c .before .if1 .left))
+    ∙ bytes-held (a .s .now) (a .at) (a .n) (a .octets) (rw (r .bytes-rows .ensures) at (c .before .before .fill-part .ensures)) (not-false _ (c .before .if1 .left))
 
 pub read-bytes-spec : {M : Type 1} → statement M
 read-bytes-spec =
     tie.close
     (tie.spec
+    (λ c κs. search needs)
     (λ c. search needs)
     (λ c κs. search needs)
     returns

@@ -2,33 +2,32 @@
 use mathlib.Core.Path.{ap, _∙_}
 use borrow.Author.Tests.{not-true, not-false}
 use Rattle.layout.specs.Table.{rowsOf, openStmt}
-use Rattle.layout.specs.Fields.{Holds}
+use Rattle.layout.specs.Arrays.{Holds}
 use Rattle.args.specs.Part.{embedded}
 use Rattle.message.proofs.ArrayLaws.{open-spoiled, open-without, open-held}
 use borrow.Author.Needs.{needs}
 use Rattle.message.proofs.execute.open_inside.Statement.{statement}
 use Rattle.message.proofs.execute.open_inside.Tie as tie
 
-held : (c : tie.After-fill-part) → let a = c .before .before .before .before .before .before .args in let l = c .fill-part in
+held : (c : tie.After-fill-part) → let a = c .before .before .before .before .before .before .before .args in let l = c .fill-part in
     Holds (embedded (rowsOf openStmt) (a .s .now) (a .at) (a .n)) (l .result) (l .last .1 .1 .1 .1 .0) (l .last .1 .1 .1 .1 .1 .0) (l .last .1 .1 .1 .1 .1 .1 .0)
-unfolding rowsOf
-held c = c .fill-part .ensures
+held c = rw (c .before .before .before .before .before .open-stmt-rows .ensures) at (c .fill-part .ensures)
 
 returns : tie.Need-returns
 returns c =
-    let a = c .before .before .before .before .before .before .before .before .args in
+    let a = c .before .before .before .before .before .before .before .before .before .args in
     c .refused .ensures
     ∙ open-spoiled (a .s .now) (a .id) (a .asked) (a .at) (a .n) (held (c .before .before)) (not-true _ (c .before .if1 .taken))
 
 returns-2 : tie.Need-returns-2
 returns-2 c =
-    let a = c .before .before .before .before .before .before .before .before .before .args in
+    let a = c .before .before .before .before .before .before .before .before .before .before .args in
     c .refused2 .ensures
     ∙ open-without (a .s .now) (a .id) (a .asked) (a .at) (a .n) (held (c .before .before .before)) (not-false _ (c .before .before .if1 .left)) (not-true _ (c .before .if2 .taken))
 
 returns-3 : tie.Need-returns-3
 returns-3 c =
-    let a = c .before .before .before .before .before .before .before .before .before .before .args in
+    let a = c .before .before .before .before .before .before .before .before .before .before .before .args in
     c .open-from .ensures
     ∙ open-held (a .s .now) (a .id) (a .asked) (a .at) (a .n) (held (c .before .before .before .before)) (not-false _ (c .before .before .before .if1 .left)) (not-false _ (c .before .before .if2 .left))
     (c .before .execute-in .result) (c .before .execute-in .ensures)
@@ -37,6 +36,7 @@ pub open-inside-spec : {M : Type 1} → statement M
 open-inside-spec =
     tie.close
     (tie.spec
+    (λ c κs. search needs)
     (λ c. search needs)
     (λ c κs. search needs)
     (λ c κs. search needs)

@@ -14,7 +14,7 @@ use Rattle.message.proofs.simple.read_plain.Tie as tie
 returns : tie.Need-returns
 unfolding plainMessage
 returns c =
-    let a = c .before .before .before .before .before .before .before .before .args in
+    let a = c .before .before .before .before .before .before .before .before .before .args in
     c .refused .ensures
     ∙ plain-bad (a .s .now) (fieldsAt [] (a .s .now) payload) (a .kind)
     (held-good (holds-whole [] (a .s .now) payload (c .before .before .fill-fields .ensures)) (not-true _ (c .before .if1 .taken)))
@@ -22,7 +22,7 @@ returns c =
 returns-2 : tie.Need-returns-2
 unfolding plainMessage
 returns-2 c =
-    let a = c .before .before .before .before .before .before .before .before .args in
+    let a = c .before .before .before .before .before .before .before .before .before .args in
     c .blank .ensures
     ∙ plain-good (a .s .now) (fieldsAt [] (a .s .now) payload) (a .kind)
     (held-good (holds-whole [] (a .s .now) payload (c .before .before .fill-fields .ensures)) (not-false _ (c .before .if1 .left)))
@@ -31,6 +31,7 @@ pub read-plain-spec : {M : Type 1} → statement M
 read-plain-spec =
     tie.close
     (tie.spec
+    (λ c κs. search needs)
     (λ c. search needs)
     (λ c. search needs)
     (λ c κs. search needs)

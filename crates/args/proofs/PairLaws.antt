@@ -1,0 +1,234 @@
+-- The short way for a message of two fields: its values of one byte, its steps, and what a message's rows make of a pair. Assumes
+-- nothing.
+use Prim.Native.Nat.{ℕ, _+_, _-_, _*_, _/_, _%_, _^_, _≤_, _<_}
+use native.Mathlib.Omega.{arith}
+use mathlib.Core.Bool.{Bool, true, false}
+use mathlib.Core.Path.{_≡_, refl, sym, ap, subst, _∙_}
+use mathlib.Core.List.{List}
+use lib.ListN.{length, take, getD}
+use lib.Dec.{ltb, leb, eqb}
+use borrow.Author.Tests.{ltb-true, ltb-false, leb-true, eqb-true, lt-ltb, le-ltb, lt-leb, le-leb, eq-eqb, ne-eqb}
+use Rattle.varint.proofs.PastLaws.{both}
+use Rattle.wire.specs.Value.{ofVarint, ofLength, valueAt}
+use Rattle.wire.specs.Field.{ofValue, fieldOf, fieldAt}
+use Rattle.wire.specs.declared.value.Value.{Value}
+use Rattle.wire.specs.declared.field.Field.{Field}
+use Rattle.wire.proofs.ValueLaws.{length-good, value-number, value-length, value-none}
+use Rattle.wire.proofs.FieldLaws.{field-value, one-byte, quick-wire}
+use Rattle.wire.proofs.LongLaws.{LongField, field-long}
+use Rattle.layout.specs.Slots.{noSlots}
+use Rattle.layout.specs.Fields.{useOf, noted, fieldList, checked}
+use Rattle.layout.specs.declared.slots.Slots.{Slots}
+use Rattle.layout.specs.declared.fields.Use.{Use}
+use Rattle.layout.proofs.FieldsLaws.{kept-slot, starts, goes-on, ends}
+use Rattle.args.specs.Part.{embedded}
+use Rattle.args.specs.Pair.{pairOf, pairAt, pairIn}
+use Rattle.args.specs.declared.pair.Pair.{Pair}
+use Rattle.args.proofs.PartLaws.{yes, no, part-within}
+
+-- ---- a number or a length of one byte
+
+module _ (s : List ℕ) (wire at v : ℕ) (inside : at < length s) (is : v ≡ getD s at 0) (short : v < 128) where
+  pub quick-number : wire ≡ 0 → Value.Good v at 1 (at + 1) ≡ valueAt s wire at
+  quick-number e =
+      let long : 1 ≡ at + 1 - at = omega arith in
+      ap (λ (k : ℕ). Value.Good v at k (at + 1)) long ∙ ap (ofVarint at) (one-byte s at v inside is short) ∙ value-number s wire at e
+
+  pub quick-length : wire ≡ 2 → v ≤ length s - (at + 1) → Value.Good v (at + 1) v (at + 1 + v) ≡ valueAt s wire at
+  quick-length e h =
+      length-good s v (at + 1) h
+      ∙ ap (ofLength s) (one-byte s at v inside is short)
+      ∙ value-length s wire at (λ z. omega arith) (λ z. omega arith) e
+
+-- ---- what a pair says of the bytes
+
+-- field 1 with the value `first` and the tag `tag`, in a byte each, and the value of that tag, up to the end of s
+pub record TwoFields (s : List ℕ) (at first tag value start : ℕ) : Type 0 where
+  pub len : ℕ
+  pub inside : at + 3 ≤ length s
+  pub one-is : getD s at 0 ≡ 8
+  pub first-is : first ≡ getD s (at + 1) 0
+  pub first-short : first < 128
+  pub tag-is : tag ≡ getD s (at + 2) 0
+  pub tag-short : tag < 128
+  pub value-is : Value.Good value start len (length s) ≡ valueAt s (tag % 8) (at + 3)
+
+abbrev Says : List ℕ → ℕ → Pair → Type 0
+Says s at (Pair.Two first tag value start) = TwoFields s at first tag value start
+Says s at Pair.Other = Unit {0}
+
+at-says : (s : List ℕ) (at : ℕ) → Says s at (pairAt s at)
+unfolding pairAt
+at-says s at =
+    both (Says s at) (ltb (length s) (at + 3)) _ _ (λ _. tt)
+    (λ l. both (Says s at) (eqb (getD s at 0) 8) _ _
+    (λ o. both (Says s at) (ltb (getD s (at + 1) 0) 128) _ _
+    (λ f. both (Says s at) (ltb (getD s (at + 2) 0) 128) _ _
+    (λ t. go (valueAt s (getD s (at + 2) 0 % 8) (at + 3)) refl (ltb-false (length s) (at + 3) l) (eqb-true (getD s at 0) 8 o) (ltb-true (getD s (at + 1) 0) 128 f) (ltb-true (getD s (at + 2) 0) 128 t))
+    (λ _. tt))
+    (λ _. tt))
+    (λ _. tt))
+  where
+    go : (v : Value) → v ≡ valueAt s (getD s (at + 2) 0 % 8) (at + 3) → at + 3 ≤ length s → getD s at 0 ≡ 8 → getD s (at + 1) 0 < 128 →
+        getD s (at + 2) 0 < 128 → Says s at (pairOf (getD s (at + 1) 0) (getD s (at + 2) 0) (length s) v)
+    go (Value.Good value start len next) e l o f t =
+        both (Says s at) (eqb next (length s)) (Pair.Two (getD s (at + 1) 0) (getD s (at + 2) 0) value start) Pair.Other
+        (λ q.
+        record {
+          len = len;
+          inside = l;
+          one-is = o;
+          first-is = refl;
+          first-short = f;
+          tag-is = refl;
+          tag-short = t;
+          value-is = ap (Value.Good value start len) (sym (eqb-true next (length s) q)) ∙ e;
+        })
+        (λ _. tt)
+    go Value.Bad e l o f t = tt
+
+abbrev SaysIn : List ℕ → ℕ → ℕ → Pair → Type 0
+SaysIn s at n (Pair.Two first tag value start) = (at + n ≤ length s) × TwoFields (take (at + n) s) at first tag value start
+SaysIn s at n Pair.Other = Unit {0}
+
+in-says : (s : List ℕ) (at n : ℕ) → SaysIn s at n (pairIn s at n)
+unfolding pairIn
+in-says s at n =
+    both (SaysIn s at n) (leb (at + n) (length s)) _ _
+    (λ h. go (pairAt (take (at + n) s) at) (leb-true (at + n) (length s) h) (at-says (take (at + n) s) at)) (λ _. tt)
+  where
+    go : (r : Pair) → at + n ≤ length s → Says (take (at + n) s) at r → SaysIn s at n r
+    go (Pair.Two first tag value start) h p = (h, p)
+    go Pair.Other h p = tt
+
+-- ---- the fields of a pair
+
+module _ {s : List ℕ} {at first tag value start : ℕ} (t : TwoFields s at first tag value start) where
+  field-one : fieldAt s at ≡ Field.Good 1 0 first (at + 1) 1 (at + 2)
+  field-one =
+      let next : at + 1 + 1 ≡ at + 2 = omega arith in
+      sym
+      (ap (λ (p : ℕ). Field.Good 1 0 first (at + 1) 1 p) (sym next)
+      ∙ ap (ofValue 1 0) (quick-number s 0 (at + 1) first (omega (arith, t .inside)) (t .first-is) (t .first-short) refl)
+      ∙ quick-wire s at 8 (omega (arith, t .inside)) (sym (t .one-is)) (omega arith) 0 (omega arith) refl (omega arith))
+
+  -- the wire type of a value is one of these
+  never : (tag % 8 ≡ 0 → ⊥) → (tag % 8 ≡ 1 → ⊥) → (tag % 8 ≡ 2 → ⊥) → (tag % 8 ≡ 5 → ⊥) → ⊥
+  never a b d f = let z : _≡_ {A = ℕ} 0 1 = cc (t .value-is, value-none s (tag % 8) (at + 3) a b d f) in omega arith
+
+  wire-low : tag % 8 < 6
+  wire-low = go (ltb (tag % 8) 6) refl
+    where
+      go : (b : Bool) → ltb (tag % 8) 6 ≡ b → tag % 8 < 6
+      go true e = ltb-true (tag % 8) 6 e
+      go false e =
+          let high = ltb-false (tag % 8) 6 e in absurd (never (λ h. omega arith) (λ h. omega arith) (λ h. omega arith) (λ h. omega arith))
+
+  field-two : 8 ≤ tag → fieldAt s (at + 2) ≡ Field.Good (tag / 8) (tag % 8) value start (t .len) (length s)
+  field-two h =
+      let next : at + 3 ≡ at + 2 + 1 = omega arith in
+      sym
+      (ap (ofValue (tag / 8) (tag % 8)) (t .value-is)
+      ∙ field-value s (tag / 8) (tag % 8) (at + 3) (λ e. never (λ h. omega arith) (λ h. omega arith) (λ h. omega arith) (λ h. omega arith))
+      ∙ ap (fieldOf s (tag / 8) (tag % 8)) next
+      ∙ quick-wire s (at + 2) tag (omega (arith, t .inside)) (t .tag-is) (t .tag-short) (tag % 8) h refl wire-low)
+
+  -- the value of a field with bytes is their length
+  two-long : 8 ≤ tag → tag % 8 ≡ 2 → value ≡ t .len
+  two-long h = go (field-long s (at + 2))
+    where
+      go : LongField (fieldAt s (at + 2)) → tag % 8 ≡ 2 → value ≡ t .len
+      go = rw (field-two h) (λ f. f)
+
+  two-listed : (rows : List (List ℕ)) (u v : Use) → 8 ≤ tag → u ≡ useOf rows 1 0 first → v ≡ useOf rows (tag / 8) (tag % 8) value →
+      noted v (noted u noSlots 1 first (at + 1) 1) (tag / 8) value start (t .len) ≡ fieldList rows s at
+  two-listed rows u v h e f =
+      ends (goes-on (goes-on (starts rows s at) (omega (arith, t .inside)) field-one u e) (omega (arith, t .inside)) (field-two h) v f)
+      (omega arith)
+
+-- ---- the steps of the short way
+
+module _ (first tag end : ℕ) {value start len next : ℕ} {read : Value} (e : read ≡ Value.Good value start len next) where
+  pub pair-ends : next ≡ end → Pair.Two first tag value start ≡ pairOf first tag end read
+  pair-ends h = yes (Pair.Two first tag value start) Pair.Other (eq-eqb next end h) ∙ ap (pairOf first tag end) (sym e)
+
+  pub pair-goes-on : (next ≡ end → ⊥) → Pair.Other ≡ pairOf first tag end read
+  pair-goes-on h = no (Pair.Two first tag value start) Pair.Other (ne-eqb next end h) ∙ ap (pairOf first tag end) (sym e)
+
+module _ (s : List ℕ) (at : ℕ) where
+  pub at-short : length s < at + 3 → Pair.Other ≡ pairAt s at
+  unfolding pairAt
+  at-short h = yes Pair.Other _ (lt-ltb (length s) (at + 3) h)
+
+  module _ (inside : at + 3 ≤ length s) where
+    pub at-other : (getD s at 0 ≡ 8 → ⊥) → Pair.Other ≡ pairAt s at
+    unfolding pairAt
+    at-other o = simp (le-ltb (length s) (at + 3) inside, ne-eqb (getD s at 0) 8 o)
+
+    module _ (o : getD s at 0 ≡ 8) (first : ℕ) (f : first ≡ getD s (at + 1) 0) where
+      pub at-long-first : 128 ≤ first → Pair.Other ≡ pairAt s at
+      unfolding pairAt
+      at-long-first h = simp (le-ltb (length s) (at + 3) inside, eq-eqb (getD s at 0) 8 o, le-ltb (getD s (at + 1) 0) 128 (omega arith))
+
+      module _ (h : first < 128) (tag : ℕ) (g : tag ≡ getD s (at + 2) 0) where
+        pub at-long-tag : 128 ≤ tag → Pair.Other ≡ pairAt s at
+        unfolding pairAt
+        at-long-tag k =
+            simp (
+              le-ltb (length s) (at + 3) inside,
+              eq-eqb (getD s at 0) 8 o,
+              lt-ltb (getD s (at + 1) 0) 128 (omega arith),
+              le-ltb (getD s (at + 2) 0) 128 (omega arith),
+            )
+
+        pub at-pair : tag < 128 → (read : Value) → read ≡ valueAt s (tag % 8) (at + 3) → pairOf first tag (length s) read ≡ pairAt s at
+        unfolding pairAt
+        at-pair k read v =
+            ap (pairOf first tag (length s)) v
+            ∙ ap (λ (y : ℕ). pairOf first y (length s) (valueAt s (y % 8) (at + 3))) g
+            ∙ ap (λ (x : ℕ). pairOf x (getD s (at + 2) 0) (length s) (valueAt s (getD s (at + 2) 0 % 8) (at + 3))) f
+            ∙ yes _ Pair.Other (lt-ltb (getD s (at + 2) 0) 128 (omega arith))
+            ∙ yes _ Pair.Other (lt-ltb (getD s (at + 1) 0) 128 (omega arith))
+            ∙ yes _ Pair.Other (eq-eqb (getD s at 0) 8 o)
+            ∙ no Pair.Other _ (le-ltb (length s) (at + 3) inside)
+
+module _ (s : List ℕ) (at n : ℕ) where
+  pub in-past : length s < at + n → Pair.Other ≡ pairIn s at n
+  unfolding pairIn
+  in-past h = no _ Pair.Other (lt-leb (at + n) (length s) h)
+
+  pub in-cut : at + n ≤ length s → pairAt (take (at + n) s) at ≡ pairIn s at n
+  unfolding pairIn
+  in-cut h = yes _ Pair.Other (le-leb (at + n) (length s) h)
+
+-- ---- what a message's rows make of a pair
+
+module _ (s : List ℕ) (at n : ℕ) {r : Pair} {first tag value start : ℕ} (e : r ≡ Pair.Two first tag value start) (p : r ≡ pairIn s at n) where
+  pub told : SaysIn s at n (Pair.Two first tag value start)
+  told = subst (SaysIn s at n) (sym p ∙ e) (in-says s at n)
+
+  pub named-short : first * 256 + tag < 2 ^ 16
+  named-short = omega (arith, told .1 .first-short, told .1 .tag-short)
+
+  -- the code asks for a type and a tag, both in one number; the rows keep both fields
+  module _ (rows : List (List ℕ)) (kind key : ℕ) (named : first * 256 + tag ≡ kind * 256 + key) (some : 8 ≤ key)
+      (kept-kind : Use.Kept ≡ useOf rows 1 0 kind) (kept-value : Use.Kept ≡ useOf rows (key / 8) (key % 8) value) where
+    -- what they hold then
+    abbrev pub slots : ℕ → Slots
+    slots len = checked rows (noted Use.Kept (noted Use.Kept noSlots 1 kind (at + 1) 1) (key / 8) value start len)
+
+    key-is : key ≡ tag
+    key-is = omega (arith, told .1 .tag-short, kept-slot rows (key / 8) (key % 8) value kept-value)
+
+    kind-is : kind ≡ first
+    kind-is = omega (arith, key-is)
+
+    pub pair-kept : slots (told .1 .len) ≡ embedded rows s at n
+    pair-kept =
+        rw (kind-is, key-is)
+        (ap (checked rows) (two-listed (told .1) rows Use.Kept Use.Kept (omega (arith, key-is)) (rw kind-is at kept-kind) (rw key-is at kept-value))
+        ∙ part-within rows s at n (told .0))
+
+    -- of a field with bytes the length is the value
+    pub pair-bytes : key % 8 ≡ 2 → slots value ≡ embedded rows s at n
+    pair-bytes h = ap slots (two-long (told .1) (omega (arith, key-is)) (rw key-is at h)) ∙ pair-kept

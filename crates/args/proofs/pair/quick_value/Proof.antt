@@ -1,0 +1,51 @@
+-- `args::pair::quick_value` meets its contract. Assumes nothing.
+use Prim.Native.Nat.{ℕ}
+use mathlib.Core.Path.{sym, ap, _∙_}
+use mathlib.Core.List.{List}
+use lib.ListN.{length}
+use lib.Seq.{take-length}
+use Rattle.wire.specs.Value.{valueAt}
+use Rattle.args.proofs.PairLaws.{quick-number, quick-length}
+use borrow.Author.Needs.{needs}
+use Rattle.args.proofs.pair.quick_value.Statement.{statement}
+use Rattle.args.proofs.pair.quick_value.Tie as tie
+
+returns : tie.Need-returns
+returns c =
+    let a = c .before .before .before .before .before .before .args in
+    let b = c .before .before .wide in
+    quick-number (a .s .now) (a .wire) (a .at) (b .result) (c .before .before .before .before .if1 .taken) (b .ensures) (c .before .if2 .taken)
+    (c .if3 .taken)
+
+returns-2 : tie.Need-returns-2
+returns-2 c =
+    let a = c .before .before .before .before .before .before .before .before .args in
+    let b = c .before .before .before .before .wide in
+    quick-length (a .s .now) (a .wire) (a .at) (b .result) (c .before .before .before .before .before .before .if1 .taken) (b .ensures)
+    (c .before .before .before .if2 .taken) (c .before .if4 .taken) (c .if5 .taken)
+
+slice-aggregate-read-value : tie.Need-slice-aggregate-read-value
+slice-aggregate-read-value c = let a = c .before .before .before .args in sym (ap length (take-length (a .s .now)))
+
+returns-3 : tie.Need-returns-3
+returns-3 c =
+    let a = c .before .before .before .before .args in
+    c .read-value .ensures ∙ ap (λ (l : List ℕ). valueAt l (a .wire) (a .at)) (take-length (a .s .now))
+
+pub quick-value-spec : {M : Type 1} → statement M
+quick-value-spec =
+    tie.close
+    (tie.spec
+    (λ c. search needs)
+    (λ c κs. search needs)
+    (λ c. search needs)
+    returns
+    (λ c. search needs)
+    (λ c. search needs)
+    (λ c. search needs)
+    (λ c. search needs)
+    (λ c. search needs)
+    returns-2
+    slice-aggregate-read-value
+    (λ c κs. search needs)
+    returns-3)

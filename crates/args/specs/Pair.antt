@@ -1,0 +1,31 @@
+-- The short way for a message of two fields: what it finds, by the bytes alone. What it does not find the long way reads.
+-- For private contracts; what is promised does not cite it.
+use Prim.Native.Nat.{ℕ, _+_, _%_}
+use mathlib.Core.Bool.{cond}
+use mathlib.Core.List.{List}
+use lib.ListN.{length, take, getD}
+use lib.Dec.{ltb, leb, eqb}
+use Rattle.wire.specs.Value.{valueAt}
+use Rattle.wire.specs.declared.value.Value.{Value}
+use Rattle.args.specs.declared.pair.Pair.{Pair}
+
+-- the value behind the two bytes must end where the message does
+abbrev pub pairOf : ℕ → ℕ → ℕ → Value → Pair
+pairOf first tag end (Value.Good value start len next) = cond (eqb next end) (Pair.Two first tag value start) Pair.Other
+pairOf first tag end Value.Bad = Pair.Other
+
+-- from the place `at` to the end of s: the tag of field 1 as a varint, its value, and a tag, in a byte each; then that tag's value
+unfoldable pub pairAt : List ℕ → ℕ → Pair
+pairAt s at =
+    cond (ltb (length s) (at + 3)) Pair.Other
+    (cond (eqb (getD s at 0) 8)
+    (cond (ltb (getD s (at + 1) 0) 128)
+    (cond (ltb (getD s (at + 2) 0) 128)
+    (pairOf (getD s (at + 1) 0) (getD s (at + 2) 0) (length s) (valueAt s (getD s (at + 2) 0 % 8) (at + 3)))
+    Pair.Other)
+    Pair.Other)
+    Pair.Other)
+
+-- in n bytes of s from the place `at` on
+unfoldable pub pairIn : List ℕ → ℕ → ℕ → Pair
+pairIn s at n = cond (leb (at + n) (length s)) (pairAt (take (at + n) s) at) Pair.Other

@@ -1,0 +1,125 @@
+// The short way for a message of two fields, as an Any with its scalar, a Scalar with its value and a Prepare's statement
+// mostly are. It is here for speed: it fills no arrays and looks up no rows. The rows decide all the same: a law says what
+// a message's rows make of two fields that fill it, and the callers answer by that law.
+ghost use mathlib.Core.Path.{_≡_};
+ghost use Rattle.wire.specs.Value.{valueAt};
+ghost use Rattle.args.specs.Pair.{pairAt, pairIn, pairOf};
+use wire::value::Value;
+
+// Two fields that fill the message: number 1, a varint of one byte with the value `first`; and one whose tag is the byte
+// `tag`, with its value and place. Other: no such pair, and the long way reads the message.
+pub enum Pair {
+    Two {
+        first: u64,
+        tag: u64,
+        value: u64,
+        start: usize,
+    },
+    Other,
+}
+
+// The tag of field 1 as a varint.
+const FIRST_TAG: u8 = 8;
+
+// A cast of a byte that asks nothing.
+fn wide(b: u8) -> u64
+    ensures { λ r. ⌜ r ≡ b ⌝ }
+{
+    b as u64
+}
+
+// A value, with a short way for a number or a length of one byte.
+fn quick_value(s: &[u8], wire: u64, at: usize) -> Value
+    ensures { λ r. ⌜ r ≡ valueAt (now (s .entry)) wire at ⌝ }
+{
+    let n = s.len();
+    if at < n {
+        let v = wide(s[at]);
+        if v < 128 {
+            if wire == 0 {
+                return Value::Good {
+                    number: v,
+                    start: at,
+                    len: 1,
+                    next: at + 1,
+                };
+            }
+            if wire == 2 {
+                let len = v as usize;
+                if len <= n - (at + 1) {
+                    return Value::Good {
+                        number: v,
+                        start: at + 1,
+                        len,
+                        next: at + 1 + len,
+                    };
+                }
+            }
+        }
+    }
+    wire::value::read_value(&s[..n], wire, at)
+}
+
+// The pair, if the second field's value ends where the message does.
+fn paired(first: u64, tag: u64, read: Value, end: usize) -> Pair
+    ensures { λ r. ⌜ r ≡ pairOf first tag end read ⌝ }
+{
+    match read {
+        Value::Good {
+            number,
+            start,
+            len: _,
+            next,
+        } => {
+            if next == end {
+                return Pair::Two {
+                    first,
+                    tag,
+                    value: number,
+                    start,
+                };
+            }
+            Pair::Other
+        }
+        Value::Bad => Pair::Other,
+    }
+}
+
+// The pair in the bytes from `at` to the end of s.
+fn pair_at(s: &[u8], at: usize) -> Pair
+    ensures { λ r. ⌜ r ≡ pairAt (now (s .entry)) at ⌝ }
+{
+    let end = s.len();
+    if end < at {
+        return Pair::Other;
+    }
+    if end - at < 3 {
+        return Pair::Other;
+    }
+    if s[at] != FIRST_TAG {
+        return Pair::Other;
+    }
+    let first = wide(s[at + 1]);
+    if 128 <= first {
+        return Pair::Other;
+    }
+    let tag = wide(s[at + 2]);
+    if 128 <= tag {
+        return Pair::Other;
+    }
+    paired(first, tag, quick_value(s, tag % 8, at + 3), end)
+}
+
+// The pair in `n` bytes of s from `at` on.
+pub fn read_pair(s: &[u8], at: usize, n: usize) -> Pair
+    ensures { λ r. ⌜ r ≡ pairIn (now (s .entry)) at n ⌝ }
+{
+    if s.len() < at {
+        return Pair::Other;
+    }
+    if s.len() - at < n {
+        return Pair::Other;
+    }
+    let end = at + n;
+    pair_at(&s[..end], at)
+}

@@ -1,0 +1,12 @@
+-- `layout::rows::close_rows` meets its contract. Assumes nothing.
+use mathlib.Core.Path.{refl}
+use Rattle.layout.specs.Table.{rowsOf}
+use Rattle.layout.proofs.rows.close_rows.Statement.{statement}
+use Rattle.layout.proofs.rows.close_rows.Tie as tie
+
+returns : tie.Need-returns
+unfolding rowsOf
+returns c = refl
+
+pub close-rows-spec : {M : Type 1} → statement M
+close-rows-spec = tie.close (tie.spec returns)

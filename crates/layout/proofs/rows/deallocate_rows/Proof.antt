@@ -1,0 +1,12 @@
+-- `layout::rows::deallocate_rows` meets its contract. Assumes nothing.
+use mathlib.Core.Path.{refl}
+use Rattle.layout.specs.Table.{rowsOf}
+use Rattle.layout.proofs.rows.deallocate_rows.Statement.{statement}
+use Rattle.layout.proofs.rows.deallocate_rows.Tie as tie
+
+returns : tie.Need-returns
+unfolding rowsOf
+returns c = refl
+
+pub deallocate-rows-spec : {M : Type 1} → statement M
+deallocate-rows-spec = tie.close (tie.spec returns)

@@ -1,0 +1,12 @@
+-- `layout::rows::fetch_rows` meets its contract. Assumes nothing.
+use mathlib.Core.Path.{refl}
+use Rattle.layout.specs.Table.{rowsOf}
+use Rattle.layout.proofs.rows.fetch_rows.Statement.{statement}
+use Rattle.layout.proofs.rows.fetch_rows.Tie as tie
+
+returns : tie.Need-returns
+unfolding rowsOf
+returns c = refl
+
+pub fetch-rows-spec : {M : Type 1} → statement M
+fetch-rows-spec = tie.close (tie.spec returns)

@@ -1,0 +1,60 @@
+-- `message::prepare::quick_inside` meets its contract. Assumes nothing.
+use Prim.Native.Nat.{ℕ}
+use native.Mathlib.Omega.{arith}
+use mathlib.Core.Path.{refl, sym, ap, _∙_}
+use mathlib.Core.List.{List}
+use lib.ListN.{length}
+use lib.Seq.{take-length}
+use Rattle.layout.specs.Table.{rowsOf, prepareStmt}
+use Rattle.layout.specs.Row.{rowFor}
+use Rattle.layout.specs.Fields.{hasRequired}
+use Rattle.args.proofs.PairLaws.{named-short, pair-bytes}
+use Rattle.message.specs.Prepare.{prepareFrom}
+use Rattle.message.specs.Inside.{prepareRead, prepareInside}
+use borrow.Author.Needs.{needs}
+use Rattle.message.proofs.prepare.quick_inside.Statement.{statement}
+use Rattle.message.proofs.prepare.quick_inside.Tie as tie
+
+mul-if1 : tie.Need-mul-if1
+mul-if1 c =
+    let a = c .before .before .before .before .before .args in
+    omega (arith, named-short (a .s .now) (a .at) (a .n) (c .before .first .given .1) (c .before .before .before .read-pair .ensures))
+
+add-if1 : tie.Need-add-if1
+add-if1 c =
+    let a = c .before .before .before .before .before .args in
+    omega (arith, named-short (a .s .now) (a .at) (a .n) (c .before .first .given .1) (c .before .before .before .read-pair .ensures))
+
+returns : tie.Need-returns
+unfolding rowsOf rowFor hasRequired
+returns c =
+    let a = c .before .before .before .before .before .before .before .before .args in
+    let f = c .before .before .before .before .first .given in
+    c .prepare-from .ensures
+    ∙ ap (prepareFrom (a .s .now) (a .id) 5 (record { start = f .0 .1 .1 .1 .0; len = f .0 .1 .1 .0 })) (c .before .read-body .ensures)
+    ∙ ap (prepareRead (a .s .now) (a .id))
+    (pair-bytes (a .s .now) (a .at) (a .n) (f .1) (c .before .before .before .before .before .before .read-pair .ensures) (rowsOf prepareStmt) 5 50 (c .before .before .if1 .taken) (omega arith) refl refl refl)
+
+slice-aggregate-prepare-inside : tie.Need-slice-aggregate-prepare-inside
+slice-aggregate-prepare-inside c = let a = c .before .before .before .before .args in sym (ap length (take-length (a .s .now)))
+
+returns-2 : tie.Need-returns-2
+returns-2 c =
+    let a = c .before .before .before .before .before .args in
+    c .prepare-inside .ensures ∙ ap (λ (l : List ℕ). prepareInside l (a .id) (a .at) (a .n)) (take-length (a .s .now))
+
+pub quick-inside-spec : {M : Type 1} → statement M
+quick-inside-spec =
+    tie.close
+    (tie.spec
+    (λ c κs. search needs)
+    (λ c. search needs)
+    mul-if1
+    add-if1
+    (λ c κs. search needs)
+    (λ c κs. search needs)
+    returns
+    (λ c. search needs)
+    slice-aggregate-prepare-inside
+    (λ c κs. search needs)
+    returns-2)
