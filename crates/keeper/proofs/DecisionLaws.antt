@@ -10,7 +10,10 @@ use Rattle.varint.proofs.PastLaws.{both}
 use Rattle.args.proofs.PartLaws.{yes, no as without}
 use Rattle.message.specs.declared.message.Message.{Message}
 use Rattle.session.specs.declared.Session.{Session}
+use Rattle.session.specs.declared.Place.{Place}
 use Rattle.session.specs.declared.Cursor.{Cursor}
+use Rattle.layout.specs.Table.{execute, open', fetch}
+use Rattle.rules.specs.Kind.{isA, oneOf}
 use Rattle.session.specs.Tables as Tables
 use Rattle.reply.specs.declared.Reply.{Reply}
 use Rattle.reply.specs.Reply.{codeOf, replyBytes}
@@ -24,15 +27,15 @@ use Rattle.rules.specs.Read.{Read}
 use Rattle.rules.proofs.RefusalLaws.{code-small, passed}
 use Rattle.rules.proofs.StepLaws.{wire-small, named-small}
 use Rattle.keeper.specs.declared.decision.Verdict.{Verdict}
-use Rattle.keeper.specs.Rows.{markFrom}
+use Rattle.keeper.specs.Rows.{Names, markFrom}
 use Rattle.keeper.specs.Verdict.{verdict, refusedWith, decidedOn, Accepts, Sends, Decides}
 
 -- ---- the session after it
 
 module _ (s : Session) (m : Message) (r : Report) where
-  pub after-prepare : m .kind ≡ 40 → Tables.prepared s (m .stmt) (r .a) ≡ sessionAfter s m r
+  pub after-prepare : (p : Place) → p ≡ Tables.stmtPlace s (m .stmt) → m .kind ≡ 40 → Tables.preparedAt s p (m .stmt) (r .a) ≡ sessionAfter s m r
   unfolding sessionAfter
-  after-prepare k = sym (rw k)
+  after-prepare p e k = ap (λ (q : Place). Tables.preparedAt s q (m .stmt) (r .a)) e ∙ sym (rw k)
 
   pub after-execute : m .kind ≡ 41 → Tables.endedOn s (m .stmt) ≡ sessionAfter s m r
   unfolding sessionAfter
@@ -42,9 +45,13 @@ module _ (s : Session) (m : Message) (r : Report) where
   unfolding sessionAfter
   after-deallocate k = sym (rw k)
 
-  pub after-open : (count : ℕ) → count ≡ rowCount s m r → m .kind ≡ 43 → Tables.opened s (m .cursor) (m .stmt) (r .b) count ≡ sessionAfter s m r
+  pub after-open : (p : Place) → p ≡ Tables.cursorPlace s (m .cursor) → (count : ℕ) → count ≡ rowCount s m r → m .kind ≡ 43 →
+      Tables.openedAt s p (m .cursor) (m .stmt) (r .b) count ≡ sessionAfter s m r
   unfolding sessionAfter
-  after-open count e k = ap (Tables.opened s (m .cursor) (m .stmt) (r .b)) e ∙ sym (rw k)
+  after-open p f count e k =
+      ap (λ (q : Place). Tables.openedAt s q (m .cursor) (m .stmt) (r .b) count) f
+      ∙ ap (Tables.opened s (m .cursor) (m .stmt) (r .b)) e
+      ∙ sym (rw k)
 
   pub after-fetch : (count : ℕ) → count ≡ rowCount s m r → m .kind ≡ 45 → Tables.fetched s (m .cursor) count ≡ sessionAfter s m r
   unfolding sessionAfter
@@ -166,9 +173,18 @@ module _ (s : Session) (m : Message) (r : Report) where
   accepting columns first count back =
       record { reason = 0; columns = columns; first = first; count = count; reply = back }
 
-  pub mark-is : (columns done : Bool) → columns ≡ sendsColumns m r → done ≡ noneRemain s m r → markFrom m columns done ≡ markOf s m r
+  -- the mark depends on the rows that remain of an Open and of a Fetch alone
+  pub mark-is : (columns done : Bool) → columns ≡ sendsColumns m r → (oneOf open' fetch m ≡ true → done ≡ noneRemain s m r) →
+      markFrom m columns done ≡ markOf s m r
   unfolding markOf
-  mark-is columns done c d = ap (λ (x : Bool). markFrom m x done) c ∙ ap (markFrom m (sendsColumns m r)) d
+  mark-is columns done c d = ap (λ (x : Bool). markFrom m x done) c ∙ go (oneOf open' fetch m) d
+    where
+      by : Bool → Bool → ℕ
+      by ends rest = cond (isA execute m) (cond (sendsColumns m r) 3 4) (cond ends (cond rest 3 2) 1)
+
+      go : (b : Bool) → (b ≡ true → done ≡ noneRemain s m r) → by b done ≡ by b (noneRemain s m r)
+      go true h = ap (by true) (h refl)
+      go false h = refl
 
   pub accepts : (columns : Bool) (first count : ℕ) (back : Reply) → columns ≡ sendsColumns m r → first ≡ firstRow s m →
       count ≡ rowCount s m r → back ≡ reply (markOf s m r) → accepting columns first count back ≡ verdict (accepted s m r)
@@ -235,7 +251,7 @@ module _ (s : Session) (m : Message) (r : Report) where
             sends = refuses n (refusedReply m r n) h f;
           }
 
-      pub decides-accepted : n ≡ 0 → (c : Cursor) → c ≡ Tables.liveCursor s (m .cursor) → Accepts c m r v → Decides short s m r v
+      pub decides-accepted : n ≡ 0 → (c : Cursor) → Names s m c → Accepts c m r v → Decides short s m r v
       decides-accepted h c g a =
           record {
             says = decides (accepted s m r) (a .says s g) (accepted-is n e h);

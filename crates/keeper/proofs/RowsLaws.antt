@@ -6,18 +6,18 @@ use mathlib.Core.Path.{_≡_, sym, ap, _∙_}
 use lib.Dec.{eqb, leb}
 use borrow.Author.Tests.{eq-eqb, ne-eqb, eqb-true, leb-true}
 use Rattle.args.proofs.PartLaws.{yes, no as without}
-use Rattle.layout.specs.Table.{fetch}
+use Rattle.layout.specs.Table.{open', fetch}
 use Rattle.message.specs.declared.message.Message.{Message}
 use Rattle.session.specs.declared.Session.{Session}
 use Rattle.session.specs.declared.Cursor.{Cursor}
 use Rattle.session.specs.Tables.{liveCursor}
 use Rattle.session.proofs.SumLaws.{and-true}
 use Rattle.rules.specs.declared.Report.{Report}
-use Rattle.rules.specs.Kind.{isA, wanted, within, suits}
+use Rattle.rules.specs.Kind.{isA, oneOf, wanted, within, suits}
 use Rattle.rules.specs.Refusal.{reportReason}
 use Rattle.rules.specs.Rows.{rowsAsked, sentSoFar, fetchCount, firstRow, rowCount, sendsColumns, rowsOf, noneRemain}
 use Rattle.rules.proofs.RefusalLaws.{suited}
-use Rattle.keeper.specs.Rows.{Finding, Rows, markFrom}
+use Rattle.keeper.specs.Rows.{Names, Finding, Rows, fetchedFrom, markFrom}
 
 -- ---- the numbers of a report that is not refused
 
@@ -57,30 +57,25 @@ module _ (c : Cursor) (m : Message) where
   first-fetch k h =
       record {
         small = h;
-        says = λ s e. ap (λ (x : Cursor). x .sent) e ∙ yes (sentSoFar s m) 0 (eq-eqb (m .kind) 45 k);
+        says = λ s e. ap (λ (x : Cursor). x .sent) (e (omega (arith, k))) ∙ yes (sentSoFar s m) 0 (eq-eqb (m .kind) 45 k);
       }
 
   pub first-none : (m .kind ≡ 45 → ⊥) → Rows c m (λ s. firstRow s m) 0
   unfolding firstRow
   first-none k = record { small = omega arith; says = λ s e. without (sentSoFar s m) 0 (ne-eqb (m .kind) 45 k) }
 
-  abbrev fetching : ℕ → ℕ
-  fetching left = min (rowsAsked m left) left
-
   pub fetch-rows : (left asked n : ℕ) → left ≡ c .rows - c .sent → left < 2 ^ 32 → asked ≡ rowsAsked m left → n ≡ min asked left →
-      Rows c m (λ s. fetchCount s m) n
+      (n ≡ fetchedFrom c m) × (n < 2 ^ 32)
   fetch-rows left asked n el h ea en =
-      record {
-        small = omega arith;
-        says =
-            λ s e. en ∙ ap (λ (x : ℕ). min x left) ea ∙ ap fetching el ∙ ap (λ (x : Cursor). fetching (x .rows - x .sent)) e;
-      }
+      (en ∙ ap (λ (x : ℕ). min x left) ea ∙ ap (λ (x : ℕ). min (rowsAsked m x) x) el, omega arith)
 
-  rows-by : (f g : Session → ℕ) (n : ℕ) → ((s : Session) → f s ≡ g s) → Rows c m f n → Rows c m g n
-  rows-by f g n h x = record { small = x .small; says = λ s e. x .says s e ∙ h s }
+  module _ (k : m .kind ≡ 45) (n : ℕ) (e : (n ≡ fetchedFrom c m) × (n < 2 ^ 32)) where
+    -- of every session in which the message names the cursor
+    pub fetch-of : (value : Session → ℕ) → ((s : Session) → fetchCount s m ≡ value s) → Rows c m value n
+    fetch-of value h = record { small = e .1; says = λ s f. e .0 ∙ ap (λ (x : Cursor). fetchedFrom x m) (f (omega (arith, k))) ∙ h s }
 
-  pub look-fetch : (n : ℕ) → m .kind ≡ 45 → Rows c m (λ s. fetchCount s m) n → Rows c m (λ s. cond (isA fetch m) (fetchCount s m) 0) n
-  look-fetch n k = rows-by _ _ n (λ s. yes (fetchCount s m) 0 (eq-eqb (m .kind) 45 k))
+    pub look-fetch : Rows c m (λ s. cond (isA fetch m) (fetchCount s m) 0) n
+    look-fetch = fetch-of _ (λ s. yes (fetchCount s m) 0 (eq-eqb (m .kind) 45 k))
 
   pub look-none : (m .kind ≡ 45 → ⊥) → Rows c m (λ s. cond (isA fetch m) (fetchCount s m) 0) 0
   look-none k = record { small = omega arith; says = λ s e. without (fetchCount s m) 0 (ne-eqb (m .kind) 45 k) }
@@ -101,9 +96,9 @@ module _ (c : Cursor) (m : Message) (r : Report) where
         says = λ s _. en ∙ ap (λ (x : ℕ). min x (r .b)) ea ∙ sym (rw k);
       }
 
-  pub count-fetch : (n : ℕ) → m .kind ≡ 45 → Rows c m (λ s. fetchCount s m) n → Rows c m (λ s. rowCount s m r) n
+  pub count-fetch : m .kind ≡ 45 → (n : ℕ) → (n ≡ fetchedFrom c m) × (n < 2 ^ 32) → Rows c m (λ s. rowCount s m r) n
   unfolding rowCount
-  count-fetch n k = rows-by c m _ _ n (λ s. sym (rw k))
+  count-fetch k n e = fetch-of c m k n e (λ s. rowCount s m r) (λ s. sym (rw k))
 
   pub count-none : (m .kind ≡ 41 → ⊥) → (m .kind ≡ 43 → ⊥) → (m .kind ≡ 45 → ⊥) → Rows c m (λ s. rowCount s m r) 0
   unfolding rowCount
@@ -115,20 +110,24 @@ module _ (c : Cursor) (m : Message) (r : Report) where
 
   -- whether rows remain
   module _ (first count : ℕ) (f : Rows c m (λ s. firstRow s m) first) (n : Rows c m (λ s. rowCount s m r) count) where
-    remain-by : (rows : ℕ) (s : Session) → c ≡ liveCursor s (m .cursor) → rows ≡ rowsOf s m r →
-        eqb (first + count) rows ≡ noneRemain s m r
+    remain-by : (rows : ℕ) (s : Session) → Names s m c → rows ≡ rowsOf s m r → eqb (first + count) rows ≡ noneRemain s m r
     remain-by rows s e h =
         ap (λ (x : ℕ). eqb (x + count) rows) (f .says s e)
         ∙ ap (λ (x : ℕ). eqb (firstRow s m + x) rows) (n .says s e)
         ∙ ap (eqb (firstRow s m + rowCount s m r)) h
 
-    pub remain-open : m .kind ≡ 43 → Finding c m (λ s. eqb (first + count) (r .b) ≡ noneRemain s m r)
-    remain-open k s e = remain-by (r .b) s e (yes (r .b) (liveCursor s (m .cursor) .rows) (eq-eqb (m .kind) 43 k))
+    abbrev Remain : Bool → Type 0
+    Remain done = Finding c m (λ s. oneOf open' fetch m ≡ true → done ≡ noneRemain s m r)
 
-    pub remain-fetch : (m .kind ≡ 43 → ⊥) → Finding c m (λ s. eqb (first + count) (c .rows) ≡ noneRemain s m r)
-    remain-fetch k s e =
+    pub remain-open : m .kind ≡ 43 → Remain (eqb (first + count) (r .b))
+    remain-open k s e _ = remain-by (r .b) s e (yes (r .b) (liveCursor s (m .cursor) .rows) (eq-eqb (m .kind) 43 k))
+
+    pub remain-fetch : (m .kind ≡ 43 → ⊥) → Remain (eqb (first + count) (c .rows))
+    remain-fetch k s e o =
+        let not-open = ne-eqb (m .kind) 43 k in
+        let fetching : m .kind ≡ 45 = eqb-true (m .kind) 45 (sym (ap (λ (b : Bool). b || eqb (m .kind) 45) not-open) ∙ o) in
         remain-by (c .rows) s e
-        (ap (λ (x : Cursor). x .rows) e ∙ without (r .b) (liveCursor s (m .cursor) .rows) (ne-eqb (m .kind) 43 k))
+        (ap (λ (x : Cursor). x .rows) (e (omega (arith, fetching))) ∙ without (r .b) (liveCursor s (m .cursor) .rows) not-open)
 
 -- ---- columns
 

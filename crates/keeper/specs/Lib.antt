@@ -1,3 +1,4 @@
 pub mod Reason
 pub mod Rows
 pub mod Verdict
+pub mod Takes

@@ -1,4 +1,5 @@
--- The refusals of a look, taken apart: those that a message of each kind can meet.
+-- The refusals of a look, taken apart: those that a message of each kind can meet. For private contracts; what is promised
+-- (crate rules, `lookAt` and `stepOf`) does not cite it.
 use Prim.Native.Nat.{ℕ}
 use mathlib.Core.Bool.{Bool, cond, not, _&&_}
 use mathlib.Core.List.{List, [], _∷_}

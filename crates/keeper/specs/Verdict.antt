@@ -1,4 +1,4 @@
--- What a step decides, but for the session after it.
+-- What a step decides, but for the session after it. For private contracts; what is promised does not cite it.
 use Prim.Native.Nat.{ℕ, _^_, _<_}
 use mathlib.Core.Bool.{Bool, false, cond}
 use mathlib.Core.Path.{_≡_}

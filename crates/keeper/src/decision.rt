@@ -5,6 +5,7 @@ ghost use lib.Dec.{eqb};
 ghost use Rattle.rules.specs.Decision.{named, refusedReply, reply, sessionAfter, wireCode};
 ghost use Rattle.rules.specs.Read.{Read};
 ghost use Rattle.rules.specs.Refusal.{reportReason};
+ghost use Rattle.keeper.specs.Takes.{Takes};
 ghost use Rattle.keeper.specs.Verdict.{Accepts, Decides, Sends, refusedWith};
 use crate::refusal;
 use crate::rows;
@@ -12,6 +13,7 @@ use message::message::Message;
 use reply::Reply;
 use rules::Report;
 use session::Cursor;
+use session::Place;
 use session::Session;
 use session::Which;
 
@@ -32,10 +34,18 @@ fn accepted_kind(m: Message, reason: u64) -> u64
     if reason == 0 { m.kind } else { 0 }
 }
 
-// The session after a message that is refused, or accepted and sends `count` rows.
-pub(crate) fn session_after(session: Session, m: Message, report: Report, d: Verdict) -> Session
+// The session after a message that is refused, or accepted and sends `count` rows. `place` is what its entry takes. The
+// arms stand in this order, Close last, since the compiler then spares all others a copy of the session.
+pub(crate) fn session_after(
+    session: Session,
+    m: Message,
+    report: Report,
+    d: Verdict,
+    place: Place,
+) -> Session
     requires { ⌜ Read m ⌝ }
     requires { ⌜ Sends session m report d ⌝ }
+    requires { ⌜ Takes session m place ⌝ }
     ensures { λ r. ⌜ r ≡ cond (eqb (d .reason) 0) (sessionAfter session m report) session ⌝ }
 {
     let count = d.count;
@@ -43,11 +53,11 @@ pub(crate) fn session_after(session: Session, m: Message, report: Report, d: Ver
     let stmt = m.stmt as u32;
     let cursor = m.cursor as u32;
     match kind {
-        40 => session.prepare(stmt, report.a as u32),
+        45 => session.fetch(cursor, count as u32),
+        43 => session.open(place, cursor, stmt, report.b as u32, count as u32),
+        40 => session.prepare(place, stmt, report.a as u32),
         41 => session.end(Which::On(stmt)),
         42 => session.free(stmt),
-        43 => session.open(cursor, stmt, report.b as u32, count as u32),
-        45 => session.fetch(cursor, count as u32),
         44 => session.end(Which::Id(cursor)),
         6 => session.reset(false),
         7 => session.reset(true),
@@ -137,13 +147,20 @@ fn accept(m: Message, report: Report, cursor: Cursor) -> Verdict
     }
 }
 
-// `short` says that the reply buffer is below its smallest size.
-pub(crate) fn decide(session: Session, m: Message, report: Report, short: bool) -> Verdict
+// `short` says that the reply buffer is below its smallest size; `place` is what the message's entry takes.
+pub(crate) fn decide(
+    session: Session,
+    m: Message,
+    report: Report,
+    short: bool,
+    place: Place,
+) -> Verdict
     requires { ⌜ Read m ⌝ }
+    requires { ⌜ Takes session m place ⌝ }
     ensures { λ r. ⌜ Decides short session m report r ⌝ }
 {
-    let cursor = session.live_cursor(m.cursor as u32);
-    let looked = refusal::look_reason(session, m, cursor);
+    let cursor = refusal::named_cursor(session, m);
+    let looked = refusal::look_reason(session, m, cursor, place);
     if short {
         return refuse(m, report, 3);
     }

@@ -19,8 +19,9 @@ pub fn look(session: Session, frame: &[u8]) -> Look
     ensures { λ r. ⌜ r ≡ lookAt session (now (frame .entry)) ⌝ }
 {
     let m = message::frame::read_message(frame);
-    let cursor = session.live_cursor(m.cursor as u32);
-    let reason = refusal::look_reason(session, m, cursor);
+    let cursor = refusal::named_cursor(session, m);
+    let place = refusal::new_place(session, m);
+    let reason = refusal::look_reason(session, m, cursor, place);
     if reason != 0 {
         return Look {
             reason,
@@ -54,8 +55,9 @@ pub fn step(session: Session, frame: &[u8], report: Report, reply: &mut [u8]) ->
 {
     let short = reply.len() < rules::MIN_BUFFER;
     let m = message::frame::read_message(frame);
-    let d = decision::decide(session, m, report, short);
-    let after = decision::session_after(session, m, report, d);
+    let place = refusal::new_place(session, m);
+    let d = decision::decide(session, m, report, short, place);
+    let after = decision::session_after(session, m, report, d, place);
     let used = decision::used_bytes(m, short);
     let bytes = d.reply;
     let n = place_behind(reply::write_reply(reply, bytes));

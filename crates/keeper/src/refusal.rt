@@ -2,10 +2,12 @@
 ghost use mathlib.Core.Path.{_≡_};
 ghost use mathlib.Core.Bool.{cond, not, _&&_, _||_};
 ghost use lib.Dec.{eqb, leb};
-ghost use Rattle.session.specs.Tables.{liveCursor};
+ghost use Rattle.session.specs.Tables.{cursorPlace};
 ghost use Rattle.rules.specs.Kind.{fails, suits, wanted, within, workOf};
 ghost use Rattle.rules.specs.Read.{Read};
 ghost use Rattle.rules.specs.Refusal.{lookReason, noPlace, reportReason};
+ghost use Rattle.keeper.specs.Rows.{Names};
+ghost use Rattle.keeper.specs.Takes.{Takes};
 ghost use Rattle.keeper.specs.Reason.{bindingReason, fetchReason, openReason, other, tableReason};
 use args::arguments::Arguments;
 use message::message::Message;
@@ -26,6 +28,30 @@ pub(crate) fn work_of(m: Message) -> u64
         43 => rules::OPEN,
         45 => rules::FETCH,
         _ => 0,
+    }
+}
+
+// The live cursor that a Close or a Fetch names.
+pub(crate) fn named_cursor(session: Session, m: Message) -> Cursor
+    requires { ⌜ Read m ⌝ }
+    ensures { λ r. ⌜ Names session m r ⌝ }
+{
+    if m.kind < 44 {
+        return session::NO_CURSOR;
+    }
+    session.live_cursor(m.cursor as u32)
+}
+
+// The place that a Prepare's statement or an Open's cursor takes.
+pub(crate) fn new_place(session: Session, m: Message) -> Place
+    requires { ⌜ Read m ⌝ }
+    ensures { λ r. ⌜ Takes session m r ⌝ }
+{
+    let kind = m.kind;
+    match kind {
+        40 => session.stmt_place(m.stmt as u32),
+        43 => session.cursor_place(m.cursor as u32),
+        _ => Place::Nothing,
     }
 }
 
@@ -62,8 +88,9 @@ fn is_other(carried: Cursor, id: u32) -> bool
     carried.live && carried.id != id
 }
 
-fn open_reason(session: Session, m: Message) -> u64
+fn open_reason(session: Session, m: Message, place: Place) -> u64
     requires { ⌜ Read m ⌝ }
+    requires { ⌜ place ≡ cursorPlace session (m .cursor) ⌝ }
     ensures { λ r. ⌜ r ≡ openReason session m ⌝ }
 {
     let stmt = m.stmt as u32;
@@ -76,7 +103,7 @@ fn open_reason(session: Session, m: Message) -> u64
     if is_other(session.carried(stmt), cursor) {
         return 12;
     }
-    full_reason(session.cursor_place(cursor), 14)
+    full_reason(place, 14)
 }
 
 // 10, 11.
@@ -99,20 +126,21 @@ fn live_reason(live: bool, reason: u64) -> u64
     if live { 0 } else { reason }
 }
 
-// The refusals that depend on the tables. `cursor` is the live cursor that the message names.
-fn table_reason(session: Session, m: Message, cursor: Cursor) -> u64
+// The refusals that depend on the tables. `cursor` is the live cursor that the message names, `place` what its entry takes.
+fn table_reason(session: Session, m: Message, cursor: Cursor, place: Place) -> u64
     requires { ⌜ Read m ⌝ }
-    requires { ⌜ cursor ≡ liveCursor session (m .cursor) ⌝ }
+    requires { ⌜ Names session m cursor ⌝ }
+    requires { ⌜ Takes session m place ⌝ }
     ensures { λ r. ⌜ r ≡ tableReason session m ⌝ }
 {
     let kind = m.kind;
     let stmt = m.stmt as u32;
     let args = m.args;
     match kind {
-        40 => full_reason(session.stmt_place(stmt), 13),
+        40 => full_reason(place, 13),
         41 => binding_reason(session.live_stmt(stmt), args),
         42 => live_reason(session.live_stmt(stmt).live, 7),
-        43 => open_reason(session, m),
+        43 => open_reason(session, m, place),
         44 => live_reason(cursor.live, 10),
         45 => fetch_reason(cursor),
         _ => 0,
@@ -120,9 +148,10 @@ fn table_reason(session: Session, m: Message, cursor: Cursor) -> u64
 }
 
 // What a look refuses, 0 for nothing.
-pub(crate) fn look_reason(session: Session, m: Message, cursor: Cursor) -> u64
+pub(crate) fn look_reason(session: Session, m: Message, cursor: Cursor, place: Place) -> u64
     requires { ⌜ Read m ⌝ }
-    requires { ⌜ cursor ≡ liveCursor session (m .cursor) ⌝ }
+    requires { ⌜ Names session m cursor ⌝ }
+    requires { ⌜ Takes session m place ⌝ }
     ensures { λ r. ⌜ r ≡ lookReason session m ⌝ }
 {
     let reason = m.reason;
@@ -142,7 +171,7 @@ pub(crate) fn look_reason(session: Session, m: Message, cursor: Cursor) -> u64
     if m.kind == 45 {
         return fetch_reason(cursor);
     }
-    table_reason(session, m, cursor)
+    table_reason(session, m, cursor, place)
 }
 
 // A failure of the engine, with a code of 32 bits that is not 0.

@@ -1,12 +1,12 @@
 // Which rows and columns an accepted step sends. `cursor` is the live cursor that the message names.
 ghost use mathlib.Core.Path.{_≡_};
-ghost use mathlib.Core.Bool.{cond};
+ghost use mathlib.Core.Bool.{cond, true};
 ghost use Prim.Native.Nat.{_-_, _^_, _<_, min};
-ghost use Rattle.layout.specs.Table.{fetch};
-ghost use Rattle.rules.specs.Kind.{isA};
+ghost use Rattle.layout.specs.Table.{fetch, open'};
+ghost use Rattle.rules.specs.Kind.{isA, oneOf};
 ghost use Rattle.rules.specs.Refusal.{reportReason};
 ghost use Rattle.rules.specs.Rows.{fetchCount, firstRow, noneRemain, rowCount, rowsAsked, sendsColumns};
-ghost use Rattle.keeper.specs.Rows.{Finding, Rows, markFrom};
+ghost use Rattle.keeper.specs.Rows.{Finding, Rows, fetchedFrom, markFrom};
 use message::message::Message;
 use rules::Report;
 use session::Cursor;
@@ -36,7 +36,7 @@ fn rows_asked(m: Message, absent: u64) -> u64
 }
 
 fn fetch_count(cursor: Cursor, m: Message) -> u64
-    ensures { λ r. ⌜ Rows cursor m (λ s. fetchCount s m) r ⌝ }
+    ensures { λ r. ⌜ (r ≡ fetchedFrom cursor m) × (r < 2 ^ 32) ⌝ }
 {
     let left = remaining(cursor);
     least(rows_asked(m, left), left)
@@ -86,7 +86,7 @@ pub(crate) fn sends_columns(m: Message, report: Report) -> bool
     }
 }
 
-// All rows of the opening have been sent, these included.
+// All rows of the opening that an Open makes or a Fetch names have been sent, these included.
 pub(crate) fn none_remain(
     cursor: Cursor,
     m: Message,
@@ -96,7 +96,7 @@ pub(crate) fn none_remain(
 ) -> bool
     requires { ⌜ Rows cursor m (λ s. firstRow s m) first ⌝ }
     requires { ⌜ Rows cursor m (λ s. rowCount s m report) count ⌝ }
-    ensures { λ r. ⌜ Finding cursor m (λ s. r ≡ noneRemain s m report) ⌝ }
+    ensures { λ r. ⌜ Finding cursor m (λ s. oneOf open' fetch m ≡ true → r ≡ noneRemain s m report) ⌝ }
 {
     let sent = first + count;
     if m.kind == 43 {

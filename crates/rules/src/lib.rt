@@ -69,6 +69,6 @@ pub struct Decision {
 
 // What a step hands back.
 pub struct Stepped {
-    pub session: Session,
     pub answer: Answer,
+    pub session: Session,
 }

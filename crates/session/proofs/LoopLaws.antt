@@ -172,8 +172,12 @@ pub record Changing {A S : Type 0} (put : S → List A → S) (get : S → List 
   pub state : s ≡ put s₀ (upTo f i (get s₀))
 
 module _ {A S : Type 0} {put : S → List A → S} {get : S → List A} {f : A → A} {n : ℕ} {s₀ : S} where
+  -- the entries before i are such that f leaves them
+  pub begins-at : (i : ℕ) → length (get s₀) ≡ n → put s₀ (get s₀) ≡ s₀ → upTo f i (get s₀) ≡ get s₀ → Changing put get f n s₀ i s₀
+  begins-at i h e g = record { long = h; state = sym e ∙ ap (put s₀) (sym g) }
+
   pub begins : length (get s₀) ≡ n → put s₀ (get s₀) ≡ s₀ → Changing put get f n s₀ 0 s₀
-  begins h e = record { long = h; state = sym e ∙ ap (put s₀) (changes f (get s₀)) }
+  begins h e = begins-at 0 h e (sym (changes f (get s₀)))
 
   module _ {i : ℕ} {s : S} (l : Changing put get f n s₀ i s) where
     pub done : n ≤ i → s ≡ put s₀ (map f (get s₀))
@@ -201,14 +205,6 @@ module _ {A S : Type 0} {put : S → List A → S} {get : S → List A} {f : A �
         let left : f (getD (get s₀) i d) ≡ getD (get s₀) i d = sym (ap f at) ∙ e ∙ at in
         record { long = l .long; state = rw add-one (l .state ∙ ap (put s₀) (upTo-left f i (get s₀) d left)) }
 
--- a table by itself
-abbrev pub TableBy : {A : Type 0} → (A → A) → ℕ → List A → ℕ → List A → Type 0
-TableBy f n xs₀ i xs = Changing (λ xs ys. ys) (λ xs. xs) f n xs₀ i xs
-
-pub table-on : {A : Type 0} {f : A → A} {n i : ℕ} {xs₀ xs : List A} → TableBy f n xs₀ i xs → (d r : A) → r ≡ f (getD xs i d) →
-    TableBy f n xs₀ (i + 1) (set xs i r)
-table-on l d r e = goes-on l (λ s xs. refl) (λ s xs ys. refl) d r e
-
 -- the two tables of a session
 abbrev pub withStmts : Session → List Stmt → Session
 withStmts s ts = record { stmts = ts; cursors = s .cursors; closed = s .closed }
@@ -225,6 +221,10 @@ CursorsBy f s₀ i s = Changing withCursors (λ s. s .cursors) f maxCursors s₀
 pub stmts-on : {f : Stmt → Stmt} {s₀ s : Session} {i : ℕ} → StmtsBy f s₀ i s → (r : Stmt) → r ≡ f (getD (s .stmts) i noStmt) →
     StmtsBy f s₀ (i + 1) (withStmts s (set (s .stmts) i r))
 stmts-on l r e = goes-on l (λ s xs. refl) (λ s xs ys. refl) noStmt r e
+
+pub stmts-past : {f : Stmt → Stmt} {s₀ s : Session} {i : ℕ} → StmtsBy f s₀ i s → f (getD (s .stmts) i noStmt) ≡ getD (s .stmts) i noStmt →
+    StmtsBy f s₀ (i + 1) s
+stmts-past l e = goes-past l (λ s xs. refl) noStmt e
 
 pub cursors-on : {f : Cursor → Cursor} {s₀ s : Session} {i : ℕ} → CursorsBy f s₀ i s → (r : Cursor) → r ≡ f (getD (s .cursors) i noCursor) →
     CursorsBy f s₀ (i + 1) (withCursors s (set (s .cursors) i r))

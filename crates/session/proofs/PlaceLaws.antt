@@ -73,10 +73,3 @@ module _ {A : Type 0} (p q : A → Bool) (d : A) (xs : List A) where
       go : (x : Place) → first p xs 0 ≡ x → orPlace x (first q xs 0) ≡ Place.At i → Taken i
       go (Place.At j) h g = own (found p d xs i (h ∙ g))
       go Place.Nothing h g = new (found q d xs i g) (none-from p xs 0 h)
-
-  pub taken-inside : (i : ℕ) → orPlace (first p xs 0) (first q xs 0) ≡ Place.At i → i < length xs
-  taken-inside i e = go (taken i e)
-    where
-      go : Taken i → i < length xs
-      go (own l) = l .inside
-      go (new l h) = l .inside

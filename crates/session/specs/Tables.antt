@@ -66,14 +66,17 @@ ended s id = endedBy (isCursor id) s
 abbrev pub endedOn : Session → ℕ → Session
 endedOn s stmt = endedBy (onStmt stmt) s
 
--- "Prepare: an id in use is replaced, and its cursor ends."
-abbrev pub prepared : Session → ℕ → ℕ → Session
-prepared s id placeholders =
+-- "Prepare: an id in use is replaced, and its cursor ends." At a place, and at the one that the id takes
+abbrev pub preparedAt : Session → Place → ℕ → ℕ → Session
+preparedAt s place id placeholders =
     record {
-      stmts = put (s .stmts) (stmtPlace s id) (newStmt id placeholders);
+      stmts = put (s .stmts) place (newStmt id placeholders);
       cursors = ends (onStmt id) (s .cursors);
       closed = s .closed;
     }
+
+abbrev pub prepared : Session → ℕ → ℕ → Session
+prepared s id placeholders = preparedAt s (stmtPlace s id) id placeholders
 
 -- "Deallocate: frees the statement, ends its cursor."
 abbrev pub freed : Session → ℕ → Session
@@ -84,14 +87,17 @@ freed s id =
       closed = s .closed;
     }
 
--- "Open: a cursor id in use ends first", and the new cursor takes its place
-abbrev pub opened : Session → ℕ → ℕ → ℕ → ℕ → Session
-opened s id stmt rows sent =
+-- "Open: a cursor id in use ends first", and the new cursor takes its place. At a place, and at the one that the id takes
+abbrev pub openedAt : Session → Place → ℕ → ℕ → ℕ → ℕ → Session
+openedAt s place id stmt rows sent =
     record {
       stmts = s .stmts;
-      cursors = put (s .cursors) (cursorPlace s id) (newCursor id stmt rows sent);
+      cursors = put (s .cursors) place (newCursor id stmt rows sent);
       closed = s .closed;
     }
+
+abbrev pub opened : Session → ℕ → ℕ → ℕ → ℕ → Session
+opened s id stmt rows sent = openedAt s (cursorPlace s id) id stmt rows sent
 
 -- "Fetch: the next min(fetch_rows, remaining) rows" of the live cursor of an id
 abbrev pub fetched : Session → ℕ → ℕ → Session

@@ -14,14 +14,6 @@ pub const NO_STMT: Stmt = Stmt {
     live: false,
 };
 
-pub const NO_CURSOR: Cursor = Cursor {
-    id: 0,
-    stmt: 0,
-    rows: 0,
-    sent: 0,
-    live: false,
-};
-
 pub fn is_stmt(t: Stmt, id: u32) -> bool
     ensures { λ r. ⌜ r ≡ isStmt id t ⌝ }
 {
@@ -32,12 +24,6 @@ pub fn is_free(t: Stmt) -> bool
     ensures { λ r. ⌜ r ≡ freeStmt t ⌝ }
 {
     !t.live
-}
-
-pub fn freed(t: Stmt, id: u32) -> Stmt
-    ensures { λ r. ⌜ r ≡ change (isStmt id) (λ t. noStmt) t ⌝ }
-{
-    if is_stmt(t, id) { NO_STMT } else { t }
 }
 
 pub fn is_cursor(c: Cursor, id: u32) -> bool
@@ -60,12 +46,6 @@ pub fn passes(c: Cursor, which: Which) -> bool
         Which::On(id) => on_stmt(c, id),
         Which::Free => !c.live,
     }
-}
-
-pub fn ended(c: Cursor, which: Which) -> Cursor
-    ensures { λ r. ⌜ r ≡ change (passes which) (λ c. noCursor) c ⌝ }
-{
-    if passes(c, which) { NO_CURSOR } else { c }
 }
 
 // Where the cursor has this id, `count` more rows are sent, and no more than it has.

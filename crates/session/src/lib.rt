@@ -1,7 +1,7 @@
 // The two tables of a session, and what each operation does to them.
 ghost use mathlib.Core.Path.{_≡_};
 ghost use Rattle.session.specs.Tables.{fresh, stmtPlace, cursorPlace};
-ghost use Rattle.session.specs.Tables.{endedBy, prepared, freed, opened, fetched, emptied};
+ghost use Rattle.session.specs.Tables.{endedBy, preparedAt, freed, openedAt, fetched, emptied};
 ghost use Rattle.session.specs.Tables.{owed, stmtCount, cursorCount, liveStmt, liveCursor, carried};
 ghost use Rattle.session.specs.Entry.{passes};
 
@@ -36,6 +36,15 @@ pub struct Session {
     pub closed: bool,
 }
 
+// The empty entry of the cursor table.
+pub const NO_CURSOR: Cursor = Cursor {
+    id: 0,
+    stmt: 0,
+    rows: 0,
+    sent: 0,
+    live: false,
+};
+
 // A place of a table.
 pub enum Place {
     At(usize),
@@ -55,7 +64,7 @@ impl Session {
     {
         Session {
             stmts: [entry::NO_STMT; MAX_STMTS],
-            cursors: [entry::NO_CURSOR; MAX_CURSORS],
+            cursors: [NO_CURSOR; MAX_CURSORS],
             closed: false,
         }
     }
@@ -89,80 +98,93 @@ impl Session {
         ensures { λ r. ⌜ r ≡ liveCursor self id ⌝ }
     {
         let cursors = self.cursors;
-        table::first_cursor(cursors, Which::Id(id))
+        table::cursor_of(cursors, id)
     }
 
     pub fn carried(self, stmt: u32) -> Cursor
         ensures { λ r. ⌜ r ≡ carried self stmt ⌝ }
     {
         let cursors = self.cursors;
-        table::first_cursor(cursors, Which::On(stmt))
+        match table::first_place(cursors, Which::On(stmt)) {
+            Place::At(i) => cursors[i],
+            Place::Nothing => NO_CURSOR,
+        }
     }
 
-    // Every cursor that passes the test ends.
+    // Every cursor that passes the test ends. Mostly none does, so the changes start at the first that is found.
     pub fn end(mut self, which: Which) -> Session
         ensures { λ r. ⌜ r ≡ endedBy (passes which) self ⌝ }
     {
         let cursors = self.cursors;
-        let left = table::without(cursors, which);
-        self.cursors = left;
+        match table::first_place(cursors, which) {
+            Place::At(from) => {
+                let mut i = from;
+                while i < MAX_CURSORS {
+                    if entry::passes(self.cursors[i], which) {
+                        self.cursors[i] = NO_CURSOR;
+                    }
+                    i += 1;
+                }
+            }
+            Place::Nothing => {}
+        }
         self
     }
 
-    // Stores a statement at its place; its cursor ends.
-    pub fn prepare(mut self, id: u32, placeholders: u32) -> Session
-        ensures { λ r. ⌜ r ≡ prepared self id placeholders ⌝ }
+    // Stores a statement at a place, which `stmt_place` finds for its id; its cursor ends.
+    pub fn prepare(self, place: Place, id: u32, placeholders: u32) -> Session
+        ensures { λ r. ⌜ r ≡ preparedAt self place id placeholders ⌝ }
     {
-        let stmts = self.stmts;
-        let cursors = self.cursors;
-        let left = table::without(cursors, Which::On(id));
-        self.cursors = left;
-        match table::stmt_place(stmts, id) {
+        let mut s = self.end(Which::On(id));
+        match place {
             Place::At(i) => {
-                self.stmts[i] = Stmt {
-                    id,
-                    placeholders,
-                    live: true,
-                };
-                self
+                if i < MAX_STMTS {
+                    s.stmts[i] = Stmt {
+                        id,
+                        placeholders,
+                        live: true,
+                    };
+                }
             }
-            Place::Nothing => self,
+            Place::Nothing => {}
         }
+        s
     }
 
     // Frees a statement; its cursor ends.
-    pub fn free(mut self, stmt: u32) -> Session
+    pub fn free(self, stmt: u32) -> Session
         ensures { λ r. ⌜ r ≡ freed self stmt ⌝ }
     {
-        let cursors = self.cursors;
-        let left = table::without(cursors, Which::On(stmt));
-        self.cursors = left;
+        let mut s = self.end(Which::On(stmt));
         let mut i = 0;
         while i < MAX_STMTS {
-            self.stmts[i] = entry::freed(self.stmts[i], stmt);
+            if entry::is_stmt(s.stmts[i], stmt) {
+                s.stmts[i] = entry::NO_STMT;
+            }
             i += 1;
         }
-        self
+        s
     }
 
-    // Stores a cursor at its place.
-    pub fn open(mut self, id: u32, stmt: u32, rows: u32, sent: u32) -> Session
-        ensures { λ r. ⌜ r ≡ opened self id stmt rows sent ⌝ }
+    // Stores a cursor at a place, which `cursor_place` finds for its id.
+    pub fn open(mut self, place: Place, id: u32, stmt: u32, rows: u32, sent: u32) -> Session
+        ensures { λ r. ⌜ r ≡ openedAt self place id stmt rows sent ⌝ }
     {
-        let cursors = self.cursors;
-        match table::cursor_place(cursors, id) {
+        match place {
             Place::At(i) => {
-                self.cursors[i] = Cursor {
-                    id,
-                    stmt,
-                    rows,
-                    sent,
-                    live: true,
-                };
-                self
+                if i < MAX_CURSORS {
+                    self.cursors[i] = Cursor {
+                        id,
+                        stmt,
+                        rows,
+                        sent,
+                        live: true,
+                    };
+                }
             }
-            Place::Nothing => self,
+            Place::Nothing => {}
         }
+        self
     }
 
     // The cursor of an id sends `count` more rows, and no more than it has.

@@ -7,6 +7,7 @@ ghost use Rattle.session.specs.Tables.{ends};
 use crate::Cursor;
 use crate::MAX_CURSORS;
 use crate::MAX_STMTS;
+use crate::NO_CURSOR;
 use crate::Place;
 use crate::Stmt;
 use crate::Which;
@@ -47,49 +48,40 @@ pub fn stmt_place(stmts: [Stmt; MAX_STMTS], id: u32) -> Place
     Place::Nothing
 }
 
-// The first cursor that passes the test, or the empty entry.
-pub fn first_cursor(cursors: [Cursor; MAX_CURSORS], which: Which) -> Cursor
-    ensures { λ r. ⌜ r ≡ entryAt cursors (first (passes which) cursors 0) noCursor ⌝ }
+// The live cursor of an id, or the empty entry.
+pub fn cursor_of(cursors: [Cursor; MAX_CURSORS], id: u32) -> Cursor
+    ensures { λ r. ⌜ r ≡ entryAt cursors (first (isCursor id) cursors 0) noCursor ⌝ }
 {
     let mut i = 0;
     while i < MAX_CURSORS {
-        if entry::passes(cursors[i], which) {
+        if entry::is_cursor(cursors[i], id) {
             return cursors[i];
         }
         i += 1;
     }
-    entry::NO_CURSOR
+    NO_CURSOR
+}
+
+// The first place whose cursor passes the test.
+pub fn first_place(cursors: [Cursor; MAX_CURSORS], which: Which) -> Place
+    ensures { λ r. ⌜ r ≡ first (passes which) cursors 0 ⌝ }
+{
+    let mut i = 0;
+    while i < MAX_CURSORS {
+        if entry::passes(cursors[i], which) {
+            return Place::At(i);
+        }
+        i += 1;
+    }
+    Place::Nothing
 }
 
 // The place of an id, or else the lowest free one.
 pub fn cursor_place(cursors: [Cursor; MAX_CURSORS], id: u32) -> Place
     ensures { λ r. ⌜ r ≡ orPlace (first (isCursor id) cursors 0) (first freeCursor cursors 0) ⌝ }
 {
-    let mut i = 0;
-    while i < MAX_CURSORS {
-        if entry::is_cursor(cursors[i], id) {
-            return Place::At(i);
-        }
-        i += 1;
+    match first_place(cursors, Which::Id(id)) {
+        Place::At(i) => Place::At(i),
+        Place::Nothing => first_place(cursors, Which::Free),
     }
-    let mut k = 0;
-    while k < MAX_CURSORS {
-        if entry::passes(cursors[k], Which::Free) {
-            return Place::At(k);
-        }
-        k += 1;
-    }
-    Place::Nothing
-}
-
-// Every cursor that passes the test ends.
-pub fn without(mut cursors: [Cursor; MAX_CURSORS], which: Which) -> [Cursor; MAX_CURSORS]
-    ensures { λ r. ⌜ r ≡ ends (passes which) cursors ⌝ }
-{
-    let mut i = 0;
-    while i < MAX_CURSORS {
-        cursors[i] = entry::ended(cursors[i], which);
-        i += 1;
-    }
-    cursors
 }

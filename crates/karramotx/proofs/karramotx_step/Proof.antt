@@ -128,10 +128,10 @@ module _ {M : Type 1} (𝓤 : URA M) (H : Heap 𝓤) (A : Atoms 𝓤) (W : Given
 
   -- what whoever holds a `Stepped` knows of its session and of its answer
   session-is : (r : Stepped) (w : Val) → Is St.the-row r (w ∷ []) → IsSession (r .session)
-  session-is r w is = LL.owed St.the-type St′.the-laws r _ is .0
+  session-is r w is = LL.owed St.the-type St′.the-laws r _ is .1 .0
 
   answer-is : (r : Stepped) (w : Val) → Is St.the-row r (w ∷ []) → Is An.the-row (r .answer) (answer-val (r .answer) ∷ [])
-  answer-is r w is = LL.owed St.the-type St′.the-laws r _ is .1 .0
+  answer-is r w is = LL.owed St.the-type St′.the-laws r _ is .0
 
   module _ (C : Calls 𝓤 H) (Λ : Loops 𝓤 H) (fm : FmC 𝓤 H (W .laws) C) (known : Triple 𝓤 (C #keeper·step) (Stepping 𝓤 H A at-mem run)) where
     walk : Room u8 (length (fr .now)) → Holds (hasTy R′.mir (report-val rep)) × WT (report-val rep) → Room u8 (length (x .now))
@@ -161,8 +161,8 @@ module _ {M : Type 1} (𝓤 : URA M) (H : Heap 𝓤) (A : Atoms 𝓤) (W : Given
         -- [the other tokens; the reply's last list; true; the session's cell; the open borrow; obs; auth; _8; …; _7; …; _6; …; _5; …; _4; …; _3; …; _2; …; _1; …; room for _0; …]
         land ! (from ! (stop !)) (init ! 13 refl (LL.lawful St.the-type St′.the-laws 𝓤 H A W .typed r _ is .0)) $
         rewrite ! 13 (λ (u : Val). ‵ (fat fullShare St′.mir l₅ 0 u)) (ap only (LL.tells St.the-type St′.the-laws r _ is)) refl $
-        assigns ! (of-opd ! (load ! (from ! (fld ! refl (stop !))) (look-in ! 13 (sub ! 0 refl (whole !))))) (from ! (hop ! (look ! 21 refl) (stop !))) (store-raw ! 3 refl (session-typed 𝓤 H A W (r .session) (session-is r w is))) $
-        assigns ! (of-opd ! (load ! (from ! (fld ! refl (stop !))) (look-in ! 13 (sub ! 1 refl (whole !))))) (from ! (stop !)) (init ! 23 refl (LL.lawful An.the-type An′.the-laws 𝓤 H A W .typed (r .answer) _ (answer-is r w is) .0)) $
+        assigns ! (of-opd ! (load ! (from ! (fld ! refl (stop !))) (look-in ! 13 (sub ! 1 refl (whole !))))) (from ! (hop ! (look ! 21 refl) (stop !))) (store-raw ! 3 refl (session-typed 𝓤 H A W (r .session) (session-is r w is))) $
+        assigns ! (of-opd ! (load ! (from ! (fld ! refl (stop !))) (look-in ! 13 (sub ! 0 refl (whole !))))) (from ! (stop !)) (init ! 23 refl (LL.lawful An.the-type An′.the-laws 𝓤 H A W .typed (r .answer) _ (answer-is r w is) .0)) $
         -- the borrow is closed at the session that `step` handed back
         move ! (3 ∷ []) $ owned ! S.the-row (Is S.the-row) ((LL.makes S.the-type S′.the-plain) 𝓤 H A) (r .session) _ (session-is r w is) $
         move ! (1 ∷ 0 ∷ 5 ∷ 6 ∷ 7 ∷ []) $ closes ! tt S.the-row (r .session) (session-val (r .session) ∷ []) b o $

@@ -3,15 +3,20 @@ use borrow.Author.Needs.{needs}
 use Rattle.keeper.proofs.look.Statement.{statement}
 use Rattle.keeper.proofs.look.Tie as tie
 
-cast-live-cursor : tie.Need-cast-live-cursor
-cast-live-cursor c =
+named-cursor-requires : tie.Need-named-cursor-requires
+named-cursor-requires c κs =
+    let m = c .read-message in
+    is-read (c .before .before .args .frame .now) (m .result) (m .ensures)
+
+new-place-requires : tie.Need-new-place-requires
+new-place-requires c κs =
     let m = c .before .read-message in
-    record { fits = is-read (c .before .before .before .args .frame .now) (m .result) (m .ensures) .cursorSmall }
+    is-read (c .before .before .before .args .frame .now) (m .result) (m .ensures)
 
 look-reason-requires : tie.Need-look-reason-requires
 look-reason-requires c κs =
     let m = c .before .before .read-message in
-    (is-read (c .before .before .before .before .args .frame .now) (m .result) (m .ensures), c .live-cursor .ensures)
+    (is-read (c .before .before .before .before .args .frame .now) (m .result) (m .ensures), (c .before .named-cursor .ensures, c .new-place .ensures))
 
 returns : tie.Need-returns
 returns c =
@@ -24,7 +29,7 @@ returns-2 : tie.Need-returns-2
 returns-2 c =
     let a = c .before .before .before .before .before .before .before .before .before .args in
     let m = c .before .before .before .before .before .before .before .read-message in
-    let e = c .before .before .before .before .before .live-cursor .ensures in
+    let e = c .before .before .before .before .before .before .named-cursor .ensures in
     let n = c .before .before .before .before .look-reason in
     let w = c .before .before .work-of in
     let f = c .before .first-row in
@@ -37,8 +42,8 @@ look-spec =
     tie.close
     (tie.spec
     (λ c κs. search needs)
-    cast-live-cursor
-    (λ c κs. search needs)
+    named-cursor-requires
+    new-place-requires
     look-reason-requires
     returns
     (λ c κs. search needs)

@@ -7,20 +7,25 @@ use borrow.Author.Needs.{needs}
 use Rattle.keeper.proofs.step.Statement.{statement}
 use Rattle.keeper.proofs.step.Tie as tie
 
-decide-requires : tie.Need-decide-requires
-decide-requires c κs =
+new-place-requires : tie.Need-new-place-requires
+new-place-requires c κs =
     let m = c .read-message in
     is-read (c .before .before .before .args .frame .now) (m .result) (m .ensures)
 
+decide-requires : tie.Need-decide-requires
+decide-requires c κs =
+    let m = c .before .read-message in
+    (is-read (c .before .before .before .before .args .frame .now) (m .result) (m .ensures), c .new-place .ensures)
+
 session-after-requires : tie.Need-session-after-requires
 session-after-requires c κs =
-    let m = c .before .read-message in
-    (is-read (c .before .before .before .before .args .frame .now) (m .result) (m .ensures), c .decide .ensures .sends)
+    let m = c .before .before .read-message in
+    (is-read (c .before .before .before .before .before .args .frame .now) (m .result) (m .ensures), (c .decide .ensures .sends, c .before .new-place .ensures))
 
 returns : tie.Need-returns
 returns c =
-    let a = c .before .before .before .before .before .before .before .before .before .before .before .before .args in
-    let m = c .before .before .before .before .before .before .before .before .before .read-message in
+    let a = c .before .before .before .before .before .before .before .before .before .before .before .before .before .args in
+    let m = c .before .before .before .before .before .before .before .before .before .before .read-message in
     let d = c .before .before .before .before .before .before .before .before .decide in
     let t = c .before .before .before .before .before .before .before .session-after in
     let u = c .before .before .before .before .before .before .used-bytes in
@@ -38,6 +43,7 @@ step-spec =
     tie.close
     (tie.spec
     (λ c κs. search needs)
+    new-place-requires
     decide-requires
     session-after-requires
     (λ c κs. search needs)

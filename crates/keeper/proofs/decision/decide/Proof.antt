@@ -6,12 +6,12 @@ use Rattle.keeper.proofs.decision.decide.Tie as tie
 
 returns : tie.Need-returns
 returns c =
-    let a = c .before .before .before .before .before .args in
+    let a = c .before .before .before .before .args in
     decides-short (a .session) (a .m) (a .report) (a .short) _ (c .before .if1 .taken) (c .refuse .ensures)
 
 returns-2 : tie.Need-returns-2
 returns-2 c =
-    let a = c .before .before .before .before .before .before .before .args in
+    let a = c .before .before .before .before .before .before .args in
     let l = c .before .before .before .before .look-reason in
     let n = c .before .before .step-reason in
     decides-refused (a .session) (a .m) (a .report) (a .short) _ (c .before .before .before .if1 .left) (n .result)
@@ -19,7 +19,7 @@ returns-2 c =
 
 accept-requires : tie.Need-accept-requires
 accept-requires c κs =
-    let a = c .before .before .before .before .before .before .args in
+    let a = c .before .before .before .before .before .args in
     let l = c .before .before .before .look-reason in
     let n = c .before .step-reason in
     report-accepted (a .session) (a .m) (a .report) (n .result)
@@ -27,8 +27,8 @@ accept-requires c κs =
 
 returns-3 : tie.Need-returns-3
 returns-3 c =
-    let a = c .before .before .before .before .before .before .before .args in
-    let u = c .before .before .before .before .before .live-cursor in
+    let a = c .before .before .before .before .before .before .args in
+    let u = c .before .before .before .before .before .named-cursor in
     let l = c .before .before .before .before .look-reason in
     let n = c .before .before .step-reason in
     decides-accepted (a .session) (a .m) (a .report) (a .short) _ (c .before .before .before .if1 .left) (n .result)
@@ -39,7 +39,6 @@ pub decide-spec : {M : Type 1} → statement M
 decide-spec =
     tie.close
     (tie.spec
-    (λ c. search needs)
     (λ c κs. search needs)
     (λ c κs. search needs)
     (λ c κs. search needs)

@@ -1,3 +1,4 @@
+use native.Mathlib.Omega.{arith}
 use mathlib.Core.Path.{ap, _∙_}
 use Rattle.keeper.specs.Reason.{fetchReason}
 use Rattle.keeper.proofs.ReasonLaws.{look-one, look-two, look-closed, look-unsound, look-tables, table-fetch}
@@ -25,7 +26,7 @@ returns-5 : tie.Need-returns-5
 returns-5 c =
     let a = c .before .before .before .before .before .before .before .args in
     c .fetch-reason .ensures
-    ∙ ap fetchReason (c .before .before .before .before .before .before .before .pre .1)
+    ∙ ap fetchReason (c .before .before .before .before .before .before .before .pre .1 .0 (omega (arith, c .before .if5 .taken)))
     ∙ table-fetch (a .session) (a .m) (c .before .if5 .taken)
     ∙ look-tables (a .session) (a .m) (c .before .before .before .before .before .before .if1 .left) (c .before .before .before .before .before .if2 .left) (c .before .before .before .before .if3 .left) (c .before .before .before .if4 .left)
 

@@ -24,12 +24,13 @@ returns-2 c =
 
 returns-3 : tie.Need-returns-3
 returns-3 c =
-    let a = c .before .before .before .before .before .before .before .before .before .before .before .args in
-    let n = c .before .before .before .before .before .before .binding-reason in
+    let s = c .before .before .before .before .before .before .before .before .before .before in
+    let a = s .args in
+    let n = c .before .before .before .before .before .binding-reason in
     c .full-reason .ensures
-    ∙ ap (λ (p : Place). cond (noPlace p) 14 0) (c .before .cursor-place .ensures)
-    ∙ open-full (a .session) (a .m) (n .result) (n .ensures ∙ ap (λ (t : Stmt). bindingReason t (a .m .args)) (c .before .before .before .before .before .before .before .live-stmt .ensures)) (c .before .before .before .before .before .if1 .left)
-    (ap (other (a .m .cursor)) (sym (c .before .before .before .before .carried .ensures)) ∙ sym (c .before .before .before .is-other .ensures) ∙ c .before .before .if2 .left)
+    ∙ ap (λ (p : Place). cond (noPlace p) 14 0) (s .pre .1)
+    ∙ open-full (a .session) (a .m) (n .result) (n .ensures ∙ ap (λ (t : Stmt). bindingReason t (a .m .args)) (c .before .before .before .before .before .before .live-stmt .ensures)) (c .before .before .before .before .if1 .left)
+    (ap (other (a .m .cursor)) (sym (c .before .before .before .carried .ensures)) ∙ sym (c .before .before .is-other .ensures) ∙ c .before .if2 .left)
 
 pub open-reason-spec : {M : Type 1} → statement M
 open-reason-spec =
@@ -43,6 +44,5 @@ open-reason-spec =
     (λ c κs. search needs)
     (λ c κs. search needs)
     returns-2
-    (λ c κs. search needs)
     (λ c κs. search needs)
     returns-3)

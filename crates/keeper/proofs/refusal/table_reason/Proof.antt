@@ -1,3 +1,4 @@
+use native.Mathlib.Omega.{arith}
 use mathlib.Core.Path.{ap, _∙_}
 use mathlib.Core.Bool.{cond, not}
 use Rattle.session.specs.declared.Stmt.{Stmt}
@@ -12,10 +13,11 @@ use Rattle.keeper.proofs.refusal.table_reason.Tie as tie
 
 returns : tie.Need-returns
 returns c =
-    let a = c .before .before .before .before .before .args in
+    let s = c .before .before .before .before in
+    let a = s .args in
     c .full-reason .ensures
-    ∙ ap (λ (p : Place). cond (noPlace p) 13 0) (c .before .stmt-place .ensures)
-    ∙ table-prepare (a .session) (a .m) (c .before .before .match .keys1)
+    ∙ ap (λ (p : Place). cond (noPlace p) 13 0) (s .pre .1 .1 .stmt (c .before .match .keys1))
+    ∙ table-prepare (a .session) (a .m) (c .before .match .keys1)
 
 returns-2 : tie.Need-returns-2
 returns-2 c =
@@ -40,14 +42,14 @@ returns-5 : tie.Need-returns-5
 returns-5 c =
     let a = c .before .before .before .before .args in
     c .live-reason2 .ensures
-    ∙ ap (λ (t : Cursor). cond (not (t .live)) 10 0) (c .before .before .before .before .pre .1)
+    ∙ ap (λ (t : Cursor). cond (not (t .live)) 10 0) (c .before .before .before .before .pre .1 .0 (omega (arith, c .before .match .keys5)))
     ∙ table-close (a .session) (a .m) (c .before .match .keys5)
 
 returns-6 : tie.Need-returns-6
 returns-6 c =
     let a = c .before .before .before .before .args in
     c .fetch-reason .ensures
-    ∙ ap fetchReason (c .before .before .before .before .pre .1)
+    ∙ ap fetchReason (c .before .before .before .before .pre .1 .0 (omega (arith, c .before .match .keys6)))
     ∙ table-fetch (a .session) (a .m) (c .before .match .keys6)
 
 returns-7 : tie.Need-returns-7
@@ -55,6 +57,9 @@ returns-7 c =
     let a = c .before .before .before .args in
     let r = c .match .rest in
     table-none (a .session) (a .m) (r .0 .0 .0 .0 .0 .1) (r .0 .0 .0 .0 .1) (r .0 .0 .0 .1) (r .0 .0 .1) (r .0 .1) (r .1)
+
+open-reason-requires : tie.Need-open-reason-requires
+open-reason-requires c κs = let s = c .before .before .before in (s .pre .0, s .pre .1 .1 .cursor (c .match .keys4))
 
 pub table-reason-spec : {M : Type 1} → statement M
 table-reason-spec =
@@ -66,8 +71,7 @@ table-reason-spec =
     (λ c κs. search needs)
     (λ c κs. search needs)
     (λ c κs. search needs)
-    (λ c κs. search needs)
-    (λ c κs. search needs)
+    open-reason-requires
     (λ c κs. search needs)
     (λ c κs. search needs)
     returns

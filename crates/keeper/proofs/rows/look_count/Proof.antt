@@ -6,7 +6,7 @@ use Rattle.keeper.proofs.rows.look_count.Tie as tie
 returns : tie.Need-returns
 returns c =
     let a = c .before .before .before .args in
-    look-fetch (a .cursor) (a .m) (c .fetch-count .result) (c .before .if1 .taken) (c .fetch-count .ensures)
+    look-fetch (a .cursor) (a .m) (c .before .if1 .taken) (c .fetch-count .result) (c .fetch-count .ensures)
 
 returns-2 : tie.Need-returns-2
 returns-2 c = let a = c .before .before .args in look-none (a .cursor) (a .m) (c .if1 .left)

@@ -15,7 +15,7 @@ returns-2 c =
 returns-3 : tie.Need-returns-3
 returns-3 c =
     let a = c .before .before .args in
-    count-fetch (a .cursor) (a .m) (a .report) (c .fetch-count .result) (c .before .match .keys3) (c .fetch-count .ensures)
+    count-fetch (a .cursor) (a .m) (a .report) (c .before .match .keys3) (c .fetch-count .result) (c .fetch-count .ensures)
 
 returns-4 : tie.Need-returns-4
 returns-4 c =

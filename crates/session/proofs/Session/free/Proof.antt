@@ -1,12 +1,15 @@
 -- `session::Session::free` meets its contract. Assumes nothing.
 use Prim.Native.Nat.{_-_}
 use native.Mathlib.Omega.{arith}
-use mathlib.Core.Path.{refl, ap, _∙_}
+use mathlib.Core.Logic.{⊎-elim}
+use mathlib.Core.Path.{refl, sym, _∙_}
+use lib.ListN.{getD}
 use borrow.Author.Needs.{needs}
 use Rattle.session.specs.Lists.{change}
 use Rattle.session.specs.Entry.{isStmt, noStmt}
 use Rattle.session.specs.Tables.{maxStmts}
-use Rattle.session.proofs.LoopLaws.{length-mapped, StmtsBy, begins, stmts-on, done, withCursors}
+use Rattle.session.proofs.EntryLaws.{keeps-it, changes-it}
+use Rattle.session.proofs.LoopLaws.{length-mapped, StmtsBy, begins, stmts-on, stmts-past, done}
 use Rattle.session.proofs.StepLaws.{frees}
 use Rattle.session.proofs.Session.free.Statement.{statement}
 use Rattle.session.proofs.Session.free.Tie as tie
@@ -20,17 +23,17 @@ abbrev μ-loop : tie.MeasureT-loop
 loop-holds : tie.Need-loop-holds Inv-loop μ-loop
 loop-holds c = begins (search length-mapped) refl
 
-mul-freed : tie.Need-mul-freed Inv-loop μ-loop
-mul-freed c = omega arith
+mul-is-stmt : tie.Need-mul-is-stmt Inv-loop μ-loop
+mul-is-stmt c = omega arith
 
-element-copy-out-freed : tie.Need-element-copy-out-freed Inv-loop μ-loop
-element-copy-out-freed c = omega arith
+element-copy-out-is-stmt : tie.Need-element-copy-out-is-stmt Inv-loop μ-loop
+element-copy-out-is-stmt c = omega arith
 
 mul-t14 : tie.Need-mul-t14 Inv-loop μ-loop
 mul-t14 c = omega arith
 
-element-set-from-self : tie.Need-element-set-from-self Inv-loop μ-loop
-element-set-from-self c = omega arith
+element-set-from-s : tie.Need-element-set-from-s Inv-loop μ-loop
+element-set-from-s c = omega arith
 
 add-i : tie.Need-add-i Inv-loop μ-loop
 add-i c = omega arith
@@ -39,10 +42,19 @@ loop-less : tie.Need-loop-less Inv-loop μ-loop
 loop-less c = omega arith
 
 loop-again : tie.Need-loop-again Inv-loop μ-loop
-loop-again c = stmts-on (c .before .before .before .loop .inv) (c .freed .result) (c .freed .ensures)
+loop-again c =
+    let a = c .before .before .before .before .before .before .args in
+    let turn = c .before .before .before .before .loop in
+    let l = turn .inv in
+    let x = getD (turn .s .stmts) (turn .i) noStmt in
+    let asked = sym (c .before .is-stmt .ensures) in
+    ⊎-elim
+    (λ w. rw (w .1) (stmts-on l noStmt (changes-it (isStmt (a .stmt)) (λ x. noStmt) x (asked ∙ w .0 .taken))))
+    (λ w. rw (w .1) (stmts-past l (sym (keeps-it (isStmt (a .stmt)) (λ x. noStmt) x (asked ∙ w .0 .left)))))
+    (c .if1 .came)
 
 returns : tie.Need-returns Inv-loop μ-loop
-returns c = let a = c .before .before .before .before .args in done (c .before .loop .inv) (c .loop-test .left) ∙ frees (a .t1) (a .stmt) _ (ap (withCursors (a .t1)) (c .before .before .without .ensures))
+returns c = let a = c .before .before .before .args in done (c .before .loop .inv) (c .loop-test .left) ∙ frees (a .self) (a .stmt) _ (c .before .before .end .ensures)
 
 pub free-spec : {M : Type 1} → statement M
 free-spec =
@@ -52,11 +64,11 @@ free-spec =
     μ-loop
     (λ c κs. search needs)
     loop-holds
-    mul-freed
-    element-copy-out-freed
+    mul-is-stmt
+    element-copy-out-is-stmt
     (λ c κs. search needs)
     mul-t14
-    element-set-from-self
+    element-set-from-s
     add-i
     loop-less
     loop-again
