@@ -7,18 +7,16 @@ use lib.IntN.{pos, negsuc}
 use mir.Syntax.{w64}
 use mir.Val.{Fits, SFits, boolByte}
 use mir.Facts.{toZ-ofZ}
-use mir.ValLaws.{ofZ-toZ}
 use native.Mathlib.Omega.{arith}
-use lib.Ieee.{Float, nan, inf, fin, Format, binary32, binary64, ofBits, toBits, nanBits, isNan, fits, ne, top}
+use lib.Ieee.{Float, nan, inf, fin, Format, binary32, ofBits, toBits, nanBits, isNan, fits, ne, top}
 use lib.Ieee.Compare.{differs-from-itself, nan-differs}
 use lib.Ieee.Bits.{toBits-ofBits, toBits-lt, nanBits-is}
 use Rattle.varint.proofs.PastLaws.{both}
 use Rattle.scalar.specs.Zigzag.{unzigzag}
 use Rattle.scalar.specs.Argument.{carried}
 use Rattle.scalar.specs.declared.argument.Argument.{Argument}
-use Rattle.scalar.specs.declared.argument.Argument.the-variants as Va
 use Rattle.karramotx.specs.Value.{numbered, refusedBy, valueOf}
-use Rattle.karramotx.specs.ValueRules.{DoublesKept, FloatsKept, SignedTold, SignedGiven}
+use Rattle.karramotx.specs.ValueRules.{SignedTold}
 
 -- the code's test for a NaN
 nan-is : isNan nan ≡ true
@@ -58,18 +56,9 @@ module _ (f : Format) (raw : ℕ → Argument) (number : Float → Argument) (ki
       go true e = a n
       go false e = b (ofBits f n) ∙ rw e (ap (numbered kind) (toBits-ofBits f n h (rw e tt)))
 
-pub double-kept : DoublesKept
-double-kept = kept binary64 Va.DoubleNan Va.Double 5 (λ n. refl) (λ d. refl)
-
-pub float-kept : FloatsKept
-float-kept = kept binary32 Va.FloatNan Va.Float 6 (λ n. refl) (λ d. refl)
-
 -- a sint that is read fits 64 bits
 signed-fits : (n : ℕ) → n < 2 ^ 64 → SFits w64 (unzigzag n)
 signed-fits n h = both (SFits w64) (eqb (n % 2) 0) (pos (n / 2)) (negsuc (n / 2)) (λ _. record { sfits = omega arith }) (λ _. record { sfits = omega arith })
 
 pub signed-told : SignedTold
 signed-told n h = toZ-ofZ (signed-fits n h)
-
-pub signed-given : SignedGiven
-signed-given bits h = ap (numbered 1) (ofZ-toZ w64 bits (record { fits = h }))

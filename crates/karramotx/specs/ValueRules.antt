@@ -1,32 +1,48 @@
--- What a host is told of an argument is what the frame carries.
+-- What a host is told of an argument is what the frame carries, and what a host gave.
 use Prim.Native.Nat.{ℕ, _^_, _<_}
 use mathlib.Core.Path.{_≡_}
+use mathlib.Core.Bool.{Bool, cond, _&&_, _||_}
 use mathlib.Core.List.{List}
+use lib.Dec.{ltb, eqb}
 use mir.Syntax.{w64}
 use mir.Val.{toZ}
 use Rattle.scalar.specs.Zigzag.{unzigzag}
-use Rattle.scalar.specs.Argument.{doubleOf, floatOf, reasonOf, signedOf, typeOf}
+use Rattle.scalar.specs.Argument.{reasonOf, signedOf, typeOf}
 use Rattle.scalar.specs.declared.argument.Argument.{Argument}
 use Rattle.args.specs.Arguments.{nextArgument, nextReason}
 use Rattle.args.specs.declared.arguments.NextArgument.{NextArgument}
 use Rattle.message.specs.Frame.{argumentOf}
-use Rattle.karramotx.specs.Given.{signedOfBits}
-use Rattle.karramotx.specs.Value.{nextValueOf, numbered, valueOf}
+use Rattle.karramotx.specs.Given.{givenArgument}
+use Rattle.karramotx.specs.Value.{nextValueOf, numbered, placed, refusedBy, valueOf}
+use Rattle.karramotx.specs.declared.given.Scalar.{Scalar}
+use Rattle.karramotx.specs.declared.value.Value.{Value}
 
--- "Doubles and floats are carried with every bit kept, NaNs too" (document 01)
-abbrev pub DoublesKept : Type 0
-DoublesKept = (bits : ℕ) → bits < 2 ^ 64 → valueOf (doubleOf bits) ≡ numbered 5 bits
+-- a scalar of this type
+abbrev pub is : ℕ → Scalar → Bool
+is kind s = eqb (s .kind) kind
 
-abbrev pub FloatsKept : Type 0
-FloatsKept = (bits : ℕ) → bits < 2 ^ 32 → valueOf (floatOf bits) ≡ numbered 6 bits
+-- what a host is told of a scalar that it gave, with n bytes beside it
+unfoldable pub given : Scalar → ℕ → Value
+given s n =
+    -- a sint, a uint, the bits of a double, and those of a float if they are 32: the number given
+    cond (is 1 s || is 2 s || is 5 s || (is 6 s && ltb (s .value) (2 ^ 32))) (numbered (s .kind) (s .value))
+    -- null has no number
+    (cond (is 3 s) (numbered 3 0)
+    -- a bool is 0, or 1 for any other number
+    (cond (is 7 s) (numbered 7 (cond (eqb (s .value) 0) 0 1))
+    -- octets and a string are the bytes: place 0, length n
+    (cond (is 4 s || is 8 s) (placed (s .kind) 0 n)
+    -- all else is refused
+    (refusedBy 6))))
+
+-- What a host gives is what a host is told. Of doubles and floats this is document 01's "every bit kept, NaNs too", and of those in
+-- frames as well: both are `doubleOf` and `floatOf` of the bits.
+abbrev pub GivenIsTold : Type 0
+GivenIsTold = (s : Scalar) (n : ℕ) → s .value < 2 ^ 64 → valueOf (givenArgument s n) ≡ given s n
 
 -- a sint is told in two's complement: as an int64_t it is the number
 abbrev pub SignedTold : Type 0
 SignedTold = (n : ℕ) → n < 2 ^ 64 → toZ w64 (valueOf (signedOf n) .value) ≡ unzigzag n
-
--- and one that a host gives in two's complement is told as it was given
-abbrev pub SignedGiven : Type 0
-SignedGiven = (bits : ℕ) → bits < 2 ^ 64 → valueOf (signedOfBits bits) ≡ numbered 1 bits
 
 -- document 01's number by which the argument is refused, and its Scalar type
 abbrev pub Told : Argument → Type 0
