@@ -1,5 +1,5 @@
 -- The short way for a message of two fields: what it finds, by the bytes alone. What it does not find the long way reads.
--- For private contracts; what is promised does not cite it.
+-- For contracts inside the library; it follows the code's tests, and what is promised does not cite it.
 use Prim.Native.Nat.{ℕ, _+_, _%_}
 use mathlib.Core.Bool.{cond}
 use mathlib.Core.List.{List}

@@ -1,4 +1,5 @@
--- A field list in the arrays that its reader notes it in. For private contracts; what is promised does not cite it.
+-- A field list in the arrays that its reader notes it in. For contracts inside the library; what is promised does not
+-- cite it.
 use Prim.Native.Nat.{ℕ}
 use mathlib.Core.Bool.{Bool, true, false, cond, not}
 use mathlib.Core.Path.{_≡_}

@@ -1,5 +1,5 @@
--- Open and Prepare from the numbers that their own fields give, with the statement still to be read. For private contracts; what
--- is promised does not cite it.
+-- Open and Prepare from the numbers that their own fields give, with the statement still to be read. For contracts inside the
+-- library; what is promised does not cite it.
 use Prim.Native.Nat.{ℕ}
 use mathlib.Core.Bool.{not}
 use mathlib.Core.List.{List}
