@@ -1,13 +1,12 @@
 -- Demand 3. The invariant ties the openings that the tally holds to the live cursors of the table: under every weight the two
 -- have the same sum. Assumes nothing.
-use Prim.Native.Nat.{ℕ, _+_, _-_, _≤_, min}
+use Prim.Native.Nat.{ℕ, _+_, _-_, min}
 use native.Mathlib.Nat.{le-trans}
 use native.Mathlib.Omega.{arith}
 use mathlib.Core.Bool.{Bool, true, false, cond, not, _&&_, or-false, true≢false}
 use mathlib.Core.Path.{_≡_, refl, sym, ap, subst, _∙_}
 use mathlib.Core.List.{List, [], _∷_}
-use lib.ListN.{length, getD, take, drop}
-use lib.Seq.{take-at}
+use lib.ListN.{length, getD, take}
 use lib.Dec.{eqb}
 use borrow.Author.Tests.{eqb-true, eq-eqb, ne-eqb, ltb-false}
 use Rattle.varint.specs.Put.{written}
@@ -20,29 +19,30 @@ use Rattle.session.specs.declared.Place.{Place}
 use Rattle.session.specs.declared.Session.{Session}
 use Rattle.session.specs.Lists.{sumBy, howMany, All, change, entryAt}
 use Rattle.session.specs.Entry.{noCursor, isCursor}
-use Rattle.session.specs.Tables.{maxCursors, cursorAt, cursorPlace, liveCursor}
+use Rattle.session.specs.Tables.{maxCursors, fresh, cursorAt, cursorPlace, liveCursor}
 use Rattle.session.specs.Sound.{Sound}
 use Rattle.session.proofs.PlaceLaws.{Passes, found}
 use Rattle.session.proofs.SumLaws.{one, sum-same, sum-map, sum-replicate, counted}
 use Rattle.session.proofs.TableLaws.{fresh-sound}
-use Rattle.reply.specs.declared.Reply.{Reply}
 use Rattle.reply.specs.Reply.{replyBytes}
 use Rattle.reply.specs.Frames.{holdsDone}
-use Rattle.reply.proofs.ReplyLaws.{fits-smallest, tells-done}
+use Rattle.reply.proofs.ReplyLaws.{tells-done}
 use Rattle.rules.specs.declared.Report.{Report}
 use Rattle.rules.specs.Kind.{isA, oneOf}
 use Rattle.rules.specs.Rows.{firstRow, rowCount, fetchCount, openCount}
 use Rattle.rules.specs.Ending.{endsIt, endsCursor}
 use Rattle.rules.specs.Refusal.{stepReason}
 use Rattle.rules.specs.Decision.{sessionAfter, markOf, reply}
-use Rattle.rules.specs.Step.{stepOn, short, minBuffer, stepOf}
+use Rattle.rules.specs.Step.{Step, replyOf, stepOn, short, minBuffer, stepOf}
+use Rattle.rules.proofs.BufferLaws.{mark-fits}
 use Rattle.rules.proofs.EndingLaws.{ends-as-listed}
 use Rattle.rules.proofs.KindLaws.{withKind, either}
 use Rattle.rules.proofs.RefusalLaws.{Looked, looked, passed}
-use Rattle.rules.proofs.StepLaws.{step-has, written-front}
+use Rattle.rules.proofs.StepLaws.{step-has, reply-front}
 use Rattle.rules.proofs.SoundLaws.{after-sound}
-use Rattle.history.specs.Tally.{Segment, Opening, Tally, sent, kept, endings, longer, withOpening, withRows, adds, fed}
-use Rattle.history.specs.History.{Input, State, Proper, Kept, Demand3, ReachesSound, FetchOfOne, next, nextBy, after, start}
+use Rattle.history.specs.Tally.{Segment, Opening, Tally, empty, sent, kept, endings, longer, withOpening, withRows, adds, fed}
+use Rattle.history.specs.Run.{Input, run, handedBack, told, tallied}
+use Rattle.history.specs.History.{State, reached, Proper, Kept, Demand3, ReachesSound, FetchOfOne}
 use Rattle.history.proofs.ListLaws.{sum-kept, sum-all, sum-only, all-kept, all-append, all-map, all-imp, all-both, all-zero}
 use Rattle.history.proofs.OpeningLaws.{sent-longer, goes-on, begins, sent-or-not}
 use Rattle.history.proofs.TableLaws.{Weight, weigh, table, off, plus, unless-own, ends-weigh, open-weigh, fetch-weigh}
@@ -75,7 +75,7 @@ keeps x h =
           );
     }
 
-starts : Inv start
+starts : Inv (record { session = fresh; tally = empty })
 unfolding All sumBy
 starts =
     record {
@@ -294,42 +294,44 @@ accepts s t m r d h l e =
 
 -- ---- steps
 
--- the bytes at the front of the buffer are the reply
-reply-front : (x : Reply) (buffer : List ℕ) → length (replyBytes x) ≤ length buffer →
-    take (length (replyBytes x)) (written buffer 0 (replyBytes x)) ≡ replyBytes x
-reply-front x buffer h =
-    ap (take (length (replyBytes x))) (written-front buffer (replyBytes x) h)
-    ∙ take-at (replyBytes x) (drop (length (replyBytes x)) buffer) (length (replyBytes x)) refl
-
 done-told : (mark : ℕ) (buffer : List ℕ) → short buffer ≡ false →
     holdsDone (take (length (replyBytes (reply mark))) (written buffer 0 (replyBytes (reply mark)))) ≡ eqb mark 3
 done-told mark buffer h =
     ap holdsDone
-    (reply-front (reply mark) buffer
-    (le-trans (fits-smallest (reply mark) (omega arith) (omega arith)) (ltb-false (length buffer) minBuffer h)))
+    (reply-front buffer (replyBytes (reply mark)) (le-trans (mark-fits mark) (ltb-false (length buffer) minBuffer h)))
     ∙ tells-done (reply mark)
 
-next-keeps : (x : State) (i : Input) → Inv x → Inv (next x i)
+-- the session that a step hands back, and the tally with what it told
+abbrev next : Input → Tally → Step → State
+next i t x = record { session = x .back .session; tally = fed (i .frame) (i .report) (x .back .answer) (replyOf x) t }
+
+step-keeps : (i : Input) (s : Session) (t : Tally) → Inv (record { session = s; tally = t }) →
+    Inv (next i t (stepOf s (i .frame) (i .report) (i .buffer)))
 unfolding stepOf fed
-next-keeps x i h =
-    let s = x .session in
+step-keeps i s t h =
     let m = messageOf (i .frame) in
     let r = i .report in
-    step-has (λ after. Inv (nextBy i (x .tally) after)) s m r (i .buffer)
+    step-has (λ x. Inv (next i t x)) s m r (i .buffer)
     (λ _. h)
-    (λ room e. accepts s (x .tally) m r _ h (looked s m (passed s m r e .look)) (done-told (markOf s m r) (i .buffer) room))
+    (λ room e. accepts s t m r _ h (looked s m (passed s m r e .look)) (done-told (markOf s m r) (i .buffer) room))
     (λ _ some. rw (ne-eqb (stepReason s m r) 0 some) h)
 
-after-keeps : (steps : List Input) (x : State) → Inv x → Inv (after steps x)
-unfolding after
-after-keeps [] x h = h
-after-keeps (i ∷ steps) x h = after-keeps steps (next x i) (next-keeps x i h)
+run-keeps : (is : List Input) (s : Session) (t : Tally) → Inv (record { session = s; tally = t }) →
+    Inv (record { session = handedBack s (run s is); tally = tallied t (told is (run s is)) })
+unfolding run handedBack told tallied
+run-keeps [] s t h = h
+run-keeps (i ∷ is) s t h =
+    let x = stepOf s (i .frame) (i .report) (i .buffer) in
+    run-keeps is (x .back .session) (next i t x .tally) (step-keeps i s t h)
+
+holds : (steps : List Input) → Inv (reached steps)
+holds steps = run-keeps steps fresh empty starts
 
 pub demand-3 : Demand3
-demand-3 steps = keeps (after steps start) (after-keeps steps start starts)
+demand-3 steps = keeps (reached steps) (holds steps)
 
 pub reaches-sound : ReachesSound
-reaches-sound steps = after-keeps steps start starts .sound
+reaches-sound steps = holds steps .sound
 
 -- ---- an accepted Fetch is of one opening
 
@@ -358,12 +360,14 @@ one-opening x h k live =
       counted (isCursor k) noCursor (x .session .cursors) (l .place) (l .passes),
     )
 
+fetch-live : (s : Session) (m : Message) → m .kind ≡ fetch → Looked s m → not (liveCursor s (m .cursor) .live) ≡ false
+fetch-live s m e l =
+    ap (λ (k : ℕ). oneOf fetch close (withKind m k) && not (liveCursor s (m .cursor) .live)) (sym e) ∙ l .cursorLive
+
 pub fetch-of-one : FetchOfOne
 unfolding stepOf
 fetch-of-one steps i h =
-    let x = after steps start in
+    let s = reached steps .session in
     let m = messageOf (i .frame) in
-    one-opening x (after-keeps steps start starts) (m .cursor) (live m (h .fetches) (accepts-look (x .session) m (i .report) (i .buffer) (h .accepted)))
-  where
-    live : (m : Message) → m .kind ≡ fetch → Looked (after steps start .session) m → not (liveCursor (after steps start .session) (m .cursor) .live) ≡ false
-    live m e l = ap (λ (k : ℕ). oneOf fetch close (withKind m k) && not (liveCursor (after steps start .session) (m .cursor) .live)) (sym e) ∙ l .cursorLive
+    one-opening (reached steps) (holds steps) (m .cursor)
+    (fetch-live s m (h .fetches) (accepts-look s m (i .report) (i .buffer) (h .accepted)))

@@ -28,8 +28,9 @@ use Rattle.reply.specs.Reply.{replyBytes}
 use Rattle.rules.specs.Refusal.{lookReason, reportReason}
 use Rattle.rules.specs.Rows.{firstRow, rowCount, sendsColumns}
 use Rattle.rules.specs.Decision.{sessionAfter, markOf, named, wireCode, refusedReply, decisionOf}
-use Rattle.rules.specs.Step.{Step, stepOn, stepOf}
-use Rattle.history.specs.History.{replyOf, after, start}
+use Rattle.rules.specs.Step.{Step, replyOf, stepOn, stepOf}
+use Rattle.history.specs.Run.{run, handedBack}
+use Rattle.history.specs.History.{reached}
 use Rattle.history.specs.Samples.{prepareOne, openOne, fetchOne, SamplesShown}
 
 -- ---- the Open frame
@@ -79,7 +80,7 @@ open-read = open-is
 
 -- the session after the Prepare, and after it and an Open that was read as m
 abbrev prepared : Session
-prepared = after (prepareOne 5 ∷ []) start .session
+prepared = reached (prepareOne 5 ∷ []) .session
 
 abbrev openStep : ℕ → Message → Step
 openStep rows m = stepOn prepared m (openOne rows .report) (openOne rows .buffer)
@@ -92,7 +93,7 @@ abbrev reasonOf : Step → ℕ
 reasonOf x = x .back .answer .reason
 
 pub samples-shown : SamplesShown
-unfolding All stepOf decisionOf lookReason reportReason sessionAfter markOf firstRow rowCount sendsColumns refusedReply wireCode named messageOf messageIn deallocateMessage prepareMessage fetchMessage bodyIn argumentsWithin argumentsFrom placeFrom nextArgument together groups little fieldAt fieldsFrom hasRequired rowFor rowsOf after first replyBytes text digits errorPayload numberField bytesField shortest
+unfolding All stepOf decisionOf lookReason reportReason sessionAfter markOf firstRow rowCount sendsColumns refusedReply wireCode named messageOf messageIn deallocateMessage prepareMessage fetchMessage bodyIn argumentsWithin argumentsFrom placeFrom nextArgument together groups little fieldAt fieldsFrom hasRequired rowFor rowsOf run handedBack first replyBytes text digits errorPayload numberField bytesField shortest
 samples-shown = (
   (refl, refl),
   (

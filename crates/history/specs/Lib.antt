@@ -1,3 +1,4 @@
 pub mod Tally
+pub mod Run
 pub mod History
 pub mod Samples

@@ -8,16 +8,18 @@ use Rattle.varint.specs.Varint.{varintAt}
 use Rattle.session.specs.Lists.{All}
 use Rattle.reply.specs.Frame.{fetchDone, fetchSuspended, stmtExecuteOk, errorFrame}
 use Rattle.reply.specs.Text.{text}
-use Rattle.rules.specs.Step.{Step, minBuffer, stepOf}
-use Rattle.history.specs.History.{Input, replyOf, after, start}
+use Rattle.rules.specs.Step.{Step, replyOf, minBuffer, stepOf}
+use Rattle.history.specs.Run.{Input}
+use Rattle.history.specs.History.{reached}
 
--- the last of some steps from a fresh session, with the reason and the reply that it gives; or a varint, with what it reads as
+-- the last of some steps from a fresh session, with the reason and the reply that it gives; or a varint, with what it
+-- reads as
 pub data Sample : Type 0 where
   step : List Input → Input → ℕ → List ℕ → Sample
   number : List ℕ → Varint → Sample
 
 abbrev pub lastStep : List Input → Input → Step
-lastStep before i = stepOf (after before start .session) (i .frame) (i .report) (i .buffer)
+lastStep before i = stepOf (reached before .session) (i .frame) (i .report) (i .buffer)
 
 abbrev pub Shown : Sample → Type 0
 Shown (step before i reason reply) =

@@ -1,5 +1,5 @@
--- The tally (document 01, "The tally"): it "starts empty and is fed each step's frame, report and answer (accepted is reason 0),
--- nothing of the session". Of the reply's bytes it takes whether they hold FetchDone.
+-- The tally (document 01, "The tally"): it "starts empty and is fed each step's frame, report and answer (accepted is
+-- reason 0), nothing of the session". Of the reply's bytes it takes whether they hold FetchDone.
 use Prim.Native.Nat.{ℕ, _+_, _-_}
 use mathlib.Core.Bool.{Bool, cond, not}
 use mathlib.Core.List.{List, [], _∷_, _++_}
@@ -20,7 +20,8 @@ pub record Segment : Type 0 where
   pub count : ℕ
   pub done : Bool
 
--- an opening: "its two ids, the report's rows, the rows its answer sends", and those that fetches added, in the order sent
+-- an opening: "its two ids, the report's rows, the rows its answer sends", and those that fetches added, in the order
+-- sent
 pub record Opening : Type 0 where
   pub cursor : ℕ
   pub stmt : ℕ

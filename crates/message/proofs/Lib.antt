@@ -2,3 +2,4 @@ pub mod HeadLaws
 pub mod MessageLaws
 pub mod WithinLaws
 pub mod ArrayLaws
+pub mod UsedLaws

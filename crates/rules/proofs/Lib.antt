@@ -1,3 +1,4 @@
+pub mod BufferLaws
 pub mod EndingLaws
 pub mod KindLaws
 pub mod LookLaws
@@ -6,3 +7,4 @@ pub mod RefusalLaws
 pub mod ReportLaws
 pub mod SoundLaws
 pub mod StepLaws
+pub mod WholeLaws

@@ -5,7 +5,8 @@ use native.Mathlib.Omega.{arith}
 use mathlib.Core.Bool.{Bool, true, false, _&&_, _||_}
 use mathlib.Core.Path.{_≡_, refl, sym, ap, _∙_}
 use mathlib.Core.List.{List, [], _∷_, _++_}
-use lib.ListN.{length, getD, drop}
+use lib.ListN.{length, getD, take, drop}
+use lib.Seq.{take-at}
 use lib.Dec.{eqb, leb}
 use borrow.Author.Tests.{eqb-true, eqb-false, lt-ltb, le-ltb, ltb-false, le-leb, leb-true}
 use Rattle.varint.specs.Put.{written}
@@ -77,6 +78,19 @@ written-none b = rw (le-leb (0 + 0) (length b) (omega arith))
 pub written-front : (b bs : List ℕ) → length bs ≤ length b → written b 0 bs ≡ bs ++ drop (length bs) b
 written-front b bs h = rw (zero-add, le-leb (length bs) (length b) h)
 
+-- the bytes at the front of the buffer are the reply
+pub reply-front : (b bs : List ℕ) → length bs ≤ length b → take (length bs) (written b 0 bs) ≡ bs
+reply-front b bs h = ap (take (length bs)) (written-front b bs h) ∙ take-at bs (drop (length bs) b) (length bs) refl
+
+abbrev pub errorReply : Message → Report → ℕ → Reply
+errorReply m r reason =
+    record { mark = 5; reason = reason; code = wireCode r reason; number = named m reason; kind = m .args .kind }
+
+pub error-fits : (s : Session) (m : Message) (r : Report) → Read m → length (replyBytes (errorReply m r (stepReason s m r))) ≤ minBuffer
+error-fits s m r read =
+    let n = stepReason s m r in
+    fits-smallest (errorReply m r n) (wire-small r n (code-small s m r read)) (named-small m read n)
+
 unchanged : (s : Session) (m : Message) (buffer : List ℕ) (n : ℕ) (error : Reply) → Unchanged s (stepBy m buffer (refusedBy s n error))
 unchanged s m buffer n error = record { session = refl; columns = refl; first = refl; count = refl }
 
@@ -94,12 +108,10 @@ module _ (s : Session) (m : Message) (r : Report) (buffer : List ℕ) (read : Re
       (record { used = read .unused (low-unread s m r read h some); reply = refl; kept = written-none buffer })
 
   abbrev error : Reply
-  error = record { mark = 5; reason = reason; code = wireCode r reason; number = named m reason; kind = m .args .kind }
+  error = errorReply m r reason
 
   fits : length (replyBytes error) ≤ length buffer
-  fits =
-      le-trans (fits-smallest error (wire-small r reason (code-small s m r read)) (named-small m read reason))
-      (ltb-false (length buffer) minBuffer room)
+  fits = le-trans (error-fits s m r read) (ltb-false (length buffer) minBuffer room)
 
   replies : (bytes : List ℕ) → bytes ≡ replyBytes error → Replies bytes buffer (stepBy m buffer (refusedBy s reason error))
   replies bytes e =

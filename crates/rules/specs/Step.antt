@@ -2,7 +2,7 @@
 use Prim.Native.Nat.{ℕ}
 use mathlib.Core.Bool.{Bool, false, cond}
 use mathlib.Core.List.{List}
-use lib.ListN.{length}
+use lib.ListN.{length, take}
 use lib.Dec.{ltb}
 use Rattle.varint.specs.Put.{written}
 use Rattle.message.specs.Frame.{messageOf}
@@ -23,6 +23,10 @@ lookAt s frame = lookOf s (messageOf frame)
 pub record Step : Type 0 where
   pub back : Stepped
   pub buffer : List ℕ
+
+-- the reply: as many bytes of the buffer after the step as the answer says
+abbrev pub replyOf : Step → List ℕ
+replyOf after = take (after .back .answer .reply) (after .buffer)
 
 -- 3 "reply buffer below 128 bytes"
 abbrev pub minBuffer : ℕ

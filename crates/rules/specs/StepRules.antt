@@ -15,7 +15,7 @@ use Rattle.rules.specs.declared.Report.{Report}
 use Rattle.rules.specs.declared.Answer.{Answer}
 use Rattle.rules.specs.Ending.{cursorsAfter}
 use Rattle.rules.specs.Decision.{sessionAfter, named, wireCode}
-use Rattle.rules.specs.Step.{Step, minBuffer, lookAt, stepOf}
+use Rattle.rules.specs.Step.{Step, replyOf, minBuffer, lookAt, stepOf}
 
 abbrev pub answer : Step → Answer
 answer after = after .back .answer
@@ -90,3 +90,18 @@ KeepsSound =
 abbrev pub EndsAsListed : Type 0
 EndsAsListed =
     (s : Session) (m : Message) (r : Report) → Sound s → sessionAfter s m r .cursors ≡ cursorsAfter s m r
+
+-- what a host has of a step: the answer, the session and the reply
+pub record Outcome : Type 0 where
+  pub answer : Answer
+  pub session : Session
+  pub reply : List ℕ
+
+abbrev pub outcome : Step → Outcome
+outcome after = record { answer = answer after; session = after .back .session; reply = replyOf after }
+
+-- with 128 bytes or more, neither the length of a reply buffer nor what it held before makes a difference
+abbrev pub BufferMakesNoDifference : Type 0
+BufferMakesNoDifference =
+    (s : Session) (frame : List ℕ) (r : Report) (buffer other : List ℕ) → minBuffer ≤ length buffer → minBuffer ≤ length other →
+    outcome (stepOf s frame r buffer) ≡ outcome (stepOf s frame r other)
