@@ -1,0 +1,4 @@
+pub mod FrontLaws
+pub mod RoomLaws
+pub mod ReaderLaws
+pub mod HeldLaws

@@ -1,0 +1,150 @@
+-- What a push and a next_frame answer, case by case. Assumes nothing.
+use Prim.Native.Nat.{ℕ, _+_, _-_, _≤_, _<_, min}
+use native.Mathlib.Nat.{add-zero}
+use native.Mathlib.Omega.{arith}
+use mathlib.Core.Bool.{Bool, true, false, _&&_}
+use mathlib.Core.Path.{_≡_, refl, sym, ap, _∙_}
+use mathlib.Core.List.{List, []}
+use lib.ListN.{length, take, drop, length-drop}
+use lib.Seq.{length-take-le}
+use lib.Dec.{leb, eqb}
+use borrow.Author.Tests.{le-leb, lt-leb, eq-eqb, ne-eqb}
+use Rattle.varint.specs.Put.{written}
+use Rattle.varint.proofs.PutLaws.{put-fits}
+use Rattle.args.proofs.PartLaws.{yes, no}
+use Rattle.message.specs.declared.head.Head.{Head}
+use Rattle.message.specs.Head.{headOf}
+use Rattle.message.specs.Numbers.{headReason}
+use Rattle.message.proofs.WithinLaws.{frame-within}
+use Rattle.arrivals.specs.Reader.{lengthBytes, badLength, standsFirst, reader, startOver, between, part, isPart}
+use Rattle.arrivals.specs.Reader.{usable, settled, nextBy, nextAt, nextOf}
+use Rattle.arrivals.specs.Reader.{Push, taken, readerFor, storeFor, pushedTo, behind, pushOn, pushAt, pushOf}
+use Rattle.arrivals.specs.declared.Reader.{Reader}
+
+-- ---- what stands first
+
+pub stands-as : (s : List ℕ) {h : Head} → h ≡ headOf s → headReason h ≡ standsFirst s
+unfolding standsFirst
+stands-as s e = ap headReason e
+
+-- ---- the bytes from one place up to another
+
+pub length-between : (store : List ℕ) (start end : ℕ) → end ≤ length store →
+    length (between store start end) ≡ end - start
+length-between store start end h = length-take-le (end - start) (drop start store) (rw length-drop (omega arith))
+
+-- a frame that stands first ends within them
+pub frame-fits : (store : List ℕ) (start end : ℕ) {kind len : ℕ} → start ≤ end → end ≤ length store →
+    Head.Frame kind len ≡ headOf (between store start end) → start + len ≤ end
+frame-fits store start end a b e =
+    omega (arith, frame-within (between store start end) e, length-between store start end b)
+
+-- ---- a bad length, or none
+
+module _ (store : List ℕ) (start end : ℕ) {first : ℕ} (e : first ≡ standsFirst (between store start end)) where
+  pub settled-bad : first ≡ badLength → reader start (start + lengthBytes) ≡ settled store (reader start end)
+  settled-bad h =
+      yes (reader start (start + lengthBytes)) (reader start end)
+      (eq-eqb (standsFirst (between store start end)) badLength (sym e ∙ h))
+
+  pub settled-not : (first ≡ badLength → ⊥) → reader start end ≡ settled store (reader start end)
+  settled-not h =
+      no (reader start (start + lengthBytes)) (reader start end)
+      (ne-eqb (standsFirst (between store start end)) badLength (λ z. h (e ∙ z)))
+
+-- ---- which readers are parts of the store
+
+module _ (store : List ℕ) (r : Reader) where
+  pub is-part : r .start ≤ r .end → r .end ≤ length store → isPart store r ≡ true
+  is-part a b = rw (le-leb (r .start) (r .end) a, le-leb (r .end) (length store) b)
+
+  pub is-reversed : r .end < r .start → isPart store r ≡ false
+  is-reversed a = rw (lt-leb (r .start) (r .end) a)
+
+  pub is-past : r .start ≤ r .end → length store < r .end → isPart store r ≡ false
+  is-past a b = rw (le-leb (r .start) (r .end) a, lt-leb (r .end) (length store) b)
+
+  pub usable-part : isPart store r ≡ true → r ≡ usable store r
+  usable-part = yes r startOver
+
+  pub usable-none : isPart store r ≡ false → startOver ≡ usable store r
+  usable-none = no r startOver
+
+-- ---- the next frame
+
+pub empty-waits : (store : List ℕ) → nextAt [] startOver ≡ nextAt store startOver
+unfolding standsFirst
+empty-waits store = refl
+
+pub next-none : (store : List ℕ) (r : Reader) → isPart store r ≡ false → nextAt [] startOver ≡ nextOf r store
+unfolding nextOf
+next-none store r e = empty-waits store ∙ ap (nextAt store) (usable-none store r e)
+
+pub next-by : (store : List ℕ) (r : Reader) {h : Head} → isPart store r ≡ true → h ≡ headOf (part store r) →
+    nextBy store r h ≡ nextOf r store
+unfolding nextOf
+next-by store r e g = ap (nextBy store r) g ∙ ap (nextAt store) (usable-part store r e)
+
+-- ---- an arrival
+
+written-nothing : (b : List ℕ) (at : ℕ) → at ≤ length b → b ≡ written b at []
+written-nothing b at h = put-fits b at [] (omega arith) .1
+
+-- n bytes of the arrival, put behind the bytes held where there was room or room was made
+pub push-as : (store : List ℕ) (r : Reader) (arrival : List ℕ) {n : ℕ} {place : Reader} {moved after : List ℕ} →
+    n ≤ length arrival → n ≡ taken (length store) (part store r) arrival → place ≡ readerFor store r n →
+    moved ≡ storeFor store r n →
+    after ≡ written moved (place .end) (take n arrival) →
+    pushedTo after (reader (place .start) (place .end + n)) n ≡ pushAt store r arrival
+unfolding pushAt
+push-as store r arrival {n} {place} {moved} {after} h e p m w =
+    ap (λ (k : ℕ). pushedTo after (reader (place .start) (place .end + k)) k) (sym (length-take-le n arrival h))
+    ∙ ap (λ (s : List ℕ). pushedTo s (reader (place .start) (place .end + length (take n arrival)))
+    (length (take n arrival))) w
+    ∙ ap (λ (s : List ℕ). behind s place (take n arrival)) m
+    ∙ ap (λ (q : Reader). behind (storeFor store r n) q (take n arrival)) p
+    ∙ ap (pushOn store r arrival) e
+
+module _ (store : List ℕ) (start end : ℕ) (arrival : List ℕ)
+    (part-of : (start ≤ end) × (end ≤ length store)) {first : ℕ}
+    (e : first ≡ standsFirst (between store start end)) where
+  -- a bad length stands first: nothing is taken
+  pub push-bad : first ≡ badLength →
+      _≡_ {A = Push}
+      (record {
+        answer = record { reader = reader start (start + lengthBytes); reason = badLength; count = 0 };
+        store = store;
+      }) (pushAt store (reader start end) arrival)
+  push-bad h =
+      let r = reader start end in
+      let none =
+      yes 0 (min (length arrival) (length store - length (part store r)))
+      (eq-eqb (standsFirst (between store start end)) badLength (sym e ∙ h)) in
+      let fits = le-leb (end + 0) (length store) (omega (arith, part-of .1)) in
+      ap (λ (q : Reader). record { answer = record { reader = q; reason = badLength; count = 0 }; store = store })
+      (settled-bad store start end e h)
+      ∙ ap (λ (n : ℕ). record { answer = record { reader = settled store r; reason = n; count = 0 }; store = store })
+      (sym h ∙ e)
+      ∙ ap (λ (k : ℕ). pushedTo store (reader start k) 0) (sym (add-zero end))
+      ∙ push-as store r arrival (omega arith) none (yes r (reader 0 (end - start)) fits)
+      (yes store (written store 0 (part store r)) fits) (written-nothing store end (part-of .1))
+
+  -- none does: what there is room for
+  pub taken-room : (first ≡ badLength → ⊥) → {n : ℕ} → n ≡ min (length arrival) (length store - (end - start)) →
+      n ≡ taken (length store) (part store (reader start end)) arrival
+  taken-room h {n} g =
+      g
+      ∙ ap (λ (k : ℕ). min (length arrival) (length store - k)) (sym (length-between store start end (part-of .1)))
+      ∙ no 0 (min (length arrival) (length store - length (between store start end)))
+      (ne-eqb (standsFirst (between store start end)) badLength (λ z. h (e ∙ z)))
+
+-- the bytes held are those of a part of the store, or none
+pub push-part : (store : List ℕ) (r : Reader) (arrival : List ℕ) → isPart store r ≡ true →
+    pushAt store r arrival ≡ pushOf r arrival store
+unfolding pushOf
+push-part store r arrival e = ap (λ (q : Reader). pushAt store q arrival) (usable-part store r e)
+
+pub push-none : (store : List ℕ) (r : Reader) (arrival : List ℕ) → isPart store r ≡ false →
+    pushAt store startOver arrival ≡ pushOf r arrival store
+unfolding pushOf
+push-none store r arrival e = ap (λ (q : Reader). pushAt store q arrival) (usable-none store r e)

@@ -1,0 +1,18 @@
+-- `arrivals::waiting` meets its contract: of nothing, nothing is handed out. Assumes nothing.
+use mathlib.Core.Path.{ap}
+use borrow.Author.Needs.{needs}
+use Rattle.arrivals.specs.Reader.{standsFirst}
+use Rattle.arrivals.specs.declared.Reader.{Reader}
+use Rattle.arrivals.specs.declared.NextFrame.{NextFrame}
+use Rattle.arrivals.proofs.waiting.Statement.{statement}
+use Rattle.arrivals.proofs.waiting.Tie as tie
+
+abbrev at : Reader → NextFrame
+at r = record { reader = r; reason = 1; start = 0; len = 0; kind = 0 }
+
+returns : tie.Need-returns
+unfolding standsFirst
+returns c = ap at (c .start-over .ensures)
+
+pub waiting-spec : {M : Type 1} → statement M
+waiting-spec = tie.close (tie.spec (λ c κs. search needs) returns)

@@ -1,0 +1,195 @@
+// Frames as they arrive: bytes come in, cut anywhere, and whole frames go out. What has come in and has not gone
+// out is held in a store that the caller lends and that only these functions write.
+ghost use mathlib.Core.Path.{_≡_};
+ghost use Prim.Native.Nat.{_≤_, min};
+ghost use mathlib.Core.List.{[]};
+ghost use lib.ListN.{length};
+ghost use Rattle.arrivals.specs.Reader.{nextAt, nextOf, pushAt, pushOf, reader, settled, standsFirst, startOver};
+use message::head::Head;
+use room::make_room;
+
+pub mod room;
+
+// The bytes of a store: the longest frame fills it.
+pub const STORE: usize = 65536;
+
+// The refusals: a frame that is not all there, and a bad length.
+pub const WAIT_FOR_MORE: u64 = 1;
+
+pub const BAD_LENGTH: u64 = 2;
+
+// The bytes of a frame's length.
+const LENGTH_BYTES: usize = 4;
+
+// The bytes held are those of the store from `start` up to `end`. Two numbers that are no such part hold nothing.
+#[repr(C)]
+pub struct Reader {
+    pub start: usize,
+    pub end: usize,
+}
+
+// What a push answers: the reader after it, what stands first then, and how many bytes were taken.
+#[repr(C)]
+pub struct Pushed {
+    pub reader: Reader,
+    pub reason: u64,
+    pub count: usize,
+}
+
+// A frame handed out, with its place in the store, its length and its type byte; or the reason that there is none.
+#[repr(C)]
+pub struct NextFrame {
+    pub reader: Reader,
+    pub reason: u64,
+    pub start: usize,
+    pub len: usize,
+    pub kind: u64,
+}
+
+// A reader that holds nothing.
+pub fn start_over() -> Reader
+    ensures { λ r. ⌜ r ≡ startOver ⌝ }
+{
+    Reader { start: 0, end: 0 }
+}
+
+// An arrival, taken as far as there is room beside the bytes held.
+pub fn push(reader: Reader, arrival: &[u8], store: &mut [u8; STORE]) -> Pushed
+    ensures answer { λ r. ⌜ r ≡ pushOf reader (now (arrival .entry)) (now (store .entry)) .answer ⌝ }
+    ensures kept { λ r. ⌜ now (store .exit) ≡ pushOf reader (now (arrival .entry)) (now (store .entry)) .store ⌝ }
+{
+    push_into(reader, arrival, store)
+}
+
+// The frame that stands first, handed out.
+pub fn next_frame(reader: Reader, store: &[u8; STORE]) -> NextFrame
+    ensures { λ r. ⌜ r ≡ nextOf reader (now (store .entry)) ⌝ }
+{
+    next_in(reader, store)
+}
+
+// A cast of a byte that asks nothing.
+fn wide(b: u8) -> u64
+    ensures { λ r. ⌜ r ≡ b ⌝ }
+{
+    b as u64
+}
+
+fn lesser(a: usize, b: usize) -> usize
+    ensures { λ r. ⌜ r ≡ min a b ⌝ }
+{
+    if a < b { a } else { b }
+}
+
+// What stands first: 0 a whole frame, 1 wait for more, 2 a bad length.
+fn stands_first(s: &[u8]) -> u64
+    ensures { λ r. ⌜ r ≡ standsFirst (now (s .entry)) ⌝ }
+{
+    match message::head::read_head(s) {
+        Head::Frame { kind: _, end: _ } => 0,
+        Head::Refused(reason) => reason,
+    }
+}
+
+// The bytes from `start` up to `end` are held, but of a bad length that stands first only its four bytes.
+fn settle(store: &[u8], start: usize, end: usize) -> Reader
+    requires { ⌜ (start ≤ end) × (end ≤ length (now store)) ⌝ }
+    ensures { λ r. ⌜ r ≡ settled (now (store .entry)) (reader start end) ⌝ }
+{
+    let first = stands_first(&store[start..end]);
+    if first == BAD_LENGTH {
+        return Reader {
+            start,
+            end: start + LENGTH_BYTES,
+        };
+    }
+    Reader { start, end }
+}
+
+// Nothing is handed out, since nothing is held.
+fn waiting() -> NextFrame
+    ensures { λ r. ⌜ r ≡ nextAt [] startOver ⌝ }
+{
+    NextFrame {
+        reader: start_over(),
+        reason: WAIT_FOR_MORE,
+        start: 0,
+        len: 0,
+        kind: 0,
+    }
+}
+
+// A store of any length.
+fn next_in(reader: Reader, store: &[u8]) -> NextFrame
+    ensures { λ r. ⌜ r ≡ nextOf reader (now (store .entry)) ⌝ }
+{
+    let start = reader.start;
+    let end = reader.end;
+    if end < start {
+        return waiting();
+    }
+    if store.len() < end {
+        return waiting();
+    }
+    match message::head::read_head(&store[start..end]) {
+        Head::Frame { kind, end: len } => NextFrame {
+            reader: settle(store, start + len, end),
+            reason: 0,
+            start,
+            len,
+            kind: wide(kind),
+        },
+        Head::Refused(reason) => NextFrame {
+            reader: settle(store, start, end),
+            reason,
+            start: 0,
+            len: 0,
+            kind: 0,
+        },
+    }
+}
+
+// The bytes held are those from `start` up to `end`.
+fn push_at(start: usize, end: usize, arrival: &[u8], store: &mut [u8]) -> Pushed
+    requires { ⌜ (start ≤ end) × (end ≤ length (now store)) ⌝ }
+    ensures answer { λ r. ⌜ r ≡ pushAt (now (store .entry)) (reader start end) (now (arrival .entry)) .answer ⌝ }
+    ensures kept { λ r. ⌜ now (store .exit) ≡ pushAt (now (store .entry)) (reader start end) (now (arrival .entry)) .store ⌝ }
+{
+    if stands_first(&store[start..end]) == BAD_LENGTH {
+        return Pushed {
+            reader: Reader {
+                start,
+                end: start + LENGTH_BYTES,
+            },
+            reason: BAD_LENGTH,
+            count: 0,
+        };
+    }
+    let n = lesser(arrival.len(), store.len() - (end - start));
+    let room = make_room(Reader { start, end }, n, store);
+    let from = room.start;
+    let at = room.end;
+    reply::put::write_bytes(store, at, &arrival[..n]);
+    let to = at + n;
+    Pushed {
+        reader: settle(store, from, to),
+        reason: stands_first(&store[from..to]),
+        count: n,
+    }
+}
+
+// A store of any length.
+fn push_into(reader: Reader, arrival: &[u8], store: &mut [u8]) -> Pushed
+    ensures answer { λ r. ⌜ r ≡ pushOf reader (now (arrival .entry)) (now (store .entry)) .answer ⌝ }
+    ensures kept { λ r. ⌜ now (store .exit) ≡ pushOf reader (now (arrival .entry)) (now (store .entry)) .store ⌝ }
+{
+    let start = reader.start;
+    let end = reader.end;
+    if end < start {
+        return push_at(0, 0, arrival, store);
+    }
+    if store.len() < end {
+        return push_at(0, 0, arrival, store);
+    }
+    push_at(start, end, arrival, store)
+}

@@ -1,0 +1,4 @@
+pub mod StreamLaws
+pub mod ReadingLaws
+pub mod DividedLaws
+pub mod DemandLaws

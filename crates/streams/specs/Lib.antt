@@ -1,0 +1,5 @@
+pub mod Reading
+pub mod Stream
+pub mod Arrivals
+pub mod Divided
+pub mod Demands
