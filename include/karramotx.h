@@ -46,7 +46,8 @@ enum {
     KARRAMOTX_MAX_STMTS = 64,      /* statements of a session */
     KARRAMOTX_MAX_CURSORS = 16,    /* cursors of a session */
     KARRAMOTX_MIN_REPLY = 128,     /* the shortest reply buffer that a step takes; every reply fits it */
-    KARRAMOTX_MAX_FRAME = 65536    /* the longest frame, its four bytes of length included */
+    KARRAMOTX_MAX_FRAME = 65536,   /* the longest frame, its four bytes of length included */
+    KARRAMOTX_STORE = 65536        /* the store of a reader of arrivals */
 };
 
 /* ---- Message types ---- */
@@ -157,6 +158,93 @@ KARRAMOTX_FIELD(karramotx_counts, cursors, 8);
 KARRAMOTX_FIELD(karramotx_counts, owed, 16);
 
 struct karramotx_counts karramotx_counts(const struct karramotx_session *session);
+
+/* ---- Frames as they arrive ---- */
+
+/*
+ * A reader takes bytes as they arrive, cut anywhere, and hands out whole frames. What has arrived and has not
+ * been handed out is held in a store of yours that only the reader writes; the reader itself is two numbers.
+ * A server's loop, for one connection:
+ *
+ *     uint8_t store[KARRAMOTX_STORE];
+ *     struct karramotx_reader reader = karramotx_start_over();
+ *     while ((got = recv(fd, bytes, sizeof bytes, 0)) > 0) {
+ *         for (size_t at = 0; at < (size_t)got;) {
+ *             struct karramotx_pushed pushed = karramotx_push(reader, bytes + at, (size_t)got - at, store);
+ *             struct karramotx_next_frame next;
+ *             reader = pushed.reader;
+ *             at += pushed.count;
+ *             while ((next = karramotx_next_frame(reader, store)).reason == KARRAMOTX_ACCEPTED) {
+ *                 reader = next.reader;
+ *                 look, work, step and send, on the frame at store + next.start of next.len bytes
+ *             }
+ *             reader = next.reader;
+ *             if (next.reason == KARRAMOTX_BAD_LENGTH)
+ *                 give up the connection
+ *         }
+ *     }
+ *
+ * At 1, KARRAMOTX_NOT_ALL_THERE, nothing is wrong: wait for the next arrival. There is then room for at least
+ * one byte more, so the loop goes on. An arrival is taken whole unless the store is full or a bad length
+ * stands first; `count` says how far, and what was not taken is yours to push again.
+ *
+ * At 2, KARRAMOTX_BAD_LENGTH, nothing behind the length can be read. The frames ahead of it have been handed
+ * out. The store then holds its four bytes alone, what stood behind them is dropped, and every push takes 0
+ * and every next_frame answers 2 until karramotx_start_over. Close the connection, or start over where you
+ * know that the next byte begins a frame.
+ *
+ * A frame that was handed out stays where it is until the next push. So a step that was refused 3 can be made
+ * again with a longer reply buffer. A step on it is never refused 1 or 2, and uses all of it.
+ *
+ * The reader knows no session: frames behind a Session close are handed out too, and a step refuses them 4.
+ * `kind` is the type byte of any frame, so that you can route what is none of the eight messages here.
+ *
+ * Handing out a frame moves no bytes, and a push moves the held bytes at most once, only where the room behind
+ * them is too small. Where all whole frames are handed out before the next push, as above, the cost is linear
+ * in the bytes that arrive.
+ */
+struct karramotx_reader {
+    size_t start;                  /* the bytes held are store[start] ... */
+    size_t end;                    /* ... to store[end - 1]; two numbers that are no such part hold nothing */
+};
+KARRAMOTX_SIZE(karramotx_reader, 16);
+KARRAMOTX_FIELD(karramotx_reader, start, 0);
+KARRAMOTX_FIELD(karramotx_reader, end, 8);
+
+struct karramotx_pushed {
+    struct karramotx_reader reader;       /* the reader after it */
+    uint64_t reason;               /* what stands first now: 0 a whole frame, 2 a bad length, 1 neither */
+    size_t count;                  /* bytes taken */
+};
+KARRAMOTX_SIZE(karramotx_pushed, 32);
+KARRAMOTX_FIELD(karramotx_pushed, reader, 0);
+KARRAMOTX_FIELD(karramotx_pushed, reason, 16);
+KARRAMOTX_FIELD(karramotx_pushed, count, 24);
+
+struct karramotx_next_frame {
+    struct karramotx_reader reader;       /* the reader after it */
+    uint64_t reason;               /* 0 a frame is handed out; 1 wait for more; 2 a bad length stands first */
+    size_t start;                  /* its place in the store; 0 where there is none */
+    size_t len;                    /* its length, the four bytes included; 0 where there is none */
+    uint64_t kind;                 /* its type byte, of any type; 0 where there is none */
+};
+KARRAMOTX_SIZE(karramotx_next_frame, 48);
+KARRAMOTX_FIELD(karramotx_next_frame, reader, 0);
+KARRAMOTX_FIELD(karramotx_next_frame, reason, 16);
+KARRAMOTX_FIELD(karramotx_next_frame, start, 24);
+KARRAMOTX_FIELD(karramotx_next_frame, len, 32);
+KARRAMOTX_FIELD(karramotx_next_frame, kind, 40);
+
+/* A reader that holds nothing: at the beginning, and after a bad length. */
+struct karramotx_reader karramotx_start_over(void);
+
+/* Bytes that arrived, taken as far as there is room beside those held. Writes the store and nothing else. */
+struct karramotx_pushed karramotx_push(struct karramotx_reader reader, const uint8_t *bytes, size_t len,
+                                       uint8_t store[KARRAMOTX_STORE]);
+
+/* The frame that stands first, handed out. The store is only read. */
+struct karramotx_next_frame karramotx_next_frame(struct karramotx_reader reader,
+                                                 const uint8_t store[KARRAMOTX_STORE]);
 
 /* ---- Look and step ---- */
 

@@ -5,6 +5,7 @@ ghost use mathlib.Core.Path.{_≡_};
 ghost use lib.ListN.{length};
 ghost use Rattle.args.specs.Arguments.{nextArgument};
 ghost use Rattle.args_writer.specs.Append.{appendedOf, leftBy};
+ghost use Rattle.arrivals.specs.Reader.{nextOf, pushOf, startOver};
 ghost use Rattle.message.specs.Frame.{argumentOf, messageOf};
 ghost use Rattle.rules.specs.Step.{lookAt, stepOf};
 ghost use Rattle.session.specs.Tables.{fresh};
@@ -14,6 +15,10 @@ ghost use Rattle.karramotx.specs.Given.{givenArgument};
 ghost use Rattle.karramotx.specs.InPlace.{InPlace};
 ghost use Rattle.karramotx.specs.Value.{nextValueOf, valueOf};
 use args::part::Part;
+use arrivals::NextFrame;
+use arrivals::Pushed;
+use arrivals::Reader;
+use arrivals::STORE;
 use given::Scalar;
 use message::message::Message;
 use rules::Answer;
@@ -73,6 +78,31 @@ pub extern "C" fn karramotx_step(
     let stepped = keeper::step(*session, frame, report, reply);
     *session = stepped.session;
     stepped.answer
+}
+
+// A reader of arrivals that holds nothing.
+#[no_mangle]
+pub extern "C" fn karramotx_start_over() -> Reader
+    ensures { λ r. ⌜ r ≡ startOver ⌝ }
+{
+    arrivals::start_over()
+}
+
+// An arrival, taken as far as there is room in the store beside the bytes held.
+#[no_mangle]
+pub extern "C" fn karramotx_push(reader: Reader, arrival: &[u8], store: &mut [u8; STORE]) -> Pushed
+    ensures answer { λ r. ⌜ r ≡ pushOf reader (now (arrival .entry)) (now (store .entry)) .answer ⌝ }
+    ensures kept { λ r. ⌜ now (store .exit) ≡ pushOf reader (now (arrival .entry)) (now (store .entry)) .store ⌝ }
+{
+    arrivals::push(reader, arrival, store)
+}
+
+// The frame that stands first, handed out.
+#[no_mangle]
+pub extern "C" fn karramotx_next_frame(reader: Reader, store: &[u8; STORE]) -> NextFrame
+    ensures { λ r. ⌜ r ≡ nextOf reader (now (store .entry)) ⌝ }
+{
+    arrivals::next_frame(reader, store)
 }
 
 // The argument with this index, counted from 0.

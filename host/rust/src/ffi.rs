@@ -228,6 +228,47 @@ pub struct Scalar {
     pub value: u64,
 }
 
+/// The bytes of a reader's store.
+pub const STORE: usize = 65_536;
+
+/// A reader of arrivals: the bytes held are those of its store from `start` up to `end`.
+#[repr(C)]
+#[derive(Debug, Clone, Copy, Default, PartialEq, Eq)]
+pub struct Reader {
+    /// Their place in the store.
+    pub start: usize,
+    /// The place behind them.
+    pub end: usize,
+}
+
+/// What pushing an arrival comes to.
+#[repr(C)]
+#[derive(Debug, Clone, Copy, Default, PartialEq, Eq)]
+pub struct Pushed {
+    /// The reader after it.
+    pub reader: Reader,
+    /// What stands first now: 0 a whole frame, 2 a bad length, 1 neither.
+    pub reason: u64,
+    /// Bytes taken.
+    pub count: usize,
+}
+
+/// A frame handed out, or none.
+#[repr(C)]
+#[derive(Debug, Clone, Copy, Default, PartialEq, Eq)]
+pub struct NextFrame {
+    /// The reader after it.
+    pub reader: Reader,
+    /// 0 a frame is handed out; 1 wait for more; 2 a bad length stands first.
+    pub reason: u64,
+    /// Its place in the store.
+    pub start: usize,
+    /// Its length, the four bytes included.
+    pub len: usize,
+    /// Its type byte, of any type.
+    pub kind: u64,
+}
+
 extern "C" {
     /// A session with nothing in it.
     pub fn karramotx_fresh() -> Session;
@@ -271,4 +312,10 @@ extern "C" {
         buf_len: usize,
         at: usize,
     ) -> Sent;
+    /// A reader that holds nothing.
+    pub fn karramotx_start_over() -> Reader;
+    /// Bytes that arrived, taken as far as there is room. `store` has `STORE` bytes.
+    pub fn karramotx_push(reader: Reader, bytes: *const u8, len: usize, store: *mut u8) -> Pushed;
+    /// The frame that stands first, handed out. `store` has `STORE` bytes.
+    pub fn karramotx_next_frame(reader: Reader, store: *const u8) -> NextFrame;
 }
