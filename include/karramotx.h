@@ -9,7 +9,7 @@
  * A server's loop:
  *
  *     struct karramotx_session session = karramotx_fresh();
- *     for each frame:
+ *     for each frame (section "Frames as they arrive" cuts them out of the bytes of a connection):
  *         look = karramotx_look(&session, frame, len);         what work the frame wants, if any
  *         report = your engine does that work;
  *         answer = karramotx_step(&session, frame, len, report, reply, sizeof reply);
@@ -47,7 +47,7 @@ enum {
     KARRAMOTX_MAX_CURSORS = 16,    /* cursors of a session */
     KARRAMOTX_MIN_REPLY = 128,     /* the shortest reply buffer that a step takes; every reply fits it */
     KARRAMOTX_MAX_FRAME = 65536,   /* the longest frame, its four bytes of length included */
-    KARRAMOTX_STORE = 65536        /* the store of a reader of arrivals */
+    KARRAMOTX_STORE = 65536        /* bytes of a reader's store; the longest frame fills it */
 };
 
 /* ---- Message types ---- */
@@ -163,10 +163,12 @@ struct karramotx_counts karramotx_counts(const struct karramotx_session *session
 
 /*
  * A reader takes bytes as they arrive, cut anywhere, and hands out whole frames. What has arrived and has not
- * been handed out is held in a store of yours that only the reader writes; the reader itself is two numbers.
- * A server's loop, for one connection:
+ * been handed out is held in a store of yours. It need not be cleared first, and nobody but the reader may
+ * write it: receive into a buffer beside it. The reader itself is two numbers; go on with those that each call
+ * answers. A server's loop, for one connection:
  *
- *     uint8_t store[KARRAMOTX_STORE];
+ *     uint8_t bytes[1460], store[KARRAMOTX_STORE];
+ *     ssize_t got;
  *     struct karramotx_reader reader = karramotx_start_over();
  *     while ((got = recv(fd, bytes, sizeof bytes, 0)) > 0) {
  *         for (size_t at = 0; at < (size_t)got;) {
@@ -183,21 +185,24 @@ struct karramotx_counts karramotx_counts(const struct karramotx_session *session
  *                 give up the connection
  *         }
  *     }
+ *     if (reader.start != reader.end)
+ *         the client broke off in mid-frame
  *
  * At 1, KARRAMOTX_NOT_ALL_THERE, nothing is wrong: wait for the next arrival. There is then room for at least
- * one byte more, so the loop goes on. An arrival is taken whole unless the store is full or a bad length
- * stands first; `count` says how far, and what was not taken is yours to push again.
+ * one byte more, so the loop goes on. An arrival is taken whole unless the store gets full; `count` says how
+ * far, and what was not taken is yours to push again.
  *
  * At 2, KARRAMOTX_BAD_LENGTH, nothing behind the length can be read. The frames ahead of it have been handed
- * out. The store then holds its four bytes alone, what stood behind them is dropped, and every push takes 0
- * and every next_frame answers 2 until karramotx_start_over. Close the connection, or start over where you
- * know that the next byte begins a frame.
+ * out. The store then holds its four bytes alone; what arrived behind them counts as taken and is dropped. From
+ * then on every push takes 0 and every next_frame answers 2 until karramotx_start_over. Close the connection,
+ * or start over where you know that the next byte begins a frame.
  *
- * A frame that was handed out stays where it is until the next push. So a step that was refused 3 can be made
- * again with a longer reply buffer. A step on it is never refused 1 or 2, and uses all of it.
+ * After a Session close, `session.closed`, send its reply and close the connection. The reader knows no session:
+ * if you go on, it hands out the frames behind too, and a step refuses them 4 until you begin a fresh session.
  *
- * The reader knows no session: frames behind a Session close are handed out too, and a step refuses them 4.
- * `kind` is the type byte of any frame, so that you can route what is none of the eight messages here.
+ * A frame that was handed out stays where it is until the next push; another next_frame leaves it alone. A step
+ * on it is never refused 1 or 2, and uses all of it. If it is refused 3, make it again with a longer reply
+ * buffer. `kind` is the type byte of any frame, so that you can route what is none of the eight messages here.
  *
  * Handing out a frame moves no bytes, and a push moves the held bytes at most once, only where the room behind
  * them is too small. Where all whole frames are handed out before the next push, as above, the cost is linear
@@ -238,11 +243,14 @@ KARRAMOTX_FIELD(karramotx_next_frame, kind, 40);
 /* A reader that holds nothing: at the beginning, and after a bad length. */
 struct karramotx_reader karramotx_start_over(void);
 
-/* Bytes that arrived, taken as far as there is room beside those held. Writes the store and nothing else. */
+/*
+ * Bytes that arrived, taken as far as there is room beside those held. Writes the store and nothing else. The
+ * bytes must not lie in the store.
+ */
 struct karramotx_pushed karramotx_push(struct karramotx_reader reader, const uint8_t *bytes, size_t len,
                                        uint8_t store[KARRAMOTX_STORE]);
 
-/* The frame that stands first, handed out. The store is only read. */
+/* The frame that stands first, handed out. The store is only read: the same reader gets the same frame again. */
 struct karramotx_next_frame karramotx_next_frame(struct karramotx_reader reader,
                                                  const uint8_t store[KARRAMOTX_STORE]);
 
