@@ -1,59 +1,84 @@
 /*
  * A complete small server over standard input, and a client to try it with.
  *
- *     example          serves the built-in client's conversation
- *     example -        serves the frames on standard input
- *     example --write  writes the client's frames to standard output
+ *     example [--pieces N]      serves the built-in client's conversation
+ *     example [--pieces N] -    serves the bytes on standard input
+ *     example --write           writes the client's frames to standard output
  *
+ * Bytes arrive in pieces of odd sizes, as from a network, or of N bytes each; what is served is the same.
  * It ends with 0, with 1 where the input breaks off or has a bad length, and with 2 on its own errors.
  */
 #include "client.h"
 #include "server.h"
 
 #include <inttypes.h>
+#include <stdlib.h>
 #include <string.h>
 
-/* Frames as they arrive: what is not served yet stays at the front of a buffer that a frame fits into. */
-static int serve_stream(FILE *in, FILE *out)
+/* The longest piece: an arrival may be longer than the store. */
+enum { MAX_PIECE = 2 * KARRAMOTX_STORE };
+
+/* The size of the next arrival: as chosen, or where that is 0 the next of some odd sizes. */
+static size_t next_size(size_t chosen, size_t *turn)
 {
-    static uint8_t buf[KARRAMOTX_MAX_FRAME];
-    struct karramotx_session session = karramotx_fresh();
-    size_t held = 0;
-    bool broken = false;
+    static const size_t odd[] = {1, 2, 3, 5, 7, 11, 13, 17, 19, 23};
+    return chosen != 0 ? chosen : odd[(*turn)++ % (sizeof odd / sizeof odd[0])];
+}
+
+static int serve_stream(FILE *in, size_t pieces, FILE *out)
+{
+    static struct connection c;
+    static uint8_t arrival[MAX_PIECE];
+    size_t turn = 0;
+    bool good = true;
     size_t got;
-    while (!broken && (got = fread(buf + held, 1, sizeof buf - held, in)) > 0) {
-        held += got;
-        size_t used = serve(&session, buf, held, &broken, out);
-        memmove(buf, buf + used, held - used);
-        held -= used;
-    }
-    struct karramotx_counts counts = karramotx_counts(&session);
+    connection_begin(&c);
+    while (good && (got = fread(arrival, 1, next_size(pieces, &turn), in)) > 0)
+        good = connection_serve(&c, arrival, got, out);
+
+    bool cut = connection_held(&c) > 0;
+    struct karramotx_counts counts = karramotx_counts(&c.session);
     fprintf(out, "%s: %" PRIu64 " statements, %" PRIu64 " cursors, %" PRIu64 " rows owed%s\n",
-            broken ? "bad length" : held > 0 ? "cut" : "end", counts.stmts, counts.cursors, counts.owed,
-            session.closed ? ", closed" : "");
-    if (!session_is_sound(&session))
+            !good ? "bad length" : cut ? "cut" : "end", counts.stmts, counts.cursors, counts.owed,
+            c.session.closed ? ", closed" : "");
+    if (!session_is_sound(&c.session))
         return 2;
-    return broken || held > 0;
+    return !good || cut;
+}
+
+static int serve_conversation(uint8_t *frames, size_t len, size_t pieces)
+{
+    FILE *in = fmemopen(frames, len, "rb");
+    if (in == NULL)
+        return 2;
+    int status = serve_stream(in, pieces, stdout);
+    fclose(in);
+    return status;
 }
 
 int main(int argc, char **argv)
 {
     static uint8_t frames[4096];
-    if (argc == 2 && strcmp(argv[1], "-") == 0)
-        return serve_stream(stdin, stdout);
     size_t len = client_conversation(frames, sizeof frames);
+    unsigned long pieces = 0;
+    bool chosen = argc > 2 && strcmp(argv[1], "--pieces") == 0;
+    if (chosen) {
+        pieces = strtoul(argv[2], NULL, 10);
+        argc -= 2;
+        argv += 2;
+    }
     if (len == 0)
         return 2;
-    if (argc == 2 && strcmp(argv[1], "--write") == 0)
-        return fwrite(frames, 1, len, stdout) == len ? 0 : 2;
-    if (argc != 1) {
-        fprintf(stderr, "usage: example [- | --write]\n");
+    if (chosen && (pieces == 0 || pieces > MAX_PIECE)) {
+        fprintf(stderr, "example: pieces have 1 to %d bytes\n", MAX_PIECE);
         return 2;
     }
-    FILE *in = fmemopen(frames, len, "rb");
-    if (in == NULL)
-        return 2;
-    int status = serve_stream(in, stdout);
-    fclose(in);
-    return status;
+    if (argc == 1)
+        return serve_conversation(frames, len, pieces);
+    if (argc == 2 && strcmp(argv[1], "-") == 0)
+        return serve_stream(stdin, pieces, stdout);
+    if (argc == 2 && !chosen && strcmp(argv[1], "--write") == 0)
+        return fwrite(frames, 1, len, stdout) == len ? 0 : 2;
+    fprintf(stderr, "usage: example [--pieces N] [-] | --write\n");
+    return 2;
 }

@@ -67,41 +67,53 @@ static void print_arguments(const uint8_t *frame, struct karramotx_message m, FI
     }
 }
 
-/* One frame: look, let the engine work, step, send. Answers how many bytes the frame took. */
-static size_t serve_frame(struct karramotx_session *session, const uint8_t *frame, size_t len, FILE *out)
+/* One frame: look, let the engine work, step, send. */
+static void serve_frame(struct karramotx_session *session, const uint8_t *frame, size_t len, uint64_t kind, FILE *out)
 {
     uint8_t reply[KARRAMOTX_MIN_REPLY];
     struct karramotx_look look = karramotx_look(session, frame, len);
     struct karramotx_report report = engine_work(look, frame, len);
     struct karramotx_answer answer = karramotx_step(session, frame, len, report, reply, sizeof reply);
-    if (answer.used == 0)
-        return 0;
 
-    struct karramotx_message m = karramotx_read(frame, len);
-    fprintf(out, "%s", kind_name(m.kind));
+    fprintf(out, "%s", kind_name(kind));
     if (answer.reason != KARRAMOTX_ACCEPTED)
         fprintf(out, ": refused %" PRIu64, answer.reason);
     fprintf(out, "\n");
-    if (m.kind == KARRAMOTX_EXECUTE || m.kind == KARRAMOTX_CURSOR_OPEN)
-        print_arguments(frame, m, out);
+    if (kind == KARRAMOTX_EXECUTE || kind == KARRAMOTX_CURSOR_OPEN)
+        print_arguments(frame, karramotx_read(frame, len), out);
     engine_send(answer, out);
     fprintf(out, "    reply ");
     print_bytes(reply, answer.reply, out);
     fprintf(out, "\n");
-    return answer.used;
 }
 
-size_t serve(struct karramotx_session *session, const uint8_t *bytes, size_t len, bool *broken, FILE *out)
+void connection_begin(struct connection *c)
 {
-    size_t at = 0;
-    for (;;) {
-        size_t used = serve_frame(session, bytes + at, len - at, out);
-        if (used == 0)
-            break;
-        at += used;
+    c->session = karramotx_fresh();
+    c->reader = karramotx_start_over();
+}
+
+bool connection_serve(struct connection *c, const uint8_t *bytes, size_t len, FILE *out)
+{
+    for (size_t at = 0; at < len;) {
+        struct karramotx_pushed pushed = karramotx_push(c->reader, bytes + at, len - at, c->store);
+        struct karramotx_next_frame next;
+        c->reader = pushed.reader;
+        at += pushed.count;
+        while ((next = karramotx_next_frame(c->reader, c->store)).reason == KARRAMOTX_ACCEPTED) {
+            c->reader = next.reader;
+            serve_frame(&c->session, c->store + next.start, next.len, next.kind, out);
+        }
+        c->reader = next.reader;
+        if (next.reason == KARRAMOTX_BAD_LENGTH)
+            return false;
     }
-    *broken = karramotx_read(bytes + at, len - at).reason == KARRAMOTX_BAD_LENGTH;
-    return at;
+    return true;
+}
+
+size_t connection_held(const struct connection *c)
+{
+    return c->reader.end - c->reader.start;
 }
 
 static bool stmts_are_sound(const struct karramotx_session *s)

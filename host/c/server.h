@@ -1,4 +1,4 @@
-/* The server's side: whole frames are taken from the bytes that came in, and each is answered. */
+/* The server's side of one connection: bytes arrive, cut anywhere, and each whole frame is answered. */
 #ifndef SERVER_H
 #define SERVER_H
 
@@ -6,11 +6,24 @@
 
 #include <stdio.h>
 
+/* What a server keeps for one connection. Only the library writes the store and the session. */
+struct connection {
+    struct karramotx_session session;
+    struct karramotx_reader reader;
+    uint8_t store[KARRAMOTX_STORE];
+};
+
+/* A fresh session, and a reader that holds nothing. */
+void connection_begin(struct connection *c);
+
 /*
- * Serves the whole frames at the front of `bytes` and answers how many bytes they took; the rest waits for
- * more. Sets `*broken` where a frame's length is bad: nothing behind it can be read.
+ * Takes an arrival and serves every whole frame; what is left of it is held for the next. Answers false once a
+ * bad length stands first: the frames ahead of it are served, and nothing behind it can be read.
  */
-size_t serve(struct karramotx_session *session, const uint8_t *bytes, size_t len, bool *broken, FILE *out);
+bool connection_serve(struct connection *c, const uint8_t *bytes, size_t len, FILE *out);
+
+/* How many bytes are held: the beginning of a frame whose rest has not arrived. */
+size_t connection_held(const struct connection *c);
 
 /*
  * Whether the session is one that the library can have made: free places are all 0, no id stands twice,

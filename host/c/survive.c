@@ -1,67 +1,21 @@
 /*
  * Feeds a session damaged frames, wrong reports and reply buffers of every length, and asks after each step
  * whether the session is still sound and nothing else was touched. Frame and reply end at a page that no one
- * may read or write, so that a byte too far ends the program.
+ * may read or write, so that a byte too far ends the program. Then as many operations of a reader on streams
+ * cut at random (cuts.c).
  *
  *     survive [STEPS]
  */
-#define _GNU_SOURCE
 #include "client.h"
+#include "cuts.h"
+#include "damage.h"
 #include "server.h"
 
 #include <inttypes.h>
 #include <stdlib.h>
 #include <string.h>
-#include <sys/mman.h>
 
-enum { ROOM = 8192, PAGE = 4096, GUARD = 64, MAX_REPLY = 200 };
-
-static uint64_t state = 0x9e3779b97f4a7c15u;
-
-/* Numbers below n, the same in every run (xorshift). */
-static uint64_t below(uint64_t n)
-{
-    state ^= state << 13;
-    state ^= state >> 7;
-    state ^= state << 17;
-    return state % n;
-}
-
-/* ROOM bytes in front of a page that may not be touched; answers the end of them. */
-static uint8_t *guarded_end(void)
-{
-    uint8_t *start = mmap(NULL, ROOM + PAGE, PROT_READ | PROT_WRITE, MAP_PRIVATE | MAP_ANONYMOUS, -1, 0);
-    if (start == MAP_FAILED || mprotect(start + ROOM, PAGE, PROT_NONE) != 0) {
-        perror("survive");
-        exit(2);
-    }
-    return start + ROOM;
-}
-
-/* Flips, removes or adds a byte, or cuts. Answers the length then. */
-static size_t damaged(uint8_t *bytes, size_t len)
-{
-    size_t at = below(len + 1);
-    switch (below(5)) {
-    case 0:
-        if (at < len)
-            bytes[at] = (uint8_t)below(256);
-        return len;
-    case 1:
-        if (at == len)
-            return len;
-        memmove(bytes + at, bytes + at + 1, len - at - 1);
-        return len - 1;
-    case 2:
-        memmove(bytes + at + 1, bytes + at, len - at);
-        bytes[at] = (uint8_t)below(256);
-        return len + 1;
-    case 3:
-        return at;
-    default:
-        return len;
-    }
-}
+enum { ROOM = 8192, GUARD = 64, MAX_REPLY = 200 };
 
 /* A frame of the client's conversation. */
 static size_t spoken_frame(const uint8_t *talk, size_t talk_len, uint8_t *frame)
@@ -74,22 +28,8 @@ static size_t spoken_frame(const uint8_t *talk, size_t talk_len, uint8_t *frame)
     return len;
 }
 
-/* A message of so many ids that the tables fill up, now and then with an object for its argument. */
-static size_t drafted_frame(uint8_t *frame, size_t room)
-{
-    static const uint8_t kinds[] = {40, 40, 40, 40, 40, 43, 43, 43, 43, 45, 44, 42, 41};
-    static const uint8_t body[] = {0x0a, 0x01, 'S'}, object[] = {0x12, 0x02, 0x08, 0x02};
-    struct karramotx_draft draft = {.kind = kinds[below(sizeof kinds)],
-                                    .stmt = (uint32_t)below(80),
-                                    .cursor = (uint32_t)below(24),
-                                    .hasrows = below(2),
-                                    .rows = below(6),
-                                    .choice = KARRAMOTX_STMT_EXECUTE};
-    return karramotx_write(draft, body, sizeof body, object, below(16) == 0 ? sizeof object : 0, frame, room).len;
-}
-
-/* The next frame, more often whole than damaged. */
-static size_t next_frame(const uint8_t *talk, size_t talk_len, uint8_t *frame, size_t room)
+/* A frame, more often whole than damaged. */
+static size_t some_frame(const uint8_t *talk, size_t talk_len, uint8_t *frame, size_t room)
 {
     size_t len = below(200) == 0 ? spoken_frame(talk, talk_len, frame) : drafted_frame(frame, room);
     for (uint64_t times = below(8); times > 5; times--)
@@ -110,7 +50,8 @@ static struct karramotx_report some_report(struct karramotx_look look)
     static const uint64_t wanted[] = {0, 1, 2, 2, 3};
     if (below(4) == 0)
         return any_report();
-    return (struct karramotx_report){.kind = wanted[look.work % 5], .a = look.work != KARRAMOTX_WORK_PREPARE, .b = below(9)};
+    return (struct karramotx_report){
+        .kind = wanted[look.work % 5], .a = look.work != KARRAMOTX_WORK_PREPARE, .b = below(9)};
 }
 
 static struct {
@@ -146,28 +87,33 @@ static bool survives(const uint8_t *bytes, size_t len, uint8_t *frame_end, uint8
            untouched(host.after, GUARD);
 }
 
-int main(int argc, char **argv)
+static bool steps_survive(uint64_t steps)
 {
     static uint8_t talk[ROOM / 2], bytes[ROOM / 2 + 8];
-    uint64_t steps = argc > 1 ? strtoull(argv[1], NULL, 10) : 1000000;
     uint64_t met[17] = {0};
     size_t talk_len = client_conversation(talk, sizeof talk);
-    uint8_t *frame_end = guarded_end();
-    uint8_t *reply_end = guarded_end();
+    uint8_t *frame_end = guarded_end(ROOM);
+    uint8_t *reply_end = guarded_end(ROOM);
     memset(&host, 0xa5, sizeof host);
     host.session = karramotx_fresh();
     for (uint64_t n = 0; n < steps; n++) {
         if (host.session.closed && below(4) == 0)
             host.session = karramotx_fresh();
-        size_t len = next_frame(talk, talk_len, bytes, sizeof bytes - 8);
+        size_t len = some_frame(talk, talk_len, bytes, sizeof bytes - 8);
         if (!survives(bytes, len, frame_end, reply_end, met)) {
             fprintf(stderr, "survive: step %" PRIu64 " left something behind\n", n);
-            return 1;
+            return false;
         }
     }
     printf("survived %" PRIu64 " steps; by reason:", steps);
     for (size_t i = 0; i < 17; i++)
         printf(" %zu:%" PRIu64, i, met[i]);
     printf("\n");
-    return 0;
+    return true;
+}
+
+int main(int argc, char **argv)
+{
+    uint64_t steps = argc > 1 ? strtoull(argv[1], NULL, 10) : 1000000;
+    return steps_survive(steps) && cuts_survive(steps) ? 0 : 1;
 }

@@ -1,0 +1,21 @@
+/* What the tests of survival share: numbers at random, memory with guards, and frames good and damaged. */
+#ifndef DAMAGE_H
+#define DAMAGE_H
+
+#include "karramotx.h"
+
+enum { PAGE = 4096 };
+
+/* Numbers below n, at most 2^32; the same in every run. */
+uint64_t below(uint64_t n);
+
+/* `room` bytes, whole pages, in front of a page that may not be touched; answers the end of them. */
+uint8_t *guarded_end(size_t room);
+
+/* A message of so many ids that the tables fill up, now and then with an object for its argument. */
+size_t drafted_frame(uint8_t *frame, size_t room);
+
+/* Flips, removes or adds a byte, or cuts. Answers the length then; there is room for one byte more. */
+size_t damaged(uint8_t *bytes, size_t len);
+
+#endif
