@@ -1,11 +1,11 @@
 //! A complete small server, and a client to try it with: the twin of `host/c/example.c`. It serves the
-//! client's conversation and prints what it does.
+//! client's conversation, which arrives cut at odd places, and prints what it does.
 //!
 //!     cargo run --example serve
 
 use karramotx::{
-    sql_body, Args, Argument, ClientMessage, Kind, Message, Refusal, Report, Session, StatementType, Step,
-    Work, MIN_REPLY,
+    sql_body, Args, Argument, ClientMessage, Frame, Frames, Kind, Message, Refusal, Report, Session,
+    StatementType, Step, Work, MIN_REPLY,
 };
 
 /// The columns and rows that every query of the made-up engine has.
@@ -46,28 +46,29 @@ fn show(argument: Result<Argument, Refusal>) -> String {
     }
 }
 
-fn name(kind: Kind) -> &'static str {
+fn name(kind: Option<Kind>) -> &'static str {
     match kind {
-        Kind::Reset => "Reset",
-        Kind::SessionClose => "Session close",
-        Kind::Prepare => "Prepare",
-        Kind::Execute => "Execute",
-        Kind::Deallocate => "Deallocate",
-        Kind::Open => "Open",
-        Kind::Close => "Close",
-        Kind::Fetch => "Fetch",
+        Some(Kind::Reset) => "Reset",
+        Some(Kind::SessionClose) => "Session close",
+        Some(Kind::Prepare) => "Prepare",
+        Some(Kind::Execute) => "Execute",
+        Some(Kind::Deallocate) => "Deallocate",
+        Some(Kind::Open) => "Open",
+        Some(Kind::Close) => "Close",
+        Some(Kind::Fetch) => "Fetch",
+        None => "?",
     }
 }
 
-/// Prints a step and what goes out: columns, rows, the reply. There is no message where the payload is bad.
-fn print(message: Option<Message>, step: &Step) {
-    let kind = message.map_or("?", |m| name(m.kind()));
+/// Prints a step and what goes out: columns, rows, the reply.
+fn print(frame: Frame, step: &Step) {
+    let kind = Kind::from_number(frame.kind.into());
     match &step.outcome {
-        Ok(_) => println!("{kind}"),
-        Err(refusal) => println!("{kind}: refused {}", refusal.number()),
+        Ok(_) => println!("{}", name(kind)),
+        Err(refusal) => println!("{}: refused {}", name(kind), refusal.number()),
     }
-    if let Some(m) = message.filter(|m| matches!(m.kind(), Kind::Execute | Kind::Open)) {
-        m.arguments().for_each(|a| println!("    argument: {}", show(a)));
+    if let (Some(Kind::Execute | Kind::Open), Ok(message)) = (kind, Message::read(&frame)) {
+        message.arguments().for_each(|a| println!("    argument: {}", show(a)));
     }
     if let Ok(sent) = &step.outcome {
         if sent.columns {
@@ -78,20 +79,27 @@ fn print(message: Option<Message>, step: &Step) {
     println!("    reply {}", hex(step.reply));
 }
 
-/// Serves one frame: look, let the engine work, step, send. Answers how many bytes the frame took; an error
-/// where there is no whole frame.
-fn serve(session: &mut Session, bytes: &[u8]) -> Result<usize, Refusal> {
-    let report = match session.look(bytes) {
-        Ok(work) => engine(work, bytes)?,
+/// Serves one frame: look, let the engine work, step, send.
+fn serve_frame(session: &mut Session, frame: Frame) -> Result<(), Refusal> {
+    let report = match session.look(&frame) {
+        Ok(work) => engine(work, &frame)?,
         Err(_) => Report::None,
     };
     let mut reply = [0; MIN_REPLY];
-    let step = session.step(bytes, report, &mut reply);
-    if let (0, Err(refusal)) = (step.used, &step.outcome) {
-        return Err(*refusal);
+    print(frame, &session.step(&frame, report, &mut reply));
+    Ok(())
+}
+
+/// Takes an arrival and serves every whole frame; what is left of it is held for the next.
+fn serve(session: &mut Session, frames: &mut Frames, mut arrival: &[u8]) -> Result<(), Refusal> {
+    while !arrival.is_empty() {
+        let taken = frames.push(arrival);
+        arrival = &arrival[taken..];
+        while let Some(frame) = frames.next_frame()? {
+            serve_frame(session, frame)?;
+        }
     }
-    print(Message::read(bytes).ok(), &step);
-    Ok(step.used)
+    Ok(())
 }
 
 fn prepare(statement: u32, sql: &[u8]) -> Result<Vec<u8>, Refusal> {
@@ -132,15 +140,25 @@ fn conversation() -> Result<Vec<u8>, Refusal> {
     Ok(frames.concat())
 }
 
+/// The sizes of the pieces that arrive, in turn.
+const ODD: [usize; 10] = [1, 2, 3, 5, 7, 11, 13, 17, 19, 23];
+
 fn main() -> Result<(), Refusal> {
     let mut session = Session::new();
+    let mut frames = Frames::new();
     let bytes = conversation()?;
     let mut rest = &bytes[..];
-    while !rest.is_empty() {
-        rest = &rest[serve(&mut session, rest)?..];
+    for size in ODD.into_iter().cycle() {
+        if rest.is_empty() {
+            break;
+        }
+        let (arrival, later) = rest.split_at(size.min(rest.len()));
+        serve(&mut session, &mut frames, arrival)?;
+        rest = later;
     }
     println!(
-        "end: {} statements, {} cursors, {} rows owed{}",
+        "{}: {} statements, {} cursors, {} rows owed{}",
+        if frames.held().is_empty() { "end" } else { "cut" },
         session.statements().count(),
         session.cursors().count(),
         session.owed(),

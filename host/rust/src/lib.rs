@@ -31,16 +31,21 @@
 //! let reset = [1, 0, 0, 0, 6];
 //! assert_eq!(serve(&mut session, &reset), [1, 0, 0, 0, 0]); // Ok
 //! ```
+//!
+//! Bytes of a network arrive cut anywhere. [`Frames`] takes them and hands out whole frames; it shows a
+//! server's loop.
 #![deny(missing_docs)]
 
 mod argument;
 pub mod ffi;
+mod frames;
 mod message;
 mod refusal;
 mod session;
 mod writer;
 
 pub use argument::{Args, Argument, Arguments};
+pub use frames::{BadLength, Frame, Frames};
 pub use message::{Kind, Message, StatementType};
 pub use refusal::Refusal;
 pub use session::{Cursor, Report, Rows, Session, Statement, Step, Work, MIN_REPLY};

@@ -41,8 +41,9 @@ pub enum StatementType {
 }
 
 impl Kind {
-    fn from_number(number: u64) -> Kind {
-        match number {
+    /// The type with a number, such as the type byte of a frame; none where it is none of the eight.
+    pub fn from_number(number: u64) -> Option<Kind> {
+        Some(match number {
             6 => Kind::Reset,
             7 => Kind::SessionClose,
             40 => Kind::Prepare,
@@ -51,8 +52,8 @@ impl Kind {
             43 => Kind::Open,
             44 => Kind::Close,
             45 => Kind::Fetch,
-            other => unreachable!("the library reads eight message types, not {other}"),
-        }
+            _ => return None,
+        })
     }
 
     /// Whether messages of this type carry a statement id.
@@ -100,7 +101,7 @@ impl<'f> Message<'f> {
 
     /// The message type.
     pub fn kind(&self) -> Kind {
-        Kind::from_number(self.raw.kind)
+        Kind::from_number(self.raw.kind).expect("the library reads eight message types")
     }
 
     /// The statement id, where the message type has one.

@@ -75,6 +75,9 @@ fn of_this_crate() -> Header {
         "karramotx_draft" Draft { kind stmt cursor hasrows rows hascompact compact choice }
         "karramotx_sent" Sent { reason len }
         "karramotx_scalar" Scalar { kind value }
+        "karramotx_reader" Reader { start end }
+        "karramotx_pushed" Pushed { reader reason count }
+        "karramotx_next_frame" NextFrame { reader reason start len kind }
     }
 }
 
@@ -300,6 +303,43 @@ impl Probe<'_> {
             self.wrong.push("another scalar is appended".to_string());
         }
     }
+
+    /// A reader of these numbers, put where the header says.
+    fn held(&self, start: u64, end: u64) -> Reader {
+        let mut reader = Reader::default();
+        put(&mut reader, self.header.place("karramotx_reader", "start"), 8, start);
+        put(&mut reader, self.header.place("karramotx_reader", "end"), 8, end);
+        reader
+    }
+
+    /// A Fetch of nine bytes at place 7 of a store and two bytes of the next frame, then three more.
+    fn reader(&mut self) {
+        let mut store = vec![0; STORE];
+        let arrived = [fetch(11, 6), fetch(11, 7)].concat();
+        store[7..18].copy_from_slice(&arrived[..11]);
+
+        let reader = self.held(7, 18);
+        let pushed = unsafe { karramotx_push(reader, arrived[11..].as_ptr(), 3, store.as_mut_ptr()) };
+        let after = self.header.place("karramotx_pushed", "reader");
+        self.expect(&pushed, after, "karramotx_reader", &[("start", 8, 7), ("end", 8, 21)]);
+        self.expect(&pushed, 0, "karramotx_pushed", &[("reason", 8, 0), ("count", 8, 3)]);
+        if store[7..21] != arrived[..14] {
+            self.wrong.push("other bytes are held".to_string());
+        }
+
+        let next = unsafe { karramotx_next_frame(pushed.reader, store.as_ptr()) };
+        let after = self.header.place("karramotx_next_frame", "reader");
+        self.expect(&next, after, "karramotx_reader", &[("start", 8, 16), ("end", 8, 21)]);
+        self.expect(
+            &next,
+            0,
+            "karramotx_next_frame",
+            &[("reason", 8, 0), ("start", 8, 7), ("len", 8, 9), ("kind", 8, 45)],
+        );
+
+        let empty = unsafe { karramotx_start_over() };
+        self.expect(&empty, 0, "karramotx_reader", &[("start", 8, 0), ("end", 8, 0)]);
+    }
 }
 
 fn archive_agrees(header: &Header) -> Result<(), Vec<String>> {
@@ -309,6 +349,7 @@ fn archive_agrees(header: &Header) -> Result<(), Vec<String>> {
     probe.value();
     probe.written();
     probe.appended();
+    probe.reader();
     if probe.wrong.is_empty() {
         return Ok(());
     }
