@@ -2,12 +2,13 @@
  * libprotobuf and nanopb, where they are installed. Before a line is measured, all sides run it and their
  * answers are compared. Arguments: none, or the start of the lines wanted; `perf NAME` runs one line's
  * library side for some seconds, `count NAME SIDE` (plain, library or neither) runs it a thousand times, for a
- * tool that counts instructions. */
+ * tool that counts instructions; `frames NAME` tells how many frames one run of it has, for figures per frame. */
 #include <stdio.h>
 #include <stdlib.h>
 #include <string.h>
 #include <time.h>
 
+#include "arrivals.h"
 #include "others.h"
 #include "plain.h"
 
@@ -187,6 +188,8 @@ struct Line {
     Report report;
     /* whether other libraries read the frame too, arguments and all */
     bool others;
+    /* where frames arrive; the figures are then of one of its frames */
+    Stream *stream;
 };
 
 static uint8_t reply[128];
@@ -302,7 +305,22 @@ static void library_night(Line *line)
     NIGHT(library)
 }
 
+static void plain_arrives(Line *line)
+{
+    sink += plain_run(line->stream);
+}
+
+static void library_arrives(Line *line)
+{
+    sink += library_run(line->stream);
+}
+
 /* ---- measuring */
+
+static size_t frames_of(const Line *line)
+{
+    return line->stream ? line->stream->frames : 1;
+}
 
 static double once(void (*run)(Line *), Line *line, size_t times)
 {
@@ -338,6 +356,8 @@ static void measure(Line *line, double *plain, double *library)
             *library = q;
     }
     line->session = kept;
+    *plain /= (double)frames_of(line);
+    *library /= (double)frames_of(line);
 }
 
 /* ---- the other libraries */
@@ -433,6 +453,8 @@ static void compare(const Line *line)
     const uint8_t *s = line->frame.bytes;
     size_t len = line->frame.len;
     Message a, b = karramotx_read(s, len);
+    if (line->stream && !stream_agrees(line->stream))
+        differ(line, "the frames handed out");
     plain_read(s, len, &a);
     if (a.reason != b.reason || a.used != b.used || a.kind != b.kind || a.stmt != b.stmt ||
         a.cursor != b.cursor || a.rows.present != b.rows.present || a.rows.value != b.rows.value ||
@@ -491,6 +513,38 @@ static void used_session(Session *s)
     plain_step(s, f.bytes, f.len, &open, reply, sizeof reply, &a);
     prepare_frame(&f, 2, 20);
     plain_step(s, f.bytes, f.len, &four, reply, sizeof reply, &a);
+}
+
+static void add_frame(Line *line, Stream *stream, size_t len)
+{
+    if (line->frame.len != len)
+        exit(1);
+    stream_add(stream, line->frame.bytes, len);
+}
+
+/* Fetches. There are as many as an arrival has bytes, so that they end with an arrival. */
+static void small_frames(Line *line)
+{
+    /* a cursor id and rows of two bytes each make a frame so long */
+    enum { SMALL = 11, FIRST_CURSOR = 128, ROWS = 300 };
+    static Stream stream;
+    for (unsigned i = 0; i < ARRIVAL; i++) {
+        fetch_frame(&line->frame, FIRST_CURSOR + i, ROWS);
+        add_frame(line, &stream, SMALL);
+    }
+    stream_finish(&stream);
+    line->stream = &stream;
+}
+
+/* One Prepare, over and over. */
+static void long_frames(Line *line)
+{
+    enum { LONG = 61440, AROUND_SQL = 21 };
+    static Stream stream;
+    prepare_frame(&line->frame, 1, LONG - AROUND_SQL);
+    add_frame(line, &stream, LONG);
+    stream_finish(&stream);
+    line->stream = &stream;
 }
 
 static void make_lines(void)
@@ -554,6 +608,8 @@ static void make_lines(void)
     l = add("step changeover night, 40 x 204 steps", plain_night, library_night);
     fetch_frame(&l->frame, 1, 300);
     l->report = done;
+    small_frames(add("arrive frames of 11 bytes, per frame", plain_arrives, library_arrives));
+    long_frames(add("arrive frames of 60 KB, per frame", plain_arrives, library_arrives));
     for (size_t i = 0; i < count; i++)
         used_session(&lines[i].session);
 }
@@ -596,6 +652,10 @@ int main(int argc, char **argv)
     }
     if (argc == 4 && !strcmp(argv[1], "count")) {
         run_counted(named(argv[2]), argv[3]);
+        return 0;
+    }
+    if (argc == 3 && !strcmp(argv[1], "frames")) {
+        printf("%zu\n", frames_of(named(argv[2])));
         return 0;
     }
     printf("%-40s %12s %12s %7s %12s %7s %12s %7s\n", "", "plain ns", "library ns", "ratio", "libprotobuf", "ratio",
