@@ -19,7 +19,7 @@ use Rattle.message.specs.Head.{headOf, lengthOf, maxLength}
 use Rattle.arrivals.specs.declared.Reader.{Reader}
 use Rattle.arrivals.specs.declared.NextFrame.{NextFrame}
 use Rattle.arrivals.specs.Reader.{Push, storeSize, lengthBytes, waitForMore, badLength, standsFirst, badFirst}
-use Rattle.arrivals.specs.Reader.{reader, startOver, between, part, isPart, usable, held, settled, taken}
+use Rattle.arrivals.specs.Reader.{reader, startOver, between, part, isPart, usable, held, settled, takenCount}
 use Rattle.arrivals.specs.Reader.{fitsBehind, readerFor, storeFor, pushedTo, behind, pushOn, pushAt, pushOf}
 use Rattle.arrivals.specs.Reader.{nextBy, nextAt, nextOf}
 use Rattle.arrivals.specs.ReaderRules.{kept, Pushes, PushesBehind, frameAt, HandsOut, HandsNone, Hands}
@@ -121,12 +121,13 @@ stands-kept b =
 
 -- ---- a push
 
-taken-within : (size : ℕ) (bytes arrival : List ℕ) → taken size bytes arrival ≤ length arrival
+taken-within : (size : ℕ) (bytes arrival : List ℕ) → takenCount size bytes arrival ≤ length arrival
 taken-within size bytes arrival =
     both (λ (n : ℕ). n ≤ length arrival) (badFirst bytes) 0 (min (length arrival) (size - length bytes))
     (λ _. omega arith) (λ _. omega arith)
 
-taken-fits : (size : ℕ) (bytes arrival : List ℕ) → length bytes ≤ size → length bytes + taken size bytes arrival ≤ size
+taken-fits : (size : ℕ) (bytes arrival : List ℕ) → length bytes ≤ size →
+    length bytes + takenCount size bytes arrival ≤ size
 taken-fits size bytes arrival h =
     both (λ (n : ℕ). length bytes + n ≤ size) (badFirst bytes) 0 (min (length arrival) (size - length bytes))
     (λ _. omega arith) (λ _. omega arith)
@@ -182,7 +183,7 @@ put-behind store r bytes a b =
     }
 
 push-comes : (store : List ℕ) (r : Reader) → Part store r → (arrival : List ℕ) (n : ℕ) →
-    n ≡ taken (length store) (part store r) arrival →
+    n ≡ takenCount (length store) (part store r) arrival →
     Comes (part store r ++ take n arrival) n (length store) (pushOn store r arrival n)
 push-comes store r p arrival n e =
     let in-all : n ≤ length arrival = omega (arith, taken-within (length store) (part store r) arrival) in
@@ -202,7 +203,7 @@ pub pushes-behind : PushesBehind
 unfolding pushOf pushAt held
 pushes-behind r arrival store =
     let u = usable store r in
-    let x = push-comes store u (usable-is store r) arrival (taken (length store) (part store u) arrival) refl in
+    let x = push-comes store u (usable-is store r) arrival (takenCount (length store) (part store u) arrival) refl in
     record {
       count = x .counted;
       bytes = x .holds ∙ ap (λ (k : ℕ). kept (part store u ++ take k arrival)) (sym (x .counted));
@@ -245,8 +246,8 @@ push-alike r r' arrival store store' a =
     let y = pushes-behind r' arrival store' in
     let counts =
     x .count
-    ∙ ap (λ (n : ℕ). taken n (held store r) arrival) (a .size)
-    ∙ ap (λ (b : List ℕ). taken (length store') b arrival) (a .bytes)
+    ∙ ap (λ (n : ℕ). takenCount n (held store r) arrival) (a .size)
+    ∙ ap (λ (b : List ℕ). takenCount (length store') b arrival) (a .bytes)
     ∙ sym (y .count) in
     let holds =
     x .bytes
@@ -367,6 +368,6 @@ wait-has-room r arrival store size e some =
     let n : pushOf (nextOf r store .reader) arrival store .answer .count
     ≡ min (length arrival) (length store - length b) =
     p .count
-    ∙ ap (λ (l : List ℕ). taken (length store) l arrival) (w .1)
+    ∙ ap (λ (l : List ℕ). takenCount (length store) l arrival) (w .1)
     ∙ ap (λ (t : Bool). cond t 0 (min (length arrival) (length store - length b))) not-bad in
     omega (arith, n, wait-short b (w .0))

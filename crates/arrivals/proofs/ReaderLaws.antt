@@ -18,7 +18,7 @@ use Rattle.message.specs.Numbers.{headReason}
 use Rattle.message.proofs.WithinLaws.{frame-within}
 use Rattle.arrivals.specs.Reader.{lengthBytes, badLength, standsFirst, reader, startOver, between, part, isPart}
 use Rattle.arrivals.specs.Reader.{usable, settled, nextBy, nextAt, nextOf}
-use Rattle.arrivals.specs.Reader.{Push, taken, readerFor, storeFor, pushedTo, behind, pushOn, pushAt, pushOf}
+use Rattle.arrivals.specs.Reader.{Push, takenCount, readerFor, storeFor, pushedTo, behind, pushOn, pushAt, pushOf}
 use Rattle.arrivals.specs.declared.Reader.{Reader}
 
 -- ---- what stands first
@@ -92,7 +92,7 @@ written-nothing b at h = put-fits b at [] (omega arith) .1
 
 -- n bytes of the arrival, put behind the bytes held where there was room or room was made
 pub push-as : (store : List ℕ) (r : Reader) (arrival : List ℕ) {n : ℕ} {place : Reader} {moved after : List ℕ} →
-    n ≤ length arrival → n ≡ taken (length store) (part store r) arrival → place ≡ readerFor store r n →
+    n ≤ length arrival → n ≡ takenCount (length store) (part store r) arrival → place ≡ readerFor store r n →
     moved ≡ storeFor store r n →
     after ≡ written moved (place .end) (take n arrival) →
     pushedTo after (reader (place .start) (place .end + n)) n ≡ pushAt store r arrival
@@ -131,7 +131,7 @@ module _ (store : List ℕ) (start end : ℕ) (arrival : List ℕ)
 
   -- none does: what there is room for
   pub taken-room : (first ≡ badLength → ⊥) → {n : ℕ} → n ≡ min (length arrival) (length store - (end - start)) →
-      n ≡ taken (length store) (part store (reader start end)) arrival
+      n ≡ takenCount (length store) (part store (reader start end)) arrival
   taken-room h {n} g =
       g
       ∙ ap (λ (k : ℕ). min (length arrival) (length store - k)) (sym (length-between store start end (part-of .1)))

@@ -71,8 +71,8 @@ settled store r = cond (badFirst (part store r)) (reader (r .start) (r .start + 
 -- ---- an arrival
 
 -- "takes the next arrival as far as there is room beside that"; behind a bad length it "takes 0"
-abbrev pub taken : ℕ → List ℕ → List ℕ → ℕ
-taken size bytes arrival = cond (badFirst bytes) 0 (min (length arrival) (size - length bytes))
+abbrev pub takenCount : ℕ → List ℕ → List ℕ → ℕ
+takenCount size bytes arrival = cond (badFirst bytes) 0 (min (length arrival) (size - length bytes))
 
 -- the bytes held stay where they are if n more fit behind them, and else are moved to the front
 abbrev pub fitsBehind : List ℕ → Reader → ℕ → Bool
@@ -107,7 +107,7 @@ abbrev pub pushOn : List ℕ → Reader → List ℕ → ℕ → Push
 pushOn store r arrival n = behind (storeFor store r n) (readerFor store r n) (take n arrival)
 
 unfoldable pub pushAt : List ℕ → Reader → List ℕ → Push
-pushAt store r arrival = pushOn store r arrival (taken (length store) (part store r) arrival)
+pushAt store r arrival = pushOn store r arrival (takenCount (length store) (part store r) arrival)
 
 unfoldable pub pushOf : Reader → List ℕ → List ℕ → Push
 pushOf r arrival store = pushAt store (usable store r) arrival

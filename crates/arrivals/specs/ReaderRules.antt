@@ -11,7 +11,7 @@ use Rattle.message.specs.Head.{headOf, lengthOf, maxLength}
 use Rattle.arrivals.specs.declared.Reader.{Reader}
 use Rattle.arrivals.specs.declared.NextFrame.{NextFrame}
 use Rattle.arrivals.specs.Reader.{Push, storeSize, lengthBytes, waitForMore, badLength, standsFirst, badFirst}
-use Rattle.arrivals.specs.Reader.{held, taken, pushOf, nextOf}
+use Rattle.arrivals.specs.Reader.{held, takenCount, pushOf, nextOf}
 
 -- of a bad length that stands first only its four bytes are kept
 abbrev pub kept : List ℕ → List ℕ
@@ -21,7 +21,7 @@ kept bytes = cond (badFirst bytes) (take lengthBytes bytes) bytes
 
 pub record Pushes (r : Reader) (arrival store : List ℕ) (after : Push) : Type 0 where
   -- "tells the count taken"
-  pub count : after .answer .count ≡ taken (length store) (held store r) arrival
+  pub count : after .answer .count ≡ takenCount (length store) (held store r) arrival
   -- what was held is held, and behind it what was taken
   pub bytes : held (after .store) (after .answer .reader) ≡ kept (held store r ++ take (after .answer .count) arrival)
   -- the reason is that of what is held then

@@ -1,12 +1,12 @@
 -- Every list of operations keeps one invariant: frames handed out, then bytes left, then bytes dropped behind a bad
 -- length are the bytes taken. Assumes nothing.
-use Prim.Native.Nat.{ℕ}
+use Prim.Native.Nat.{ℕ, zero, suc, _≤_}
 use native.Mathlib.Omega.{arith}
 use mathlib.Core.Bool.{Bool, true, false, cond}
 use mathlib.Core.Path.{_≡_, refl, sym, ap, _∙_}
 use mathlib.Core.List.{List, [], _∷_, _++_, append-nil}
 use mathlib.Core.Logic.{inl, ⊎-elim}
-use lib.ListN.{length, take}
+use lib.ListN.{length, take, drop, replicate, length-take, length-drop}
 use lib.Seq.{take-all, take-length}
 use borrow.Author.Tests.{eq-eqb, ne-eqb, eqb-true}
 use Rattle.session.specs.Lists.{All}
@@ -14,17 +14,19 @@ use Rattle.message.specs.declared.head.Head.{Head}
 use Rattle.message.specs.Head.{headOf}
 use Rattle.arrivals.specs.declared.Reader.{Reader}
 use Rattle.arrivals.specs.declared.NextFrame.{NextFrame}
-use Rattle.arrivals.specs.Reader.{Push, badLength, standsFirst, badFirst, startOver, isPart, part, held, pushOf, nextOf}
+use Rattle.arrivals.specs.Reader.{Push, lengthBytes, badLength, standsFirst, badFirst, startOver, isPart, part, held}
+use Rattle.arrivals.specs.Reader.{pushOf, nextOf}
 use Rattle.arrivals.specs.ReaderRules.{kept, frameAt, Pushes, Hands, HandsNone, Whole}
-use Rattle.arrivals.proofs.HeldLaws.{pushes-behind, hands-first}
+use Rattle.arrivals.proofs.HeldLaws.{stands-kept, pushes-behind, hands-first}
 use Rattle.streams.specs.Reading.{Operation, push, nextFrame, restart, Reading, left, pushedBy, handedBy}
 use Rattle.streams.specs.Reading.{operate, operated, fromStart, reading}
 use Rattle.streams.specs.Stream.{joined, Stream, stream, lessDropped}
 use Rattle.streams.specs.Divided.{Offered}
 use Rattle.streams.specs.Demands.{FramesArrive}
 use Rattle.streams.specs.Arrivals.{Always, Conserved, HandsOutFrames, Drained, ReadInOrder, goesOn, Refuses}
-use Rattle.streams.specs.Arrivals.{Stays, StaysBad, StartsEmpty}
-use Rattle.arrivals.proofs.FrontLaws.{bad-told, bad-known, refused-some, nothing-kept}
+use Rattle.streams.specs.Arrivals.{Stays, StaysBad, StartsEmpty, Drains}
+use Rattle.arrivals.proofs.FrontLaws.{frame-told, refused-some, refused-none, bad-told, bad-known, refusal, whole-told}
+use Rattle.arrivals.proofs.FrontLaws.{kept-both, nothing-kept}
 use Rattle.history.proofs.ListLaws.{all-append}
 use Rattle.streams.proofs.StreamLaws.{Holds, holds-as, joined-holds, more-comes, one-out, four-left, stream-is}
 use Rattle.streams.proofs.StreamLaws.{whole-stream, dropped-alike, behind-alike}
@@ -269,3 +271,38 @@ stays (restart ∷ os) g x s = absurd (let z : _≡_ {A = ℕ} 0 1 = cc in omega
 pub stays-bad : StaysBad
 stays-bad store os bad more g =
     stays more g (reading store os) (record { settled = reading-sound store os .holds .settled; bad = bad })
+
+-- ---- hand-outs come to an end
+
+kept-short : (b : List ℕ) → length (kept b) ≤ length b
+kept-short b =
+    kept-both (λ l. length l ≤ length b) b (λ _. omega (arith, length-take lengthBytes b)) (λ _. omega arith)
+
+stays-drained : (n : ℕ) (x : Reading) → Drained x → Drained (operated (replicate n nextFrame) x)
+unfolding operated operate
+stays-drained zero x none = none
+stays-drained (suc n) x none =
+    stays-drained n (operate nextFrame x) (λ z. none (stands-kept (left x) ∙ ap standsFirst (sym (same .left)) ∙ z))
+  where
+    same : HandsNone (x .reader) (x .store) (standsFirst (left x)) (nextOf (x .reader) (x .store))
+    same = rw (refusal (left x) none) at (hands-first (x .reader) (x .store))
+
+-- a hand-out leaves no frame, or fewer bytes
+drains-on : (n : ℕ) (x : Reading) → length (left x) ≤ suc n → (t : Head) → headOf (left x) ≡ t →
+    Hands (x .reader) (x .store) (nextOf (x .reader) (x .store)) t →
+    (length (left (operate nextFrame x)) ≤ n → Drained (operated (replicate n nextFrame) (operate nextFrame x))) →
+    Drained (operated (replicate (suc n) nextFrame) x)
+unfolding operated operate
+drains-on n x h (Head.Frame kind end) e p again =
+    let s = frame-told (left x) e in
+    again (omega (arith, ap length (p .left), kept-short (drop end (left x)), length-drop end (left x), s .ends))
+drains-on n x h (Head.Refused reason) e p again = stays-drained (suc n) x (refused-none (left x) e)
+
+drains-in : (n : ℕ) (x : Reading) → length (left x) ≤ n → Drained (operated (replicate n nextFrame) x)
+unfolding operated
+drains-in zero x h = λ z. omega (arith, whole-told (left x) z .known)
+drains-in (suc n) x h =
+    drains-on n x h (headOf (left x)) refl (hands-first (x .reader) (x .store)) (drains-in n (operate nextFrame x))
+
+pub drains : Drains
+drains x = drains-in (length (left x)) x (omega arith)

@@ -3,7 +3,7 @@ use Prim.Native.Nat.{ℕ}
 use mathlib.Core.Bool.{Bool, true, false}
 use mathlib.Core.Path.{_≡_}
 use mathlib.Core.List.{List, [], _∷_, _++_}
-use lib.ListN.{length}
+use lib.ListN.{length, replicate}
 use Rattle.session.specs.Lists.{All}
 use Rattle.arrivals.specs.ReaderRules.{Whole}
 use Rattle.arrivals.specs.Reader.{lengthBytes, badLength, standsFirst, badFirst, pushOf, nextOf}
@@ -45,6 +45,10 @@ pub record Reads (x : Reading) : Type 0 where
 
 abbrev pub ReadInOrder : Type 0
 ReadInOrder = Always (λ x. Drained x → Reads x)
+
+-- as many hand-outs as bytes are left leave no held frame, so that a host's loop ends
+abbrev pub Drains : Type 0
+Drains = (x : Reading) → Drained (operated (replicate (length (left x)) nextFrame) x)
 
 -- ---- a bad length stays
 
