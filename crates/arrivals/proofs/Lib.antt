@@ -1,4 +1,2 @@
-pub mod FrontLaws
 pub mod RoomLaws
 pub mod ReaderLaws
-pub mod HeldLaws

@@ -2,13 +2,12 @@
 use Prim.Native.Nat.{ℕ, _+_, _-_, _≤_, _<_, min}
 use native.Mathlib.Nat.{add-zero}
 use native.Mathlib.Omega.{arith}
-use mathlib.Core.Bool.{Bool, true, false, _&&_}
+use mathlib.Core.Bool.{true, false}
 use mathlib.Core.Path.{_≡_, refl, sym, ap, _∙_}
 use mathlib.Core.List.{List, []}
-use lib.ListN.{length, take, drop, length-drop}
+use lib.ListN.{length, take}
 use lib.Seq.{length-take-le}
-use lib.Dec.{leb, eqb}
-use borrow.Author.Tests.{le-leb, lt-leb, eq-eqb, ne-eqb}
+use borrow.Author.Tests.{le-leb, eq-eqb, ne-eqb}
 use Rattle.varint.specs.Put.{written}
 use Rattle.varint.proofs.PutLaws.{put-fits}
 use Rattle.args.proofs.PartLaws.{yes, no}
@@ -16,22 +15,17 @@ use Rattle.message.specs.declared.head.Head.{Head}
 use Rattle.message.specs.Head.{headOf}
 use Rattle.message.specs.Numbers.{headReason}
 use Rattle.message.proofs.WithinLaws.{frame-within}
-use Rattle.arrivals.specs.Reader.{lengthBytes, badLength, standsFirst, reader, startOver, between, part, isPart}
-use Rattle.arrivals.specs.Reader.{usable, settled, nextBy, nextAt, nextOf}
-use Rattle.arrivals.specs.Reader.{Push, takenCount, readerFor, storeFor, pushedTo, behind, pushOn, pushAt, pushOf}
-use Rattle.arrivals.specs.declared.Reader.{Reader}
+use Rattle.streams.specs.Reader.{lengthBytes, badLength, standsFirst, reader, startOver, between, part, isPart}
+use Rattle.streams.specs.Reader.{usable, settled, nextBy, nextAt, nextOf}
+use Rattle.streams.specs.Reader.{Push, takenCount, readerFor, storeFor, pushedTo, behind, pushOn, pushAt, pushOf}
+use Rattle.streams.specs.declared.Reader.{Reader}
+use Rattle.streams.proofs.HeldLaws.{length-between, usable-part, usable-none}
 
 -- ---- what stands first
 
 pub stands-as : (s : List ℕ) {h : Head} → h ≡ headOf s → headReason h ≡ standsFirst s
 unfolding standsFirst
 stands-as s e = ap headReason e
-
--- ---- the bytes from one place up to another
-
-pub length-between : (store : List ℕ) (start end : ℕ) → end ≤ length store →
-    length (between store start end) ≡ end - start
-length-between store start end h = length-take-le (end - start) (drop start store) (rw length-drop (omega arith))
 
 -- a frame that stands first ends within them
 pub frame-fits : (store : List ℕ) (start end : ℕ) {kind len : ℕ} → start ≤ end → end ≤ length store →
@@ -51,24 +45,6 @@ module _ (store : List ℕ) (start end : ℕ) {first : ℕ} (e : first ≡ stand
   settled-not h =
       no (reader start (start + lengthBytes)) (reader start end)
       (ne-eqb (standsFirst (between store start end)) badLength (λ z. h (e ∙ z)))
-
--- ---- which readers are parts of the store
-
-module _ (store : List ℕ) (r : Reader) where
-  pub is-part : r .start ≤ r .end → r .end ≤ length store → isPart store r ≡ true
-  is-part a b = rw (le-leb (r .start) (r .end) a, le-leb (r .end) (length store) b)
-
-  pub is-reversed : r .end < r .start → isPart store r ≡ false
-  is-reversed a = rw (lt-leb (r .start) (r .end) a)
-
-  pub is-past : r .start ≤ r .end → length store < r .end → isPart store r ≡ false
-  is-past a b = rw (le-leb (r .start) (r .end) a, lt-leb (r .end) (length store) b)
-
-  pub usable-part : isPart store r ≡ true → r ≡ usable store r
-  usable-part = yes r startOver
-
-  pub usable-none : isPart store r ≡ false → startOver ≡ usable store r
-  usable-none = no r startOver
 
 -- ---- the next frame
 

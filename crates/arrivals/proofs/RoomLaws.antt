@@ -11,8 +11,8 @@ use borrow.Author.Tests.{le-leb, lt-leb}
 use Rattle.varint.specs.Put.{written}
 use Rattle.varint.proofs.PutLaws.{put-fits}
 use Rattle.args.proofs.PartLaws.{yes, no}
-use Rattle.arrivals.specs.Reader.{reader, part, readerFor, storeFor}
-use Rattle.arrivals.specs.declared.Reader.{Reader}
+use Rattle.streams.specs.Reader.{reader, part, readerFor, storeFor}
+use Rattle.streams.specs.declared.Reader.{Reader}
 
 -- where the moving loop stands: what is left, stored from here on, gives the store that is to be; from here on it is
 -- as it was

@@ -4,14 +4,15 @@ ghost use mathlib.Core.Path.{_≡_};
 ghost use Prim.Native.Nat.{_≤_, min};
 ghost use mathlib.Core.List.{[]};
 ghost use lib.ListN.{length};
-ghost use Rattle.arrivals.specs.Reader.{nextAt, nextOf, pushAt, pushOf, reader, settled, standsFirst, startOver};
+ghost use Rattle.streams.specs.Reader.{nextAt, nextOf, pushAt, pushOf, reader, settled, standsFirst, startOver};
 use message::head::Head;
 use room::make_room;
+use streams::NextFrame;
+use streams::Pushed;
+use streams::Reader;
+use streams::STORE;
 
 pub mod room;
-
-// The bytes of a store: the longest frame fills it.
-pub const STORE: usize = 65536;
 
 // The refusals: a frame that is not all there, and a bad length.
 pub const WAIT_FOR_MORE: u64 = 1;
@@ -20,31 +21,6 @@ pub const BAD_LENGTH: u64 = 2;
 
 // The bytes of a frame's length.
 const LENGTH_BYTES: usize = 4;
-
-// The bytes held are those of the store from `start` up to `end`. Two numbers that are no such part hold nothing.
-#[repr(C)]
-pub struct Reader {
-    pub start: usize,
-    pub end: usize,
-}
-
-// What a push answers: the reader after it, what stands first then, and how many bytes were taken.
-#[repr(C)]
-pub struct Pushed {
-    pub reader: Reader,
-    pub reason: u64,
-    pub count: usize,
-}
-
-// A frame handed out, with its place in the store, its length and its type byte; or the reason that there is none.
-#[repr(C)]
-pub struct NextFrame {
-    pub reader: Reader,
-    pub reason: u64,
-    pub start: usize,
-    pub len: usize,
-    pub kind: u64,
-}
 
 // A reader that holds nothing.
 pub fn start_over() -> Reader

@@ -3,8 +3,8 @@ ghost use mathlib.Core.Path.{_≡_};
 ghost use Prim.Native.Nat.{_+_, _-_, _≤_};
 ghost use lib.ListN.{drop, length, take};
 ghost use Rattle.varint.specs.Put.{written};
-ghost use Rattle.arrivals.specs.Reader.{readerFor, storeFor};
-use crate::Reader;
+ghost use Rattle.streams.specs.Reader.{readerFor, storeFor};
+use streams::Reader;
 
 // The bytes from `start` on, moved to the front of the store, the first one first: each is read before it is
 // written over.

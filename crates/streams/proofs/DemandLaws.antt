@@ -13,9 +13,9 @@ use Rattle.message.proofs.WithinLaws.{frame-within}
 use Rattle.rules.proofs.WholeLaws.{step-whole}
 use Rattle.history.proofs.HistoryLaws.{demand-3}
 use Rattle.writer.proofs.RoundTripLaws.{round-trip}
-use Rattle.arrivals.specs.Reader.{lengthBytes}
-use Rattle.arrivals.specs.ReaderRules.{Whole}
-use Rattle.arrivals.proofs.FrontLaws.{frame-told, refused-some}
+use Rattle.streams.specs.Reader.{lengthBytes}
+use Rattle.streams.specs.ReaderRules.{Whole}
+use Rattle.streams.proofs.FrontLaws.{frame-told, refused-some}
 use Rattle.streams.specs.Reading.{handedOut, reading}
 use Rattle.streams.specs.Divided.{inputs}
 use Rattle.streams.specs.Demands.{StepsUseAll, Demand3Arrivals, Written, frameOf, WrittenComeBack}

@@ -1,3 +1,5 @@
+pub mod FrontLaws
+pub mod HeldLaws
 pub mod StreamLaws
 pub mod ReadingLaws
 pub mod DividedLaws

@@ -12,12 +12,12 @@ use borrow.Author.Tests.{eq-eqb, ne-eqb, eqb-true}
 use Rattle.session.specs.Lists.{All}
 use Rattle.message.specs.declared.head.Head.{Head}
 use Rattle.message.specs.Head.{headOf}
-use Rattle.arrivals.specs.declared.Reader.{Reader}
-use Rattle.arrivals.specs.declared.NextFrame.{NextFrame}
-use Rattle.arrivals.specs.Reader.{Push, lengthBytes, badLength, standsFirst, badFirst, startOver, isPart, part, held}
-use Rattle.arrivals.specs.Reader.{pushOf, nextOf}
-use Rattle.arrivals.specs.ReaderRules.{kept, frameAt, Pushes, Hands, HandsNone, Whole}
-use Rattle.arrivals.proofs.HeldLaws.{stands-kept, pushes-behind, hands-first}
+use Rattle.streams.specs.declared.Reader.{Reader}
+use Rattle.streams.specs.declared.NextFrame.{NextFrame}
+use Rattle.streams.specs.Reader.{Push, lengthBytes, badLength, standsFirst, badFirst, startOver, isPart, part, held}
+use Rattle.streams.specs.Reader.{pushOf, nextOf}
+use Rattle.streams.specs.ReaderRules.{kept, frameAt, Pushes, Hands, HandsNone, Whole}
+use Rattle.streams.proofs.HeldLaws.{stands-kept, pushes-behind, hands-first}
 use Rattle.streams.specs.Reading.{Operation, push, nextFrame, restart, Reading, left, pushedBy, handedBy}
 use Rattle.streams.specs.Reading.{operate, operated, fromStart, reading}
 use Rattle.streams.specs.Stream.{joined, Stream, stream, lessDropped}
@@ -25,8 +25,8 @@ use Rattle.streams.specs.Divided.{Offered}
 use Rattle.streams.specs.Demands.{FramesArrive}
 use Rattle.streams.specs.Arrivals.{Always, Conserved, HandsOutFrames, Drained, ReadInOrder, goesOn, Refuses}
 use Rattle.streams.specs.Arrivals.{Stays, StaysBad, StartsEmpty, Drains}
-use Rattle.arrivals.proofs.FrontLaws.{frame-told, refused-some, refused-none, bad-told, bad-known, refusal, whole-told}
-use Rattle.arrivals.proofs.FrontLaws.{kept-both, nothing-kept}
+use Rattle.streams.proofs.FrontLaws.{frame-told, refused-some, refused-none, bad-told, bad-known, refusal, whole-told}
+use Rattle.streams.proofs.FrontLaws.{kept-both, nothing-kept}
 use Rattle.history.proofs.ListLaws.{all-append}
 use Rattle.streams.proofs.StreamLaws.{Holds, holds-as, joined-holds, more-comes, one-out, four-left, stream-is}
 use Rattle.streams.proofs.StreamLaws.{whole-stream, dropped-alike, behind-alike}

@@ -5,8 +5,8 @@ use mathlib.Core.Path.{_≡_}
 use mathlib.Core.List.{List, [], _∷_, _++_}
 use lib.ListN.{length, replicate}
 use Rattle.session.specs.Lists.{All}
-use Rattle.arrivals.specs.ReaderRules.{Whole}
-use Rattle.arrivals.specs.Reader.{lengthBytes, badLength, standsFirst, badFirst, pushOf, nextOf}
+use Rattle.streams.specs.ReaderRules.{Whole}
+use Rattle.streams.specs.Reader.{lengthBytes, badLength, standsFirst, badFirst, pushOf, nextOf}
 use Rattle.streams.specs.Reading.{Operation, push, nextFrame, restart, Reading, left, handedOut, operated}
 use Rattle.streams.specs.Reading.{reading}
 use Rattle.streams.specs.Stream.{joined, stream}

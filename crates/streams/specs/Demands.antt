@@ -12,7 +12,7 @@ use Rattle.history.specs.History.{Kept, reached}
 use Rattle.writer.specs.declared.Draft.{Draft}
 use Rattle.writer.specs.RoundTrip.{Sized}
 use Rattle.writer.specs.Write.{frameBytes, draftReason}
-use Rattle.arrivals.specs.ReaderRules.{Whole}
+use Rattle.streams.specs.ReaderRules.{Whole}
 use Rattle.streams.specs.Reading.{left, handedOut}
 use Rattle.streams.specs.Stream.{joined}
 use Rattle.streams.specs.Arrivals.{Always, Drained}

@@ -11,7 +11,7 @@ use Rattle.rules.specs.declared.Report.{Report}
 use Rattle.rules.specs.Step.{minBuffer}
 use Rattle.rules.specs.StepRules.{outcome}
 use Rattle.history.specs.Run.{Input, run}
-use Rattle.arrivals.specs.Reader.{badFirst}
+use Rattle.streams.specs.Reader.{badFirst}
 use Rattle.streams.specs.Reading.{Reading, left}
 use Rattle.streams.specs.Stream.{lessDropped}
 use Rattle.streams.specs.Arrivals.{Always, Drained}

@@ -1,3 +1,5 @@
+pub mod Reader
+pub mod ReaderRules
 pub mod Reading
 pub mod Stream
 pub mod Arrivals

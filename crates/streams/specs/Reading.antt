@@ -5,10 +5,10 @@ use mathlib.Core.Bool.{cond}
 use mathlib.Core.List.{List, [], _∷_, _++_}
 use lib.ListN.{take}
 use lib.Dec.{eqb}
-use Rattle.arrivals.specs.declared.Reader.{Reader}
-use Rattle.arrivals.specs.declared.NextFrame.{NextFrame}
-use Rattle.arrivals.specs.Reader.{Push, startOver, held, pushOf, nextOf}
-use Rattle.arrivals.specs.ReaderRules.{frameAt}
+use Rattle.streams.specs.declared.Reader.{Reader}
+use Rattle.streams.specs.declared.NextFrame.{NextFrame}
+use Rattle.streams.specs.Reader.{Push, startOver, held, pushOf, nextOf}
+use Rattle.streams.specs.ReaderRules.{frameAt}
 
 pub data Operation : Type 0 where
   push : List ℕ → Operation

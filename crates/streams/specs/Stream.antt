@@ -5,7 +5,7 @@ use mathlib.Core.List.{List, [], _∷_, _++_}
 use lib.ListN.{length, take, drop}
 use Rattle.message.specs.declared.head.Head.{Head}
 use Rattle.message.specs.Head.{headOf}
-use Rattle.arrivals.specs.ReaderRules.{kept}
+use Rattle.streams.specs.ReaderRules.{kept}
 
 -- frames one behind the other
 unfoldable pub joined : List (List ℕ) → List ℕ

@@ -5,10 +5,11 @@ use native.Mathlib.Omega.{arith}
 use mathlib.Core.Path.{_≡_, sym, ap, _∙_}
 use borrow.Author.Needs.{needs}
 use Rattle.message.specs.declared.head.Head.{Head}
-use Rattle.arrivals.specs.Reader.{nextBy}
-use Rattle.arrivals.specs.declared.Reader.{Reader}
-use Rattle.arrivals.specs.declared.NextFrame.{NextFrame}
-use Rattle.arrivals.proofs.ReaderLaws.{frame-fits, is-part, is-reversed, is-past, next-none, next-by}
+use Rattle.streams.specs.Reader.{nextBy}
+use Rattle.streams.specs.declared.Reader.{Reader}
+use Rattle.streams.specs.declared.NextFrame.{NextFrame}
+use Rattle.streams.proofs.HeldLaws.{is-part, is-reversed, is-past}
+use Rattle.arrivals.proofs.ReaderLaws.{frame-fits, next-none, next-by}
 use Rattle.arrivals.proofs.next_in.Statement.{statement}
 use Rattle.arrivals.proofs.next_in.Tie as tie
 

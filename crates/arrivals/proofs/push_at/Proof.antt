@@ -5,9 +5,9 @@ use mathlib.Core.Path.{_≡_, sym, ap, _∙_}
 use borrow.Author.Needs.{needs}
 use lib.Seq.{length-take-le}
 use Prim.Native.Nat.{ℕ}
-use Rattle.arrivals.specs.Reader.{Push, reader}
-use Rattle.arrivals.specs.declared.Reader.{Reader}
-use Rattle.arrivals.specs.declared.Pushed.{Pushed}
+use Rattle.streams.specs.Reader.{Push, reader}
+use Rattle.streams.specs.declared.Reader.{Reader}
+use Rattle.streams.specs.declared.Pushed.{Pushed}
 use Rattle.arrivals.proofs.ReaderLaws.{push-as, push-bad, taken-room}
 use Rattle.arrivals.proofs.push_at.Statement.{statement}
 use Rattle.arrivals.proofs.push_at.Tie as tie

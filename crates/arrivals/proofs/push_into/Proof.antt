@@ -1,8 +1,9 @@
 -- `arrivals::push_into` meets its contract: the bytes held are those of a part of the store, or none. Assumes nothing.
 use mathlib.Core.Path.{ap, _∙_}
 use borrow.Author.Needs.{needs}
-use Rattle.arrivals.specs.Reader.{Push}
-use Rattle.arrivals.proofs.ReaderLaws.{is-part, is-reversed, is-past, push-part, push-none}
+use Rattle.streams.specs.Reader.{Push}
+use Rattle.streams.proofs.HeldLaws.{is-part, is-reversed, is-past}
+use Rattle.arrivals.proofs.ReaderLaws.{push-part, push-none}
 use Rattle.arrivals.proofs.push_into.Statement.{statement}
 use Rattle.arrivals.proofs.push_into.Tie as tie
 

@@ -1,9 +1,9 @@
 -- `arrivals::waiting` meets its contract: of nothing, nothing is handed out. Assumes nothing.
 use mathlib.Core.Path.{ap}
 use borrow.Author.Needs.{needs}
-use Rattle.arrivals.specs.Reader.{standsFirst}
-use Rattle.arrivals.specs.declared.Reader.{Reader}
-use Rattle.arrivals.specs.declared.NextFrame.{NextFrame}
+use Rattle.streams.specs.Reader.{standsFirst}
+use Rattle.streams.specs.declared.Reader.{Reader}
+use Rattle.streams.specs.declared.NextFrame.{NextFrame}
 use Rattle.arrivals.proofs.waiting.Statement.{statement}
 use Rattle.arrivals.proofs.waiting.Tie as tie
 

@@ -10,9 +10,9 @@ use Rattle.varint.specs.Put.{written}
 use Rattle.message.specs.declared.head.Head.{Head}
 use Rattle.message.specs.Head.{headOf}
 use Rattle.message.specs.Numbers.{headReason}
-use Rattle.arrivals.specs.declared.Reader.{Reader}
-use Rattle.arrivals.specs.declared.Pushed.{Pushed}
-use Rattle.arrivals.specs.declared.NextFrame.{NextFrame}
+use Rattle.streams.specs.declared.Reader.{Reader}
+use Rattle.streams.specs.declared.Pushed.{Pushed}
+use Rattle.streams.specs.declared.NextFrame.{NextFrame}
 
 abbrev pub storeSize : ℕ
 storeSize = 65536

@@ -10,26 +10,30 @@ use mathlib.Core.Logic.{_⊎_, inl, inr, ⊎-elim}
 use lib.ListN.{length, take, drop, length-append, length-take, length-drop}
 use lib.Seq.{length-take-le, take-take, take-add, drop-drop, drop-append-le, take-at, drop-at}
 use lib.Dec.{leb, eqb}
-use borrow.Author.Tests.{le-leb, leb-true, leb-false, eq-eqb, ne-eqb, eqb-true, eqb-false}
+use borrow.Author.Tests.{le-leb, lt-leb, leb-true, leb-false, eq-eqb, ne-eqb, eqb-true, eqb-false}
 use Rattle.varint.specs.Put.{written}
 use Rattle.varint.proofs.PastLaws.{both}
 use Rattle.varint.proofs.PutLaws.{length-written}
+use Rattle.args.proofs.PartLaws.{yes, no}
 use Rattle.message.specs.declared.head.Head.{Head}
 use Rattle.message.specs.Head.{headOf, lengthOf, maxLength}
-use Rattle.arrivals.specs.declared.Reader.{Reader}
-use Rattle.arrivals.specs.declared.NextFrame.{NextFrame}
-use Rattle.arrivals.specs.Reader.{Push, storeSize, lengthBytes, waitForMore, badLength, standsFirst, badFirst}
-use Rattle.arrivals.specs.Reader.{reader, startOver, between, part, isPart, usable, held, settled, takenCount}
-use Rattle.arrivals.specs.Reader.{fitsBehind, readerFor, storeFor, pushedTo, behind, pushOn, pushAt, pushOf}
-use Rattle.arrivals.specs.Reader.{nextBy, nextAt, nextOf}
-use Rattle.arrivals.specs.ReaderRules.{kept, Pushes, PushesBehind, frameAt, HandsOut, HandsNone, Hands}
-use Rattle.arrivals.specs.ReaderRules.{HandsFirst, Alike, PushesAlike, HandsAlike, HeldDecides, WholeFirst}
-use Rattle.arrivals.specs.ReaderRules.{BadFirst, Reasons, WaitsExactly, WaitHasRoom}
-use Rattle.arrivals.proofs.FrontLaws.{first-is, frame-told, frame-known, bad-known, refused-told, refusal}
-use Rattle.arrivals.proofs.FrontLaws.{whole-told, bad-told, is-bad, bad-four, kept-bad, kept-good, kept-both}
-use Rattle.arrivals.proofs.ReaderLaws.{length-between, is-part, usable-part}
+use Rattle.streams.specs.declared.Reader.{Reader}
+use Rattle.streams.specs.declared.NextFrame.{NextFrame}
+use Rattle.streams.specs.Reader.{Push, storeSize, lengthBytes, waitForMore, badLength, standsFirst, badFirst}
+use Rattle.streams.specs.Reader.{reader, startOver, between, part, isPart, usable, held, settled, takenCount}
+use Rattle.streams.specs.Reader.{fitsBehind, readerFor, storeFor, pushedTo, behind, pushOn, pushAt, pushOf}
+use Rattle.streams.specs.Reader.{nextBy, nextAt, nextOf}
+use Rattle.streams.specs.ReaderRules.{kept, Pushes, PushesBehind, frameAt, HandsOut, HandsNone, Hands}
+use Rattle.streams.specs.ReaderRules.{HandsFirst, Alike, PushesAlike, HandsAlike, HeldDecides, WholeFirst}
+use Rattle.streams.specs.ReaderRules.{BadFirst, Reasons, WaitsExactly, WaitHasRoom}
+use Rattle.streams.proofs.FrontLaws.{first-is, frame-told, frame-known, bad-known, refused-told, refusal}
+use Rattle.streams.proofs.FrontLaws.{whole-told, bad-told, is-bad, bad-four, kept-bad, kept-good, kept-both}
 
 -- ---- the bytes from one place up to another
+
+pub length-between : (store : List ℕ) (start end : ℕ) → end ≤ length store →
+    length (between store start end) ≡ end - start
+length-between store start end h = length-take-le (end - start) (drop start store) (rw length-drop (omega arith))
 
 drop-take : (n m : ℕ) (l : List ℕ) → m ≤ length l → n ≤ m → drop n (take m l) ≡ take (m - n) (drop n l)
 drop-take n m l h g =
@@ -62,6 +66,24 @@ between-written store start end bytes a b =
     ∙ take-at (drop start (front ++ bytes)) rest (end + length bytes - start) (rw (length-drop, both-long))
     ∙ drop-append-le start front bytes (omega arith)
     ∙ ap (λ (l : List ℕ). l ++ bytes) (drop-take start end store (omega arith) a)
+
+-- ---- which readers are parts of the store
+
+module _ (store : List ℕ) (r : Reader) where
+  pub is-part : r .start ≤ r .end → r .end ≤ length store → isPart store r ≡ true
+  is-part a b = rw (le-leb (r .start) (r .end) a, le-leb (r .end) (length store) b)
+
+  pub is-reversed : r .end < r .start → isPart store r ≡ false
+  is-reversed a = rw (lt-leb (r .start) (r .end) a)
+
+  pub is-past : r .start ≤ r .end → length store < r .end → isPart store r ≡ false
+  is-past a b = rw (le-leb (r .start) (r .end) a, lt-leb (r .end) (length store) b)
+
+  pub usable-part : isPart store r ≡ true → r ≡ usable store r
+  usable-part = yes r startOver
+
+  pub usable-none : isPart store r ≡ false → startOver ≡ usable store r
+  usable-none = no r startOver
 
 -- ---- a part of the store is held
 
@@ -123,14 +145,12 @@ stands-kept b =
 
 taken-within : (size : ℕ) (bytes arrival : List ℕ) → takenCount size bytes arrival ≤ length arrival
 taken-within size bytes arrival =
-    both (λ (n : ℕ). n ≤ length arrival) (badFirst bytes) 0 (min (length arrival) (size - length bytes))
-    (λ _. omega arith) (λ _. omega arith)
+    both (λ (n : ℕ). n ≤ length arrival) (badFirst bytes) _ _ (λ _. omega arith) (λ _. omega arith)
 
 taken-fits : (size : ℕ) (bytes arrival : List ℕ) → length bytes ≤ size →
     length bytes + takenCount size bytes arrival ≤ size
 taken-fits size bytes arrival h =
-    both (λ (n : ℕ). length bytes + n ≤ size) (badFirst bytes) 0 (min (length arrival) (size - length bytes))
-    (λ _. omega arith) (λ _. omega arith)
+    both (λ (n : ℕ). length bytes + n ≤ size) (badFirst bytes) _ _ (λ _. omega arith) (λ _. omega arith)
 
 -- where room was made for n bytes, the bytes held are the same, and n more fit
 pub record Made (store : List ℕ) (r : Reader) (n : ℕ) (place : Reader) (after : List ℕ) : Type 0 where
@@ -365,9 +385,7 @@ wait-has-room r arrival store size e some =
     let w = waited r store (nextOf r store) (headOf b) refl (hands-first r store) e in
     let p = pushes-behind (nextOf r store .reader) arrival store in
     let not-bad = ne-eqb (standsFirst b) badLength (λ y. omega (arith, w .0)) in
-    let n : pushOf (nextOf r store .reader) arrival store .answer .count
-    ≡ min (length arrival) (length store - length b) =
-    p .count
-    ∙ ap (λ (l : List ℕ). takenCount (length store) l arrival) (w .1)
-    ∙ ap (λ (t : Bool). cond t 0 (min (length arrival) (length store - length b))) not-bad in
+    let room = min (length arrival) (length store - length b) in
+    let n : pushOf (nextOf r store .reader) arrival store .answer .count ≡ room =
+        p .count ∙ ap (λ (l : List ℕ). takenCount (length store) l arrival) (w .1) ∙ sym (no _ room not-bad) in
     omega (arith, n, wait-short b (w .0))

@@ -8,10 +8,10 @@ use mathlib.Core.Logic.{_⊎_}
 use lib.ListN.{length, getD, take, drop}
 use Rattle.message.specs.declared.head.Head.{Head}
 use Rattle.message.specs.Head.{headOf, lengthOf, maxLength}
-use Rattle.arrivals.specs.declared.Reader.{Reader}
-use Rattle.arrivals.specs.declared.NextFrame.{NextFrame}
-use Rattle.arrivals.specs.Reader.{Push, storeSize, lengthBytes, waitForMore, badLength, standsFirst, badFirst}
-use Rattle.arrivals.specs.Reader.{held, takenCount, pushOf, nextOf}
+use Rattle.streams.specs.declared.Reader.{Reader}
+use Rattle.streams.specs.declared.NextFrame.{NextFrame}
+use Rattle.streams.specs.Reader.{Push, storeSize, lengthBytes, waitForMore, badLength, standsFirst, badFirst}
+use Rattle.streams.specs.Reader.{held, takenCount, pushOf, nextOf}
 
 -- of a bad length that stands first only its four bytes are kept
 abbrev pub kept : List ℕ → List ℕ

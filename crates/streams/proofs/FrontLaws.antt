@@ -15,8 +15,8 @@ use Rattle.scalar.specs.Fixed.{little}
 use Rattle.message.specs.declared.head.Head.{Head}
 use Rattle.message.specs.Head.{headOf, lengthOf, maxLength}
 use Rattle.message.specs.Numbers.{headReason}
-use Rattle.arrivals.specs.Reader.{lengthBytes, waitForMore, badLength, standsFirst, badFirst}
-use Rattle.arrivals.specs.ReaderRules.{kept, WholeFirst, BadFirst, Whole}
+use Rattle.streams.specs.Reader.{lengthBytes, waitForMore, badLength, standsFirst, badFirst}
+use Rattle.streams.specs.ReaderRules.{kept, WholeFirst, BadFirst, Whole}
 
 -- ---- the head, case by case
 
