@@ -19,6 +19,26 @@ pub struct Coverage {
     pub arguments: [u64; 10],
     pub drafts: [u64; 17],
     pub stretches: [u64; 17],
+    pub arrivals: Arrivals,
+}
+
+/// What readers met.
+#[derive(Clone, Debug, Default)]
+pub struct Arrivals {
+    /// By reason.
+    pub pushes: [u64; 3],
+    /// Pushes that left a part of the arrival.
+    pub cut_short: u64,
+    /// Frames asked for, by reason.
+    pub next_frames: [u64; 3],
+    /// By what stood first; the last is for nothing held.
+    pub start_overs: [u64; 4],
+}
+
+impl Arrivals {
+    pub fn operations(&self) -> u64 {
+        self.pushes.iter().chain(&self.next_frames).chain(&self.start_overs).sum()
+    }
 }
 
 impl Coverage {
@@ -41,6 +61,26 @@ impl Coverage {
 
     pub fn stretch(&mut self, written: Written) {
         self.stretches[usize::from(written.reason).min(16)] += 1;
+    }
+
+    pub fn push(&mut self, pushed: Pushed, offered: usize) {
+        self.arrivals.pushes[usize::from(pushed.reason)] += 1;
+        self.arrivals.cut_short += u64::from(pushed.count < offered);
+    }
+
+    pub fn next_frame(&mut self, next: &NextFrame) {
+        self.arrivals.next_frames[usize::from(next.reason)] += 1;
+    }
+
+    /// A start over, with what stood first.
+    pub fn start_over(&mut self, stood: Option<u8>) {
+        let nothing = self.arrivals.start_overs.len() - 1;
+        self.arrivals.start_overs[stood.map_or(nothing, usize::from)] += 1;
+    }
+
+    /// Operations of readers.
+    pub fn operations(&self) -> u64 {
+        self.arrivals.operations()
     }
 
     /// How often a reason was given, over all kinds.
@@ -112,7 +152,19 @@ impl fmt::Display for Coverage {
     }
 }
 
-fn by_reason(f: &mut fmt::Formatter, name: &str, counts: &[u64; 17]) -> fmt::Result {
+impl fmt::Display for Arrivals {
+    fn fmt(&self, f: &mut fmt::Formatter) -> fmt::Result {
+        write!(f, "arrivals: {} operations", self.operations())?;
+        by_reason(f, "pushes     ", &self.pushes)?;
+        write!(f, "  cut short: {}", self.cut_short)?;
+        by_reason(f, "next frames", &self.next_frames)?;
+        let [frame, part, bad, nothing] = self.start_overs;
+        write!(f, "\nstart overs  at a frame: {frame}  a part: {part}  a bad length: {bad}")?;
+        write!(f, "  nothing: {nothing}")
+    }
+}
+
+fn by_reason(f: &mut fmt::Formatter, name: &str, counts: &[u64]) -> fmt::Result {
     write!(f, "\n{name}")?;
     for (reason, count) in counts.iter().enumerate().filter(|(_, count)| **count > 0) {
         write!(f, "  reason {reason}: {count}")?;

@@ -20,8 +20,18 @@ pub const STATEMENTS: usize = 64;
 pub const CURSORS: usize = 16;
 /// The largest value of a frame's length field.
 pub const LONGEST: usize = 65_532;
+/// The bytes of length that a frame begins with.
+pub const HEAD: usize = 4;
 /// The smallest reply buffer that is not refused 3.
 pub const SMALLEST_REPLY: usize = 128;
+/// The bytes of a reader's store.
+pub const STORE: usize = 65_536;
+
+/// What stands first in a reader's store, by the number it is told with.
+pub const WHOLE_FRAME: u8 = 0;
+/// Neither a whole frame nor a bad length: wait for more.
+pub const PART: u8 = 1;
+pub const BAD_LENGTH: u8 = 2;
 
 /// A part of a frame, counted from its first byte.
 #[derive(Clone, Copy, Debug, Default, PartialEq, Eq)]
@@ -199,9 +209,27 @@ pub struct Written {
     pub length: usize,
 }
 
+/// What a push answers: what then stands first, and how many bytes of the
+/// arrival were taken.
+#[derive(Clone, Copy, Debug, Default, PartialEq, Eq)]
+pub struct Pushed {
+    pub reason: u8,
+    pub count: usize,
+}
+
+/// What handing out answers: a frame and its type byte, or why there is none.
+#[derive(Clone, Debug, Default, PartialEq, Eq)]
+pub struct NextFrame {
+    pub reason: u8,
+    pub kind: u8,
+    pub frame: Vec<u8>,
+}
+
 /// Everything the comparison asks of an implementation.
 pub trait Implementation {
     type Session: Clone;
+    /// A reader of arrivals with its store.
+    type Reader;
 
     fn name(&self) -> String;
     fn fresh(&self) -> Self::Session;
@@ -227,4 +255,11 @@ pub trait Implementation {
     fn write(&self, draft: &Draft, body: &[u8], args: &[u8], out: &mut [u8]) -> Written;
     /// Writes `scalar` as an args field behind the first `at` bytes.
     fn append(&self, buffer: &mut [u8], at: usize, scalar: &Scalar) -> Written;
+
+    fn reader(&self) -> Self::Reader;
+    fn start_over(&self, reader: &mut Self::Reader);
+    fn push(&self, reader: &mut Self::Reader, bytes: &[u8]) -> Pushed;
+    fn next_frame(&self, reader: &mut Self::Reader) -> NextFrame;
+    /// The bytes taken and not handed out yet.
+    fn held(&self, reader: &Self::Reader) -> Vec<u8>;
 }

@@ -1,6 +1,10 @@
 //! The library under test, through the raw functions of its crate: numbers that the safe wrappers rule out
 //! (a report kind of 9, a draft kind of 99) get to it too.
 
+mod reader;
+
+pub use reader::Reader;
+
 use crate::implementation::*;
 use karramotx::ffi;
 
@@ -62,6 +66,7 @@ impl Library {
 
 impl Implementation for Library {
     type Session = ffi::Session;
+    type Reader = Reader;
 
     fn name(&self) -> String {
         "library".into()
@@ -225,5 +230,25 @@ impl Implementation for Library {
                 at,
             )
         })
+    }
+
+    fn reader(&self) -> Reader {
+        Reader::fresh()
+    }
+
+    fn start_over(&self, reader: &mut Reader) {
+        reader.start_over();
+    }
+
+    fn push(&self, reader: &mut Reader, bytes: &[u8]) -> Pushed {
+        reader.push(bytes)
+    }
+
+    fn next_frame(&self, reader: &mut Reader) -> NextFrame {
+        reader.next_frame()
+    }
+
+    fn held(&self, reader: &Reader) -> Vec<u8> {
+        reader.held()
     }
 }

@@ -5,7 +5,7 @@
 //! on a mismatch, or with `--mutants` if a mistake is not found. `--mutant`
 //! shows how one mistake is reported.
 
-use differential::compare::{search, sweep};
+use differential::compare::{search, search_arrivals, sweep, sweep_arrivals, Found};
 use differential::coverage::Coverage;
 use differential::model::{Mistake, Model, MISTAKES};
 use differential::mutants::{hunt, hunt_all};
@@ -15,6 +15,8 @@ use std::time::Instant;
 
 const SEED: u64 = 20_261_115;
 const STEPS: u64 = 200_000;
+/// Steps for each operation on a reader: that has fewer rules, and large stores to compare.
+const STEPS_PER_OPERATION: u64 = 10;
 
 struct Options {
     seed: u64,
@@ -68,8 +70,12 @@ fn compare(options: &Options) {
     let found = sweep(&model, &other, &mut swept)
         .or_else(|| search(&model, &other, options.seed, options.steps, &mut coverage));
     let seconds = start.elapsed().as_secs_f64();
+    let mut arrivals = Coverage::default();
+    let found = found.or_else(|| compare_arrivals(options, &mut arrivals));
     println!("{coverage}");
+    println!("{}", arrivals.arrivals);
     let speed = (swept.steps + coverage.steps) as f64 / seconds.max(1e-9);
+    println!("steps on frames handed out: {}", arrivals.steps);
     println!("systematic: {} steps, {} accepted", swept.steps, swept.reason(0));
     println!("seed {}: {} steps, {speed:.0} steps per second", options.seed, coverage.steps);
     if let Some(found) = found {
@@ -77,6 +83,14 @@ fn compare(options: &Options) {
         exit(1);
     }
     println!("no mismatch");
+}
+
+fn compare_arrivals(options: &Options, coverage: &mut Coverage) -> Option<Found> {
+    let (model, other) = (Model::honest(), under_test());
+    sweep_arrivals(&model, &other, coverage).or_else(|| {
+        let operations = coverage.operations() + options.steps / STEPS_PER_OPERATION;
+        search_arrivals(&model, &other, options.seed, operations, coverage)
+    })
 }
 
 fn mutants(seed: u64) {

@@ -3,17 +3,18 @@
 
 use crate::compare::{run, shrink, Found};
 use crate::coverage::Coverage;
-use crate::generate::{sequence, Random};
+use crate::generate::{arrivals, sequence, Random};
 use crate::implementation::Implementation;
 use crate::model::{Mistake, Model, MISTAKES};
 
-/// Every mistake must show within this many steps.
+/// Every mistake must show within this many steps, or operations on a reader.
 pub const WITHIN: u64 = 50_000;
 
 /// How a mistake was found.
 pub struct Caught {
     pub mistake: Mistake,
-    /// Steps run until then; `None` if it was not found within the limit.
+    /// Steps run until then, or operations on a reader if the mistake is made
+    /// there; `None` if it was not found within the limit.
     pub steps: Option<u64>,
     pub found: Option<Found>,
 }
@@ -23,11 +24,14 @@ pub fn hunt<I: Implementation>(honest: &I, mistake: Mistake, seed: u64) -> Caugh
     let wrong = Model::wrong(mistake);
     let mut random = Random::new(seed);
     let mut coverage = Coverage::default();
-    while coverage.steps < WITHIN {
-        let events = sequence(&mut random);
+    let arrive = mistake.is_on_arrivals();
+    let next = if arrive { arrivals } else { sequence };
+    let done = |met: &Coverage| if arrive { met.operations() } else { met.steps };
+    while done(&coverage) < WITHIN {
+        let events = next(&mut random);
         if run(honest, &wrong, &events, &mut coverage).is_some() {
-            // The step that shows the difference is not counted by coverage.
-            let steps = Some(coverage.steps + 1);
+            // The one that shows the difference is not counted by coverage.
+            let steps = Some(done(&coverage) + 1);
             return Caught { mistake, steps, found: Some(shrink(honest, &wrong, events)) };
         }
     }
@@ -45,7 +49,8 @@ impl std::fmt::Display for Caught {
         match (self.steps, &self.found) {
             (Some(steps), Some(found)) => {
                 let (left, what) = (found.events.len(), &found.difference.what);
-                write!(f, "{name:<22} after {steps:>6} steps, shrunk to {left:>2} events: {what}")
+                let unit = if self.mistake.is_on_arrivals() { "operations" } else { "steps" };
+                write!(f, "{name:<22} after {steps:>6} {unit}, shrunk to {left:>2} events: {what}")
             }
             _ => write!(f, "{name:<22} NOT FOUND within {WITHIN} steps"),
         }

@@ -1,8 +1,8 @@
 //! Every deliberate mistake is found, and the honest model is not accused.
 
-use differential::compare::{search, sweep};
+use differential::compare::{search, search_arrivals, sweep, sweep_arrivals};
 use differential::coverage::Coverage;
-use differential::model::{Mistake, Model};
+use differential::model::{Mistake, Model, MISTAKES};
 use differential::mutants::{hunt_all, WITHIN};
 use differential::under_test;
 
@@ -39,6 +39,16 @@ fn promises_alone_find_these() {
     }
 }
 
+/// What is promised of a reader leaves no mistake on arrivals unseen.
+#[test]
+fn promises_alone_find_all_on_arrivals() {
+    for mistake in MISTAKES.iter().filter(|mistake| mistake.is_on_arrivals()) {
+        let mutant = Model::wrong(*mistake);
+        let found = search_arrivals(&mutant, &mutant, SEED, WITHIN, &mut Coverage::default());
+        assert!(found.is_some(), "{mistake:?} keeps all promises");
+    }
+}
+
 #[test]
 fn the_honest_model_is_not_accused() {
     let (honest, other) = (Model::honest(), under_test());
@@ -54,4 +64,20 @@ fn the_honest_model_is_not_accused() {
     assert!(coverage.arguments.iter().all(|count| *count > 0), "\n{coverage}");
     assert!([0, 2, 3, 6].iter().all(|reason| coverage.drafts[*reason] > 0), "\n{coverage}");
     assert!([0, 3, 6].iter().all(|reason| coverage.stretches[*reason] > 0), "\n{coverage}");
+}
+
+#[test]
+fn no_arrival_accuses_the_honest_model() {
+    let (honest, other) = (Model::honest(), under_test());
+    let mut coverage = Coverage::default();
+    let found = sweep_arrivals(&honest, &other, &mut coverage).or_else(|| {
+        let operations = coverage.operations() + 20_000;
+        search_arrivals(&honest, &other, SEED, operations, &mut coverage)
+    });
+    if let Some(found) = found {
+        panic!("{}", found.print);
+    }
+    let met = &coverage.arrivals;
+    let counts = met.pushes.iter().chain(&met.next_frames).chain(&met.start_overs);
+    assert!(counts.chain([&met.cut_short]).all(|count| *count > 0), "\n{met}");
 }

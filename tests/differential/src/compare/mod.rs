@@ -1,16 +1,23 @@
 //! Two implementations side by side on one sequence of events.
 
+mod arrivals;
+mod divisions;
 mod pair;
 mod promises;
+mod reader;
 mod shrink;
 mod tree;
 
+pub use divisions::{all_alike, divide};
 pub use pair::{Difference, Pair};
 pub use shrink::{shrink, Found};
 
 use crate::coverage::Coverage;
-use crate::generate::{sequence, systematic, Event, Random};
+use crate::generate::{arrivals, edges, long_divisions, sequence, systematic, Event, Random};
 use crate::implementation::Implementation;
+
+/// Sequences of operations in any order for each stream that is divided.
+const PER_STREAM: usize = 4;
 
 /// Runs a sequence on fresh sessions of both; says where they first differ.
 pub fn run<A: Implementation, B: Implementation>(
@@ -34,7 +41,26 @@ pub fn sweep<A: Implementation, B: Implementation>(
     b: &B,
     coverage: &mut Coverage,
 ) -> Option<Found> {
-    let sequences = systematic().into_iter();
+    first_differing(a, b, systematic(), coverage)
+}
+
+/// Divides the sample streams in every way, then runs the sequences on full
+/// stores and on starting over.
+pub fn sweep_arrivals<A: Implementation, B: Implementation>(
+    a: &A,
+    b: &B,
+    coverage: &mut Coverage,
+) -> Option<Found> {
+    divide(a, b, coverage).or_else(|| first_differing(a, b, edges(), coverage))
+}
+
+fn first_differing<A: Implementation, B: Implementation>(
+    a: &A,
+    b: &B,
+    sequences: Vec<Vec<Event>>,
+    coverage: &mut Coverage,
+) -> Option<Found> {
+    let sequences = sequences.into_iter();
     let mut differing = sequences.filter(|events| run(a, b, events, coverage).is_some());
     differing.next().map(|events| shrink(a, b, events))
 }
@@ -53,6 +79,28 @@ pub fn search<A: Implementation, B: Implementation>(
         let events = sequence(&mut random);
         if run(a, b, &events, coverage).is_some() {
             return Some(shrink(a, b, events));
+        }
+    }
+    None
+}
+
+/// Divides random streams, and reads others in any order, until `operations`
+/// operations are done or a difference shows.
+pub fn search_arrivals<A: Implementation, B: Implementation>(
+    a: &A,
+    b: &B,
+    seed: u64,
+    operations: u64,
+    coverage: &mut Coverage,
+) -> Option<Found> {
+    let mut random = Random::new(seed);
+    while coverage.operations() < operations {
+        let found = all_alike(a, b, long_divisions(&mut random), coverage).or_else(|| {
+            let several = (0..PER_STREAM).map(|_| arrivals(&mut random)).collect();
+            first_differing(a, b, several, coverage)
+        });
+        if found.is_some() {
+            return found;
         }
     }
     None

@@ -1,6 +1,8 @@
 //! One event on both sides, and everything that must be equal behind it.
 
-use super::promises::{self, Side};
+use super::arrivals::Readers;
+use super::promises::{self, Side, Stepped};
+use super::reader::Told;
 use crate::coverage::Coverage;
 use crate::generate::{Event, Step, StretchProbe, WriteProbe};
 use crate::implementation::*;
@@ -46,24 +48,36 @@ pub fn pattern(len: usize) -> Vec<u8> {
 pub struct Pair<'i, A: Implementation, B: Implementation> {
     left: Side<'i, A>,
     right: Side<'i, B>,
+    /// Made at the first arrival: most sequences have none, and stores are large.
+    readers: Option<Readers<'i, A, B>>,
 }
 
 impl<'i, A: Implementation, B: Implementation> Pair<'i, A, B> {
     pub fn fresh(left: &'i A, right: &'i B) -> Pair<'i, A, B> {
-        Pair { left: Side::fresh(left), right: Side::fresh(right) }
+        Pair { left: Side::fresh(left), right: Side::fresh(right), readers: None }
+    }
+
+    pub(super) fn readers(&mut self) -> &mut Readers<'i, A, B> {
+        let (left, right) = (self.left.who, self.right.who);
+        self.readers.get_or_insert_with(|| Readers::fresh(left, right))
     }
 
     /// One event; a panic on either side is a difference too.
     pub fn event(&mut self, event: &Event, coverage: &mut Coverage) -> Outcome {
         let done = catch_unwind(AssertUnwindSafe(|| match event {
-            Event::Step(step) => self.step(step, coverage),
+            Event::Step(step) => self.step(step, coverage).map(drop),
+            Event::Reader(operation) => self.operation(operation, coverage),
             Event::Write(probe) => self.write(probe, coverage),
             Event::Stretch(probe) => self.stretch(probe, coverage),
         }));
         done.unwrap_or_else(|_| Err(broken("one of them", "panicked".into())))
     }
 
-    fn step(&mut self, step: &Step, coverage: &mut Coverage) -> Outcome {
+    pub(super) fn step(
+        &mut self,
+        step: &Step,
+        coverage: &mut Coverage,
+    ) -> Result<Stepped, Difference> {
         // Both take the step before anything is compared, so that the print
         // of a mismatch has both answers.
         let (left, right) = (self.left.step(step), self.right.step(step));
@@ -75,7 +89,7 @@ impl<'i, A: Implementation, B: Implementation> Pair<'i, A, B> {
         same_tables(&left.tables, &right.tables)?;
         let reply = &left.buffer[..left.answer.reply];
         coverage.step(&step.frame, &message, &left.answer, reply);
-        Ok(())
+        Ok(left)
     }
 
     /// The frame by itself: message, body and arguments.
@@ -120,6 +134,11 @@ impl<'i, A: Implementation, B: Implementation> Pair<'i, A, B> {
     /// What either side last answered, for the print of a mismatch.
     pub fn answers(&self) -> (Option<Answer>, Option<Answer>) {
         (self.left.last, self.right.last)
+    }
+
+    /// What either side's reader last told.
+    pub fn told(&self) -> Option<(Told, Told)> {
+        self.readers.as_ref().map(Readers::told)
     }
 
     pub fn names(&self) -> (String, String) {

@@ -4,18 +4,33 @@ use super::pair::{hex, Difference, Pair};
 use super::run;
 use super::tree::Tree;
 use crate::coverage::Coverage;
-use crate::generate::{framed, Event};
+use crate::generate::{framed, Event, Operation};
 use crate::implementation::Implementation;
 use std::fmt::Write;
 
 /// Runs tried before the shortest so far is taken.
 const TRIES: usize = 4000;
+/// This many bytes in arrivals count for one try more.
+const LARGE: usize = 2_000;
 
 /// A shrunk sequence, where it differs, and its print.
 pub struct Found {
     pub events: Vec<Event>,
     pub difference: Difference,
     pub print: String,
+}
+
+impl Found {
+    /// A sequence as it is.
+    pub fn unshrunk<A: Implementation, B: Implementation>(
+        a: &A,
+        b: &B,
+        events: Vec<Event>,
+        difference: Difference,
+    ) -> Found {
+        let print = print(a, b, &events, &difference);
+        Found { events, difference, print }
+    }
 }
 
 struct Shrinker<'i, A: Implementation, B: Implementation> {
@@ -26,26 +41,37 @@ struct Shrinker<'i, A: Implementation, B: Implementation> {
     tries: usize,
 }
 
-/// Drops steps, then shortens frames, as long as some difference remains.
+/// Joins arrivals, drops events, then shortens frames, as long as some
+/// difference remains.
 pub fn shrink<A: Implementation, B: Implementation>(a: &A, b: &B, events: Vec<Event>) -> Found {
     let difference = run(a, b, &events, &mut Coverage::default());
     let difference = difference.expect("the sequence differed a moment ago");
     let mut shrinker = Shrinker { a, b, events, difference, tries: TRIES };
     loop {
         let before = (shrinker.events.len(), shrinker.bytes());
+        shrinker.join_arrivals();
         shrinker.drop_events();
         shrinker.shorten_frames();
         if before == (shrinker.events.len(), shrinker.bytes()) || shrinker.tries == 0 {
             break;
         }
     }
-    let print = shrinker.print();
-    Found { events: shrinker.events, difference: shrinker.difference, print }
+    Found::unshrunk(a, b, shrinker.events, shrinker.difference)
 }
 
 impl<A: Implementation, B: Implementation> Shrinker<'_, A, B> {
+    /// Bytes in frames and arrivals.
     fn bytes(&self) -> usize {
-        self.events.iter().map(|e| if let Event::Step(s) = e { s.frame.len() } else { 0 }).sum()
+        let in_step = |event: &Event| if let Event::Step(s) = event { s.frame.len() } else { 0 };
+        self.events.iter().map(in_step).sum::<usize>() + self.arriving()
+    }
+
+    fn arriving(&self) -> usize {
+        let arrival = |event: &Event| match event {
+            Event::Reader(Operation::Push(arrival)) => arrival.len(),
+            _ => 0,
+        };
+        self.events.iter().map(arrival).sum()
     }
 
     /// Takes the candidate if it differs too; events behind the difference go.
@@ -53,7 +79,7 @@ impl<A: Implementation, B: Implementation> Shrinker<'_, A, B> {
         if self.tries == 0 {
             return false;
         }
-        self.tries -= 1;
+        self.tries = self.tries.saturating_sub(1 + self.arriving() / LARGE);
         let Some(found) = run(self.a, self.b, &candidate, &mut Coverage::default()) else {
             return false;
         };
@@ -62,12 +88,29 @@ impl<A: Implementation, B: Implementation> Shrinker<'_, A, B> {
         true
     }
 
+    /// Makes one arrival of all that follow each other.
+    fn join_arrivals(&mut self) {
+        let mut joined: Vec<Event> = Vec::new();
+        for event in &self.events {
+            match (joined.last_mut(), event) {
+                (
+                    Some(Event::Reader(Operation::Push(last))),
+                    Event::Reader(Operation::Push(arrival)),
+                ) => last.extend(arrival),
+                _ => joined.push(event.clone()),
+            }
+        }
+        if joined.len() < self.events.len() {
+            self.take(joined);
+        }
+    }
+
     fn drop_events(&mut self) {
         self.events.truncate(self.difference.at + 1);
         let mut size = self.events.len().div_ceil(2);
-        while size >= 1 {
+        while size >= 1 && self.tries > 0 {
             let mut at = 0;
-            while at < self.events.len() {
+            while at < self.events.len() && self.tries > 0 {
                 let mut candidate = self.events.clone();
                 candidate.drain(at..(at + size).min(candidate.len()));
                 if !self.take(candidate) {
@@ -85,37 +128,42 @@ impl<A: Implementation, B: Implementation> Shrinker<'_, A, B> {
         }
     }
 
-    /// The frame of a step, if the event is there still and is one.
-    fn frame(&self, index: usize) -> Option<Vec<u8>> {
+    /// What of an event can be cut, if it is there still: a step's payload, an arrival.
+    fn cuttable(&self, index: usize) -> Option<Vec<u8>> {
         match self.events.get(index) {
-            Some(Event::Step(step)) if step.frame.len() >= 5 => Some(step.frame.clone()),
+            Some(Event::Step(step)) if step.frame.len() >= 5 => Some(step.frame[5..].to_vec()),
+            Some(Event::Reader(Operation::Push(arrival))) => Some(arrival.clone()),
             _ => None,
         }
     }
 
-    /// Tries another payload for a step; true if it was taken.
-    fn try_payload(&mut self, index: usize, payload: &[u8]) -> bool {
+    /// Tries another payload or arrival; true if it was taken.
+    fn try_bytes(&mut self, index: usize, bytes: &[u8]) -> bool {
         let mut candidate = self.events.clone();
-        let Some(Event::Step(step)) = candidate.get_mut(index) else {
-            return false;
-        };
-        step.frame = framed(step.frame[4], payload);
+        match candidate.get_mut(index) {
+            Some(Event::Step(step)) => step.frame = framed(step.frame[4], bytes),
+            Some(Event::Reader(Operation::Push(arrival))) => *arrival = bytes.to_vec(),
+            _ => return false,
+        }
         self.take(candidate)
     }
 
     /// Takes fields out of a frame, outer messages first.
     fn drop_fields(&mut self, index: usize) {
-        let Some(mut tree) = self.frame(index).and_then(|frame| Tree::parse(&frame[5..])) else {
+        let Some(Event::Step(_)) = self.events.get(index) else {
+            return;
+        };
+        let Some(mut tree) = self.cuttable(index).and_then(|payload| Tree::parse(&payload)) else {
             return;
         };
         let mut message = 0;
         while let Some(count) = tree.fields(message) {
             let mut size = count;
-            while size >= 1 {
+            while size >= 1 && self.tries > 0 {
                 let mut at = 0;
-                while at < tree.fields(message).unwrap_or(0) {
+                while at < tree.fields(message).unwrap_or(0) && self.tries > 0 {
                     let smaller = tree.without(message, at, at + size);
-                    if self.try_payload(index, &smaller.bytes()) {
+                    if self.try_bytes(index, &smaller.bytes()) {
                         tree = smaller;
                     } else {
                         at += size;
@@ -127,20 +175,19 @@ impl<A: Implementation, B: Implementation> Shrinker<'_, A, B> {
         }
     }
 
-    /// Cuts parts out of a frame's payload, whatever they are.
+    /// Cuts parts out of a payload or an arrival, whatever they are.
     fn drop_bytes(&mut self, index: usize) {
-        let Some(frame) = self.frame(index) else {
+        let Some(mut bytes) = self.cuttable(index) else {
             return;
         };
-        let mut payload = frame[5..].to_vec();
-        let mut size = payload.len();
-        while size >= 1 {
+        let mut size = bytes.len();
+        while size >= 1 && self.tries > 0 {
             let mut at = 0;
-            while at < payload.len() {
-                let mut shorter = payload.clone();
-                shorter.drain(at..(at + size).min(payload.len()));
-                if self.try_payload(index, &shorter) {
-                    payload = shorter;
+            while at < bytes.len() && self.tries > 0 {
+                let mut shorter = bytes.clone();
+                shorter.drain(at..(at + size).min(bytes.len()));
+                if self.try_bytes(index, &shorter) {
+                    bytes = shorter;
                 } else {
                     at += size;
                 }
@@ -148,24 +195,32 @@ impl<A: Implementation, B: Implementation> Shrinker<'_, A, B> {
             size /= 2;
         }
     }
+}
 
-    /// The sequence with both sides' answers, and the difference at its end.
-    fn print(&self) -> String {
-        let mut out = String::new();
-        let mut pair = Pair::fresh(self.a, self.b);
-        let (left, right) = pair.names();
-        for (n, event) in self.events.iter().enumerate() {
-            let _ = pair.event(event, &mut Coverage::default());
-            let _ = writeln!(out, "{} {}", n + 1, describe(event));
-            if let Event::Step(_) = event {
-                let (a, b) = pair.answers();
-                let _ = writeln!(out, "    {left}: {a:?}\n    {right}: {b:?}");
-            }
+/// The sequence with both sides' answers, and the difference at its end.
+fn print<A: Implementation, B: Implementation>(
+    a: &A,
+    b: &B,
+    events: &[Event],
+    difference: &Difference,
+) -> String {
+    let mut out = String::new();
+    let mut pair = Pair::fresh(a, b);
+    let (left, right) = pair.names();
+    for (n, event) in events.iter().enumerate() {
+        let _ = pair.event(event, &mut Coverage::default());
+        let _ = writeln!(out, "{} {}", n + 1, describe(event));
+        if let (Event::Reader(_), Some((a, b))) = (event, pair.told()) {
+            let _ = writeln!(out, "    {left}: {a:?}\n    {right}: {b:?}");
         }
-        let Difference { what, left: a, right: b, .. } = &self.difference;
-        let _ = writeln!(out, "differs in: {what}\n    {left}: {a}\n    {right}: {b}");
-        out
+        if let Event::Step(_) = event {
+            let (a, b) = pair.answers();
+            let _ = writeln!(out, "    {left}: {a:?}\n    {right}: {b:?}");
+        }
     }
+    let Difference { what, left: a, right: b, .. } = difference;
+    let _ = writeln!(out, "differs in: {what}\n    {left}: {a}\n    {right}: {b}");
+    out
 }
 
 fn describe(event: &Event) -> String {
@@ -178,6 +233,13 @@ fn describe(event: &Event) -> String {
             let (body, args) = (hex(&w.body), hex(&w.args));
             format!("write {:?} body {body:?} args {args:?} room {}", w.draft, w.room)
         }
+        Event::Reader(Operation::Push(arrival)) => {
+            format!("push {} bytes: {:?}", arrival.len(), hex(arrival))
+        }
+        Event::Reader(Operation::NextFrame { room }) => {
+            format!("next frame, reply buffer {room}")
+        }
+        Event::Reader(Operation::StartOver) => "start over".into(),
         Event::Stretch(s) => format!("stretch at {} of {:?} room {}", s.at, s.scalars, s.room),
     }
 }

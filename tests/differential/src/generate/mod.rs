@@ -1,20 +1,28 @@
 //! Random sequences of events, the same for the same seed.
 
+mod arrivals;
 mod damage;
+mod divisions;
+mod edges;
 mod encode;
 mod frames;
 mod intent;
 mod probes;
 mod random;
 mod reports;
+mod streams;
 mod systematic;
 mod values;
 
+pub use arrivals::Operation;
+pub use divisions::{divisions, samples};
+pub use edges::edges;
 pub use encode::{Encoder, Noise};
 pub use frames::{framed, Intent};
 pub use probes::{StretchProbe, WriteProbe};
 pub use random::Random;
-pub use systematic::all as systematic;
+pub use streams::{arrivals, long_divisions};
+pub use systematic::{all as systematic, step_on};
 
 use crate::implementation::*;
 use crate::model::{Model, Session};
@@ -32,6 +40,7 @@ pub struct Step {
 #[derive(Clone, Debug)]
 pub enum Event {
     Step(Step),
+    Reader(Operation),
     Write(WriteProbe),
     Stretch(StretchProbe),
 }
@@ -83,6 +92,17 @@ impl Guide {
         let mut reply = vec![0; room];
         self.session = model.step(self.session.clone(), &frame, report, &mut reply).0;
         Step { frame, report, room }
+    }
+
+    /// A frame without damage, and on it the step that comes of handing it out.
+    fn good_frame(&mut self, random: &mut Random) -> Vec<u8> {
+        let intent = intent::next(random, self.mode, &self.session.tables);
+        let noise = noise(random, 0);
+        let frame = Encoder { random, noise }.frame(&intent);
+        let Step { frame, report, .. } = step_on(frame, SMALLEST_REPLY);
+        let mut reply = [0; SMALLEST_REPLY];
+        self.session = Model::honest().step(self.session.clone(), &frame, report, &mut reply).0;
+        frame
     }
 
     fn frame(&self, random: &mut Random, intent: &Intent) -> Vec<u8> {

@@ -40,14 +40,18 @@ fn bases() -> Vec<Vec<u8>> {
     ]
 }
 
-/// The step a frame's kind is meant for.
 fn step(frame: Vec<u8>) -> Step {
+    step_on(frame, SMALLEST_REPLY)
+}
+
+/// The step a frame's kind is meant for.
+pub fn step_on(frame: Vec<u8>, room: usize) -> Step {
     let report = match frame.get(4).copied() {
         Some(PREPARE) => Report { kind: 1, a: 1, b: 0 },
         Some(CURSOR_FETCH) => Report { kind: 3, a: 0, b: 0 },
         _ => Report { kind: 2, a: 1, b: 5 },
     };
-    Step { frame, report, room: 128 }
+    Step { frame, report, room }
 }
 
 /// Every sequence: the setup, one odd frame, and a Fetch to see what is left.

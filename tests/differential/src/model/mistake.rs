@@ -1,6 +1,6 @@
 //! The deliberate mistakes the model can be told to make.
 //!
-//! Each is a plausible misreading of document 01 and one line of difference
+//! Each is a plausible misreading of the papers and one line of difference
 //! where the rule is applied. `mutants` shows that the comparison finds all.
 
 macro_rules! mistakes {
@@ -155,4 +155,61 @@ mistakes! {
     IdWrittenSigned,
     /// An argument that just fills the buffer is refused 3.
     FullStretchRefused,
+
+    // Reading arrivals.
+    /// What stands behind a bad length is never dropped.
+    KeepsBehindBadLength,
+    /// The four bytes of a bad length are dropped with what is behind them.
+    DropsBadLength,
+    /// A bad length drops the frames ahead of it.
+    DropsFramesAhead,
+    /// A bad length that handing out uncovers keeps what is behind it until the next call.
+    DropsLate,
+    /// Arrivals are taken, and dropped, where a bad length stands first.
+    TakesBehindBadLength,
+    /// Bytes dropped behind a bad length do not count as taken.
+    DroppedNotCounted,
+    /// A bad length is told as 1.
+    WaitsAtBadLength,
+    /// A length is good up to the size of the store, its own four bytes forgotten.
+    LengthLimitAtStore,
+    /// A frame is handed out one byte short.
+    HandsOutOneByteShort,
+    /// Frames of other types than the eight are not handed out.
+    SkipsUnknownTypes,
+    /// Starting over keeps the part of a frame.
+    StartOverKeepsPart,
+    /// The last byte of the store is not used.
+    StoreOneByteShort,
+    /// Only the room behind the bytes held is used, not the room in front of them.
+    TakesNoMoreThanBehind,
+    /// An arrival without room for all of it is not taken at all.
+    TakesAllOrNothing,
+    /// A push that takes nothing says 1, though a whole frame stands first.
+    NothingTakenWaits,
+}
+
+impl Mistake {
+    /// Whether it is made with arrivals, where steps on frames would not show it.
+    pub fn is_on_arrivals(self) -> bool {
+        use Mistake::*;
+        matches!(
+            self,
+            KeepsBehindBadLength
+                | DropsBadLength
+                | DropsFramesAhead
+                | DropsLate
+                | TakesBehindBadLength
+                | DroppedNotCounted
+                | WaitsAtBadLength
+                | LengthLimitAtStore
+                | HandsOutOneByteShort
+                | SkipsUnknownTypes
+                | StartOverKeepsPart
+                | StoreOneByteShort
+                | TakesNoMoreThanBehind
+                | TakesAllOrNothing
+                | NothingTakenWaits
+        )
+    }
 }

@@ -1,8 +1,10 @@
-//! The model: document 01 once more, written from the papers alone.
+//! The model: document 01 and item 1 of document 02 once more, written from
+//! the papers alone.
 //!
 //! It is written to be read beside the document, one file for each chapter,
 //! and takes the plain way everywhere: lists of fields, copies of sessions.
 
+mod arrivals;
 mod mistake;
 mod read;
 mod reply;
@@ -13,6 +15,7 @@ mod step;
 mod wire;
 mod write;
 
+pub use arrivals::Reader;
 pub use mistake::{Mistake, ALL as MISTAKES};
 pub use session::Session;
 pub use wire::shortest;
@@ -49,6 +52,7 @@ fn alone(value: Value) -> Argument {
 
 impl Implementation for Model {
     type Session = Session;
+    type Reader = Reader;
 
     fn name(&self) -> String {
         match self.mistake {
@@ -112,5 +116,25 @@ impl Implementation for Model {
 
     fn append(&self, buffer: &mut [u8], at: usize, scalar: &Scalar) -> Written {
         self.append_scalar(buffer, at, scalar)
+    }
+
+    fn reader(&self) -> Reader {
+        Reader::default()
+    }
+
+    fn start_over(&self, reader: &mut Reader) {
+        self.empty(reader);
+    }
+
+    fn push(&self, reader: &mut Reader, bytes: &[u8]) -> Pushed {
+        self.take_arrival(reader, bytes)
+    }
+
+    fn next_frame(&self, reader: &mut Reader) -> NextFrame {
+        self.hand_out(reader)
+    }
+
+    fn held(&self, reader: &Reader) -> Vec<u8> {
+        reader.held()
     }
 }
