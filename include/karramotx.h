@@ -17,7 +17,7 @@
  *         then answer.reply bytes of reply
  *
  * Bytes go in as a pointer and a length. The pointer may be null where the length is 0. What is written
- * to (a session, a reply, a buffer) must not overlap anything else that is handed in. A session must
+ * to (a session, a reply, a buffer, a store) must not overlap anything else that is handed in. A session must
  * come from karramotx_fresh and be changed by karramotx_step alone.
  *
  * Sizes are those of x86-64.
@@ -189,20 +189,20 @@ struct karramotx_counts karramotx_counts(const struct karramotx_session *session
  *         the client broke off in mid-frame
  *
  * At 1, KARRAMOTX_NOT_ALL_THERE, nothing is wrong: wait for the next arrival. There is then room for at least
- * one byte more, so the loop goes on. An arrival is taken whole unless the store gets full; `count` says how
- * far, and what was not taken is yours to push again.
+ * one byte more, so the loop goes on. An arrival is taken whole unless the store gets full or a bad length stands
+ * first; `count` says how far, and what was not taken is yours to push again.
  *
  * At 2, KARRAMOTX_BAD_LENGTH, nothing behind the length can be read. The frames ahead of it have been handed
  * out. The store then holds its four bytes alone; what arrived behind them counts as taken and is dropped. From
- * then on every push takes 0 and every next_frame answers 2 until karramotx_start_over. Close the connection,
- * or start over where you know that the next byte begins a frame.
+ * then on every push takes 0 and answers 2, and every next_frame answers 2, until karramotx_start_over. Close the
+ * connection, or start over where you know that the next byte begins a frame.
  *
  * After a Session close, `session.closed`, send its reply and close the connection. The reader knows no session:
  * if you go on, it hands out the frames behind too, and a step refuses them 4 until you begin a fresh session.
  *
  * A frame that was handed out stays where it is until the next push; another next_frame leaves it alone. A step
- * on it is never refused 1 or 2, and uses all of it. If it is refused 3, make it again with a longer reply
- * buffer. `kind` is the type byte of any frame, so that you can route what is none of the eight messages here.
+ * on it is never refused 1 or 2, and uses all of it unless it is refused 3: make that one again with a longer
+ * reply buffer. `kind` is the type byte of any frame, so that you can route what is none of the eight messages here.
  *
  * Handing out a frame moves no bytes, and a push moves the held bytes at most once, only where the room behind
  * them is too small. Where all whole frames are handed out before the next push, as above, the cost is linear
@@ -240,7 +240,7 @@ KARRAMOTX_FIELD(karramotx_next_frame, start, 24);
 KARRAMOTX_FIELD(karramotx_next_frame, len, 32);
 KARRAMOTX_FIELD(karramotx_next_frame, kind, 40);
 
-/* A reader that holds nothing: at the beginning, and after a bad length. */
+/* A reader that holds nothing: at the beginning, after a bad length, or at any time; what was held is given up. */
 struct karramotx_reader karramotx_start_over(void);
 
 /*

@@ -52,14 +52,14 @@ pub empty-waits : (store : List ℕ) → nextAt [] startOver ≡ nextAt store st
 unfolding standsFirst
 empty-waits store = refl
 
-pub next-none : (store : List ℕ) (r : Reader) → isPart store r ≡ false → nextAt [] startOver ≡ nextOf r store
+pub next-none : (store : List ℕ) (r : Reader) → isPart (length store) r ≡ false → nextAt [] startOver ≡ nextOf r store
 unfolding nextOf
-next-none store r e = empty-waits store ∙ ap (nextAt store) (usable-none store r e)
+next-none store r e = empty-waits store ∙ ap (nextAt store) (usable-none (length store) r e)
 
-pub next-by : (store : List ℕ) (r : Reader) {h : Head} → isPart store r ≡ true → h ≡ headOf (part store r) →
+pub next-by : (store : List ℕ) (r : Reader) {h : Head} → isPart (length store) r ≡ true → h ≡ headOf (part store r) →
     nextBy store r h ≡ nextOf r store
 unfolding nextOf
-next-by store r e g = ap (nextBy store r) g ∙ ap (nextAt store) (usable-part store r e)
+next-by store r e g = ap (nextBy store r) g ∙ ap (nextAt store) (usable-part (length store) r e)
 
 -- ---- an arrival
 
@@ -114,13 +114,8 @@ module _ (store : List ℕ) (start end : ℕ) (arrival : List ℕ)
       ∙ no 0 (min (length arrival) (length store - length (between store start end)))
       (ne-eqb (standsFirst (between store start end)) badLength (λ z. h (e ∙ z)))
 
--- the bytes held are those of a part of the store, or none
-pub push-part : (store : List ℕ) (r : Reader) (arrival : List ℕ) → isPart store r ≡ true →
-    pushAt store r arrival ≡ pushOf r arrival store
+-- behind what is usable of a reader
+pub push-usable : (store : List ℕ) (r : Reader) (arrival : List ℕ) {q : Reader} → q ≡ usable (length store) r →
+    pushAt store q arrival ≡ pushOf r arrival store
 unfolding pushOf
-push-part store r arrival e = ap (λ (q : Reader). pushAt store q arrival) (usable-part store r e)
-
-pub push-none : (store : List ℕ) (r : Reader) (arrival : List ℕ) → isPart store r ≡ false →
-    pushAt store startOver arrival ≡ pushOf r arrival store
-unfolding pushOf
-push-none store r arrival e = ap (λ (q : Reader). pushAt store q arrival) (usable-none store r e)
+push-usable store r arrival e = ap (λ (u : Reader). pushAt store u arrival) e

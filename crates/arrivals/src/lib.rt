@@ -4,7 +4,8 @@ ghost use mathlib.Core.Path.{_≡_};
 ghost use Prim.Native.Nat.{_≤_, min};
 ghost use mathlib.Core.List.{[]};
 ghost use lib.ListN.{length};
-ghost use Rattle.streams.specs.Reader.{nextAt, nextOf, pushAt, pushOf, reader, settled, standsFirst, startOver};
+ghost use Rattle.streams.specs.Reader.{nextAt, nextOf, pushAt, pushOf, reader, settled};
+ghost use Rattle.streams.specs.Reader.{standsFirst, startOver, storeSize, usable};
 use message::head::Head;
 use room::make_room;
 use streams::NextFrame;
@@ -12,9 +13,11 @@ use streams::Pushed;
 use streams::Reader;
 use streams::STORE;
 
-pub mod room;
+mod room;
 
-// The refusals: a frame that is not all there, and a bad length.
+// What stands first, by its reason: a whole frame, neither, a bad length.
+pub const ACCEPTED: u64 = 0;
+
 pub const WAIT_FOR_MORE: u64 = 1;
 
 pub const BAD_LENGTH: u64 = 2;
@@ -29,17 +32,20 @@ pub fn start_over() -> Reader
     Reader { start: 0, end: 0 }
 }
 
-// An arrival, taken as far as there is room beside the bytes held.
+// An arrival, taken as far as there is room beside the bytes held. The clause `size` ties the store of the code to
+// that of the definitions.
 pub fn push(reader: Reader, arrival: &[u8], store: &mut [u8; STORE]) -> Pushed
     ensures answer { λ r. ⌜ r ≡ pushOf reader (now (arrival .entry)) (now (store .entry)) .answer ⌝ }
-    ensures kept { λ r. ⌜ now (store .exit) ≡ pushOf reader (now (arrival .entry)) (now (store .entry)) .store ⌝ }
+    ensures stored { λ r. ⌜ now (store .exit) ≡ pushOf reader (now (arrival .entry)) (now (store .entry)) .store ⌝ }
+    ensures size { λ r. ⌜ length (now (store .entry)) ≡ storeSize ⌝ }
 {
     push_into(reader, arrival, store)
 }
 
 // The frame that stands first, handed out.
 pub fn next_frame(reader: Reader, store: &[u8; STORE]) -> NextFrame
-    ensures { λ r. ⌜ r ≡ nextOf reader (now (store .entry)) ⌝ }
+    ensures answer { λ r. ⌜ r ≡ nextOf reader (now (store .entry)) ⌝ }
+    ensures size { λ r. ⌜ length (now (store .entry)) ≡ storeSize ⌝ }
 {
     next_in(reader, store)
 }
@@ -62,7 +68,7 @@ fn stands_first(s: &[u8]) -> u64
     ensures { λ r. ⌜ r ≡ standsFirst (now (s .entry)) ⌝ }
 {
     match message::head::read_head(s) {
-        Head::Frame { kind: _, end: _ } => 0,
+        Head::Frame { kind: _, end: _ } => ACCEPTED,
         Head::Refused(reason) => reason,
     }
 }
@@ -95,7 +101,7 @@ fn waiting() -> NextFrame
     }
 }
 
-// A store of any length.
+// next_frame on a store of any length.
 fn next_in(reader: Reader, store: &[u8]) -> NextFrame
     ensures { λ r. ⌜ r ≡ nextOf reader (now (store .entry)) ⌝ }
 {
@@ -110,7 +116,7 @@ fn next_in(reader: Reader, store: &[u8]) -> NextFrame
     match message::head::read_head(&store[start..end]) {
         Head::Frame { kind, end: len } => NextFrame {
             reader: settle(store, start + len, end),
-            reason: 0,
+            reason: ACCEPTED,
             start,
             len,
             kind: wide(kind),
@@ -125,12 +131,14 @@ fn next_in(reader: Reader, store: &[u8]) -> NextFrame
     }
 }
 
-// The bytes held are those from `start` up to `end`.
-fn push_at(start: usize, end: usize, arrival: &[u8], store: &mut [u8]) -> Pushed
-    requires { ⌜ (start ≤ end) × (end ≤ length (now store)) ⌝ }
-    ensures answer { λ r. ⌜ r ≡ pushAt (now (store .entry)) (reader start end) (now (arrival .entry)) .answer ⌝ }
-    ensures kept { λ r. ⌜ now (store .exit) ≡ pushAt (now (store .entry)) (reader start end) (now (arrival .entry)) .store ⌝ }
+// An arrival behind the bytes held, which are a part of the store.
+fn push_at(held: Reader, arrival: &[u8], store: &mut [u8]) -> Pushed
+    requires { ⌜ (held .start ≤ held .end) × (held .end ≤ length (now store)) ⌝ }
+    ensures answer { λ r. ⌜ r ≡ pushAt (now (store .entry)) held (now (arrival .entry)) .answer ⌝ }
+    ensures stored { λ r. ⌜ now (store .exit) ≡ pushAt (now (store .entry)) held (now (arrival .entry)) .store ⌝ }
 {
+    let start = held.start;
+    let end = held.end;
     if stands_first(&store[start..end]) == BAD_LENGTH {
         return Pushed {
             reader: Reader {
@@ -142,7 +150,7 @@ fn push_at(start: usize, end: usize, arrival: &[u8], store: &mut [u8]) -> Pushed
         };
     }
     let n = lesser(arrival.len(), store.len() - (end - start));
-    let room = make_room(Reader { start, end }, n, store);
+    let room = make_room(held, n, store);
     let from = room.start;
     let at = room.end;
     reply::put::write_bytes(store, at, &arrival[..n]);
@@ -154,18 +162,24 @@ fn push_at(start: usize, end: usize, arrival: &[u8], store: &mut [u8]) -> Pushed
     }
 }
 
-// A store of any length.
+// The reader itself, or an empty one where it is no part of a store of this size.
+fn usable_reader(r: Reader, size: usize) -> Reader
+    ensures { λ q. ⌜ q ≡ usable size r ⌝ }
+{
+    if r.end < r.start {
+        return start_over();
+    }
+    if size < r.end {
+        return start_over();
+    }
+    r
+}
+
+// push on a store of any length.
 fn push_into(reader: Reader, arrival: &[u8], store: &mut [u8]) -> Pushed
     ensures answer { λ r. ⌜ r ≡ pushOf reader (now (arrival .entry)) (now (store .entry)) .answer ⌝ }
-    ensures kept { λ r. ⌜ now (store .exit) ≡ pushOf reader (now (arrival .entry)) (now (store .entry)) .store ⌝ }
+    ensures stored { λ r. ⌜ now (store .exit) ≡ pushOf reader (now (arrival .entry)) (now (store .entry)) .store ⌝ }
 {
-    let start = reader.start;
-    let end = reader.end;
-    if end < start {
-        return push_at(0, 0, arrival, store);
-    }
-    if store.len() < end {
-        return push_at(0, 0, arrival, store);
-    }
-    push_at(start, end, arrival, store)
+    let held = usable_reader(reader, store.len());
+    push_at(held, arrival, store)
 }

@@ -19,12 +19,13 @@ fn move_front(store: &mut [u8], start: usize, len: usize)
     }
 }
 
-// Where the bytes held stand once n more fit behind them: they are moved only where they do not fit as it is.
+// Where the bytes held stand once there is room for n more behind them. They are moved only where n more would not
+// fit behind them as they stand.
 pub(crate) fn make_room(held: Reader, n: usize, store: &mut [u8]) -> Reader
     requires { ⌜ (held .start ≤ held .end) × (held .end ≤ length (now store)) ⌝ }
     requires { ⌜ n ≤ length (now store) - (held .end - held .start) ⌝ }
     ensures place { λ r. ⌜ r ≡ readerFor (now (store .entry)) held n ⌝ }
-    ensures kept { λ r. ⌜ now (store .exit) ≡ storeFor (now (store .entry)) held n ⌝ }
+    ensures stored { λ r. ⌜ now (store .exit) ≡ storeFor (now (store .entry)) held n ⌝ }
     ensures fits { λ r. ⌜ (r .start ≤ r .end) × (r .end + n ≤ length (now (store .entry))) ⌝ }
 {
     let start = held.start;

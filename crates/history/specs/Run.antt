@@ -1,7 +1,7 @@
 -- A run: the steps on a list of inputs, "each gets the session that the one before handed back, and nothing else
 -- changes it in between". What the tally is fed of a run has no session in reach.
 use Prim.Native.Nat.{ℕ}
-use mathlib.Core.List.{List, [], _∷_}
+use mathlib.Core.List.{List, [], _∷_, map}
 use Rattle.session.specs.declared.Session.{Session}
 use Rattle.rules.specs.declared.Report.{Report}
 use Rattle.rules.specs.declared.Answer.{Answer}
@@ -13,6 +13,12 @@ pub record Input : Type 0 where
   pub frame : List ℕ
   pub report : Report
   pub buffer : List ℕ
+
+abbrev pub framesOf : List Input → List (List ℕ)
+framesOf = map (λ (i : Input). i .frame)
+
+abbrev pub reportsOf : List Input → List Report
+reportsOf = map (λ (i : Input). i .report)
 
 unfoldable pub run : Session → List Input → List Step
 run s [] = []

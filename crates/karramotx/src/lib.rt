@@ -5,7 +5,7 @@ ghost use mathlib.Core.Path.{_≡_};
 ghost use lib.ListN.{length};
 ghost use Rattle.args.specs.Arguments.{nextArgument};
 ghost use Rattle.args_writer.specs.Append.{appendedOf, leftBy};
-ghost use Rattle.streams.specs.Reader.{nextOf, pushOf, startOver};
+ghost use Rattle.streams.specs.Reader.{nextOf, pushOf, startOver, storeSize};
 ghost use Rattle.message.specs.Frame.{argumentOf, messageOf};
 ghost use Rattle.rules.specs.Step.{lookAt, stepOf};
 ghost use Rattle.session.specs.Tables.{fresh};
@@ -92,7 +92,8 @@ pub extern "C" fn karramotx_start_over() -> Reader
 #[no_mangle]
 pub extern "C" fn karramotx_push(reader: Reader, arrival: &[u8], store: &mut [u8; STORE]) -> Pushed
     ensures answer { λ r. ⌜ r ≡ pushOf reader (now (arrival .entry)) (now (store .entry)) .answer ⌝ }
-    ensures kept { λ r. ⌜ now (store .exit) ≡ pushOf reader (now (arrival .entry)) (now (store .entry)) .store ⌝ }
+    ensures stored { λ r. ⌜ now (store .exit) ≡ pushOf reader (now (arrival .entry)) (now (store .entry)) .store ⌝ }
+    ensures size { λ r. ⌜ length (now (store .entry)) ≡ storeSize ⌝ }
 {
     arrivals::push(reader, arrival, store)
 }
@@ -100,7 +101,8 @@ pub extern "C" fn karramotx_push(reader: Reader, arrival: &[u8], store: &mut [u8
 // The frame that stands first, handed out.
 #[no_mangle]
 pub extern "C" fn karramotx_next_frame(reader: Reader, store: &[u8; STORE]) -> NextFrame
-    ensures { λ r. ⌜ r ≡ nextOf reader (now (store .entry)) ⌝ }
+    ensures answer { λ r. ⌜ r ≡ nextOf reader (now (store .entry)) ⌝ }
+    ensures size { λ r. ⌜ length (now (store .entry)) ≡ storeSize ⌝ }
 {
     arrivals::next_frame(reader, store)
 }

@@ -12,12 +12,11 @@ use Rattle.message.proofs.UsedLaws.{uses-all}
 use Rattle.message.proofs.WithinLaws.{frame-within}
 use Rattle.rules.proofs.WholeLaws.{step-whole}
 use Rattle.history.proofs.HistoryLaws.{demand-3}
+use Rattle.writer.specs.RoundTrip.{ReadsAs}
 use Rattle.writer.proofs.RoundTripLaws.{round-trip}
 use Rattle.streams.specs.Reader.{lengthBytes}
 use Rattle.streams.specs.ReaderRules.{Whole}
 use Rattle.streams.proofs.FrontLaws.{frame-told, refused-some}
-use Rattle.streams.specs.Reading.{handedOut, reading}
-use Rattle.streams.specs.Divided.{inputs}
 use Rattle.streams.specs.Demands.{StepsUseAll, Demand3Arrivals, Written, frameOf, WrittenComeBack}
 use Rattle.streams.proofs.ReadingLaws.{frames-arrive}
 
@@ -27,7 +26,7 @@ steps-use-all s frame r buffer whole =
     record { there = h .0; good = h .1; used = h .2 }
 
 pub demand-3-arrivals : Demand3Arrivals
-demand-3-arrivals reports buffers store os = demand-3 (inputs reports buffers 0 (handedOut (reading store os)))
+demand-3-arrivals store os is e = demand-3 is
 
 -- ---- written messages
 
@@ -42,17 +41,25 @@ read-whole f good used = go (headOf f) refl good used
         e ∙ ap (λ (k : ℕ). Head.Frame k end) (frame-told f e .type) ∙ ap (Head.Frame (getD f lengthBytes 0)) all
     go (Head.Refused reason) e g u = absurd (refused-some f e g)
 
-written-whole : (w : Written) → Whole (frameOf w)
-written-whole w =
-    let x = round-trip (w .draft) (w .body) (w .args) [] (w .sized) (w .good) in
-    let none = append-nil (frameOf w) in
-    read-whole (frameOf w) (sym (ap (λ (f : List ℕ). messageOf f .reason) none) ∙ x .reason)
-    (sym (ap (λ (f : List ℕ). messageOf f .used) none) ∙ x .used)
+-- a message is read back from its frame
+written-reads : (w : Written) → ReadsAs (w .draft) (w .body) (w .args) (frameOf w)
+written-reads w =
+    subst (ReadsAs (w .draft) (w .body) (w .args)) (append-nil (frameOf w))
+    (round-trip (w .draft) (w .body) (w .args) [] (w .sized) (w .good))
 
-all-written : (ws : List Written) → All Whole (map frameOf ws)
+all-of : {A : Type 0} (P : A → Type 0) → ((x : A) → P x) → (xs : List A) → All P xs
 unfolding All
-all-written [] = tt
-all-written (w ∷ ws) = (written-whole w, all-written ws)
+all-of P h [] = tt
+all-of P h (x ∷ xs) = (h x, all-of P h xs)
+
+all-whole : (ws : List Written) → All Whole (map frameOf ws)
+unfolding All
+all-whole [] = tt
+all-whole (w ∷ ws) =
+    let x = written-reads w in
+    (read-whole (frameOf w) (x .reason) (x .used), all-whole ws)
 
 pub written-come-back : WrittenComeBack
-written-come-back ws = frames-arrive (map frameOf ws) (all-written ws)
+written-come-back ws store os o none =
+    let x = frames-arrive (map frameOf ws) (all-whole ws) store os o none in
+    record { frames = x .0; read = all-of _ written-reads ws; rest = x .1 }

@@ -1,38 +1,52 @@
--- Equal frames give equal steps, whatever the buffers: a step's outcome does not depend on its buffer. Assumes
--- nothing.
-use Prim.Native.Nat.{ℕ, suc}
-use mathlib.Core.Path.{_≡_, refl, ap, _∙_}
+-- Equal frames and reports give equal steps: a step's outcome does not depend on its buffer. Assumes nothing.
+use Prim.Native.Nat.{ℕ}
+use native.Mathlib.Omega.{arith}
+use mathlib.Core.Path.{_≡_, refl, sym, ap, _∙_}
 use mathlib.Core.List.{List, [], _∷_, map}
+use lib.ListN.{length, getD, drop}
 use Rattle.session.specs.declared.Session.{Session}
+use Rattle.session.specs.Lists.{All}
 use Rattle.rules.specs.declared.Report.{Report}
 use Rattle.rules.specs.Step.{stepOf}
 use Rattle.rules.specs.StepRules.{Outcome, outcome}
 use Rattle.rules.proofs.BufferLaws.{buffer-makes-no-difference}
-use Rattle.history.specs.Run.{run}
+use Rattle.history.specs.Run.{Input, framesOf, reportsOf, run}
 use Rattle.streams.specs.Reading.{Reading, reading}
-use Rattle.streams.specs.Divided.{inputs, Roomy, Same, DividedAlike, OfferedAlike}
+use Rattle.streams.specs.Divided.{Roomy, Same, DividedAlike, OfferedAlike}
 use Rattle.streams.proofs.ReadingLaws.{ReadAlike, divided, offered}
 
-module _ (reports : ℕ → Report) (buffers others : ℕ → List ℕ) (room : Roomy buffers) (room′ : Roomy others) where
-  steps-alike : (fs : List (List ℕ)) (s : Session) (n : ℕ) →
-      map outcome (run s (inputs reports buffers n fs)) ≡ map outcome (run s (inputs reports others n fs))
-  unfolding run inputs
-  steps-alike [] s n = refl
-  steps-alike (f ∷ fs) s n =
-      let x = stepOf s f (reports n) (buffers n) in
-      let y = stepOf s f (reports n) (others n) in
-      let same = buffer-makes-no-difference s f (reports n) (buffers n) (others n) (room n) (room′ n) in
-      ap (λ (o : Outcome). o ∷ map outcome (run (x .back .session) (inputs reports buffers (suc n) fs))) same
-      ∙ ap (λ (os : List Outcome). outcome y ∷ os) (steps-alike fs (x .back .session) (suc n))
-      ∙ ap (λ (o : Outcome). outcome y ∷ map outcome (run (o .session) (inputs reports others (suc n) fs))) same
+-- one step
+step-alike : (s : Session) (i j : Input) → i .frame ≡ j .frame → i .report ≡ j .report → Roomy i → Roomy j →
+    outcome (stepOf s (i .frame) (i .report) (i .buffer)) ≡ outcome (stepOf s (j .frame) (j .report) (j .buffer))
+step-alike s i j f r a b =
+    buffer-makes-no-difference s (i .frame) (i .report) (i .buffer) (j .buffer) a b
+    ∙ ap (λ (g : List ℕ). outcome (stepOf s g (i .report) (j .buffer))) f
+    ∙ ap (λ (q : Report). outcome (stepOf s (j .frame) q (j .buffer))) r
+
+steps-alike : (is js : List Input) (s : Session) → framesOf is ≡ framesOf js → reportsOf is ≡ reportsOf js →
+    All Roomy is → All Roomy js → map outcome (run s is) ≡ map outcome (run s js)
+unfolding run All
+steps-alike [] [] s f r a b = refl
+steps-alike [] (j ∷ js) s f r a b =
+    absurd (let z : _≡_ {A = ℕ} 0 (length (framesOf (j ∷ js))) = ap length f in omega arith)
+steps-alike (i ∷ is) [] s f r a b =
+    absurd (let z : _≡_ {A = ℕ} (length (framesOf (i ∷ is))) 0 = ap length f in omega arith)
+steps-alike (i ∷ is) (j ∷ js) s f r a b =
+    let x = stepOf s (i .frame) (i .report) (i .buffer) in
+    let y = stepOf s (j .frame) (j .report) (j .buffer) in
+    let same =
+    step-alike s i j (ap (λ (l : List (List ℕ)). getD l 0 []) f) (ap (λ (l : List Report). getD l 0 (i .report)) r)
+    (a .0) (b .0) in
+    ap (λ (o : Outcome). o ∷ map outcome (run (x .back .session) is)) same
+    ∙ ap (λ (os : List Outcome). outcome y ∷ os)
+    (steps-alike is js (x .back .session) (ap (drop 1) f) (ap (drop 1) r) (a .1) (b .1))
+    ∙ ap (λ (o : Outcome). outcome y ∷ map outcome (run (o .session) js)) same
 
 same : (x y : Reading) → ReadAlike x y → Same x y
 same x y e =
     record {
       frames = e .0;
-      steps = λ s reports buffers others room room′.
-          ap (λ (fs : List (List ℕ)). map outcome (run s (inputs reports buffers 0 fs))) (e .0)
-          ∙ steps-alike reports buffers others room room′ (y .frames) s 0;
+      steps = λ s is js f g r a b. steps-alike is js s (f ∙ e .0 ∙ sym g) r a b;
       rest = e .1;
     }
 

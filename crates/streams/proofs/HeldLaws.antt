@@ -3,7 +3,7 @@
 use Prim.Native.Nat.{ℕ, zero, suc, _+_, _-_, _≤_, _<_, min}
 use native.Mathlib.Nat.{add-zero}
 use native.Mathlib.Omega.{arith}
-use mathlib.Core.Bool.{Bool, true, false, cond, _&&_}
+use mathlib.Core.Bool.{Bool, true, false, cond, _&&_, true≢false}
 use mathlib.Core.Path.{_≡_, refl, sym, ap, subst, _∙_}
 use mathlib.Core.List.{List, [], _++_}
 use mathlib.Core.Logic.{_⊎_, inl, inr, ⊎-elim}
@@ -25,7 +25,7 @@ use Rattle.streams.specs.Reader.{fitsBehind, readerFor, storeFor, pushed
 use Rattle.streams.specs.Reader.{nextBy, nextAt, nextOf}
 use Rattle.streams.specs.ReaderRules.{kept, Pushes, PushesBehind, frameAt, HandsOut, HandsNone, Hands}
 use Rattle.streams.specs.ReaderRules.{HandsFirst, Alike, PushesAlike, HandsAlike, HeldDecides, WholeFirst}
-use Rattle.streams.specs.ReaderRules.{BadFirst, Reasons, WaitsExactly, WaitHasRoom}
+use Rattle.streams.specs.ReaderRules.{BadFirst, Reasons, WaitsExactly, TakesAll, WaitHasRoom}
 use Rattle.streams.proofs.FrontLaws.{first-is, frame-told, frame-known, bad-known, refused-told, refusal}
 use Rattle.streams.proofs.FrontLaws.{whole-told, bad-told, is-bad, bad-four, kept-bad, kept-good, kept-both}
 
@@ -69,34 +69,34 @@ between-written store start end bytes a b =
 
 -- ---- which readers are parts of the store
 
-module _ (store : List ℕ) (r : Reader) where
-  pub is-part : r .start ≤ r .end → r .end ≤ length store → isPart store r ≡ true
-  is-part a b = rw (le-leb (r .start) (r .end) a, le-leb (r .end) (length store) b)
+module _ (size : ℕ) (r : Reader) where
+  pub is-part : r .start ≤ r .end → r .end ≤ size → isPart size r ≡ true
+  is-part a b = rw (le-leb (r .start) (r .end) a, le-leb (r .end) size b)
 
-  pub is-reversed : r .end < r .start → isPart store r ≡ false
+  pub is-reversed : r .end < r .start → isPart size r ≡ false
   is-reversed a = rw (lt-leb (r .start) (r .end) a)
 
-  pub is-past : r .start ≤ r .end → length store < r .end → isPart store r ≡ false
-  is-past a b = rw (le-leb (r .start) (r .end) a, lt-leb (r .end) (length store) b)
+  pub is-past : r .start ≤ r .end → size < r .end → isPart size r ≡ false
+  is-past a b = rw (le-leb (r .start) (r .end) a, lt-leb (r .end) size b)
 
-  pub usable-part : isPart store r ≡ true → r ≡ usable store r
+  pub usable-part : isPart size r ≡ true → r ≡ usable size r
   usable-part = yes r startOver
 
-  pub usable-none : isPart store r ≡ false → startOver ≡ usable store r
+  pub usable-none : isPart size r ≡ false → startOver ≡ usable size r
   usable-none = no r startOver
 
 -- ---- a part of the store is held
 
-pub held-part : (store : List ℕ) (r : Reader) → isPart store r ≡ true → held store r ≡ part store r
+pub held-part : (store : List ℕ) (r : Reader) → isPart (length store) r ≡ true → held store r ≡ part store r
 unfolding held
-held-part store r e = ap (part store) (sym (usable-part store r e))
+held-part store r e = ap (part store) (sym (usable-part (length store) r e))
 
 -- what is used of a reader is always a part
 pub record Part (store : List ℕ) (r : Reader) : Type 0 where
   pub ordered : r .start ≤ r .end
   pub within : r .end ≤ length store
 
-parted : (store : List ℕ) (r : Reader) → isPart store r ≡ true → Part store r
+parted : (store : List ℕ) (r : Reader) → isPart (length store) r ≡ true → Part store r
 parted store r e = go (leb (r .start) (r .end)) refl (leb (r .end) (length store)) refl e
   where
     go : (a : Bool) → leb (r .start) (r .end) ≡ a → (b : Bool) → leb (r .end) (length store) ≡ b → (a && b) ≡ true →
@@ -106,9 +106,9 @@ parted store r e = go (leb (r .start) (r .end)) refl (leb (r .end) (length store
     go true f false g z = absurd (let y : _≡_ {A = ℕ} 0 1 = cc in omega arith)
     go false f b g z = absurd (let y : _≡_ {A = ℕ} 0 1 = cc in omega arith)
 
-pub usable-is : (store : List ℕ) (r : Reader) → Part store (usable store r)
+pub usable-is : (store : List ℕ) (r : Reader) → Part store (usable (length store) r)
 usable-is store r =
-    both (Part store) (isPart store r) r startOver (parted store r)
+    both (Part store) (isPart (length store) r) r startOver (parted store r)
     (λ _. record { ordered = omega arith; within = omega arith })
 
 -- ---- a bad length leaves its four bytes
@@ -128,11 +128,11 @@ module _ (store : List ℕ) (r : Reader) (p : Part store r) where
       let h = four-there t in
       let e : r .start + lengthBytes - r .start ≡ lengthBytes = omega arith in
       held-part store (reader (r .start) (r .start + lengthBytes))
-      (is-part store (reader (r .start) (r .start + lengthBytes)) (omega arith) (omega (arith, p .within)))
+      (is-part (length store) (reader (r .start) (r .start + lengthBytes)) (omega arith) (omega (arith, p .within)))
       ∙ ap (λ (k : ℕ). take k (drop (r .start) store)) e
       ∙ sym (take-take lengthBytes (r .end - r .start) (drop (r .start) store) (omega arith))
       ∙ sym (kept-bad (part store r) t))
-      (λ t. held-part store r (is-part store r (p .ordered) (p .within)) ∙ sym (kept-good (part store r) t))
+      (λ t. held-part store r (is-part (length store) r (p .ordered) (p .within)) ∙ sym (kept-good (part store r) t))
 
 -- the number of what stands first is that of what is kept
 pub stands-kept : (b : List ℕ) → standsFirst b ≡ standsFirst (kept b)
@@ -222,7 +222,7 @@ push-comes store r p arrival n e =
 pub pushes-behind : PushesBehind
 unfolding pushOf pushAt held
 pushes-behind r arrival store =
-    let u = usable store r in
+    let u = usable (length store) r in
     let x = push-comes store u (usable-is store r) arrival (takenCount (length store) (part store u) arrival) refl in
     record {
       count = x .counted;
@@ -244,18 +244,19 @@ hands store r p (Head.Frame kind end) e q same =
       frame = sym (take-take end (r .end - r .start) (drop (r .start) store) (omega arith)) ∙ ap (take end) (sym same);
       within = omega (arith, p .within);
       len = refl;
-      type = refl;
+      kind = refl;
       left =
           settled-held store (reader (r .start + end) (r .end)) (record { ordered = within; within = p .within })
           ∙ ap kept (between-drop store (r .start) (r .end) end (p .within) within ∙ ap (drop end) (sym same));
     }
 hands store r p (Head.Refused reason) e q same =
-    record { reason = refl; len = refl; type = refl; left = settled-held store r p ∙ ap kept (sym same) }
+    record { reason = refl; len = refl; kind = refl; left = settled-held store r p ∙ ap kept (sym same) }
 
 pub hands-first : HandsFirst
 unfolding nextOf held
 hands-first r store =
-    hands store (usable store r) (usable-is store r) (headOf (part store (usable store r))) refl r refl
+    hands store (usable (length store) r) (usable-is store r)
+    (headOf (part store (usable (length store) r))) refl r refl
 
 -- ---- the bytes held decide
 
@@ -286,7 +287,7 @@ next-alike r r' store store' a x y (Head.Frame kind end) f g =
     record {
       reason = f .reason ∙ sym (g .reason);
       frame = f .frame ∙ ap (take end) (a .bytes) ∙ sym (g .frame);
-      kind = f .type ∙ sym (g .type);
+      kind = f .kind ∙ sym (g .kind);
       after = record {
         size = a .size;
         bytes = f .left ∙ ap (λ (b : List ℕ). kept (drop end b)) (a .bytes)
@@ -299,7 +300,7 @@ next-alike r r' store store' a x y (Head.Refused reason) f g =
       frame =
           ap (λ (n : ℕ). take n (drop (x .start) store)) (f .len)
           ∙ sym (ap (λ (n : ℕ). take n (drop (y .start) store')) (g .len));
-      kind = f .type ∙ sym (g .type);
+      kind = f .kind ∙ sym (g .kind);
       after = record { size = a .size; bytes = f .left ∙ ap kept (a .bytes) ∙ sym (g .left) };
     }
 
@@ -370,22 +371,33 @@ wait-short b e = go (leb storeSize (length b)) refl
         let w = waits-exactly b .wait .0 e in
         absurd (full-decides b (leb-true storeSize (length b) f) (w .0) (w .1))
 
--- nothing was handed out: what was held is held
-waited : (r : Reader) (store : List ℕ) (x : NextFrame) (h : Head) → headOf (held store r) ≡ h → Hands r store x h →
-    x .reason ≡ waitForMore →
-    (standsFirst (held store r) ≡ waitForMore) × (held store (x .reader) ≡ held store r)
-waited r store x (Head.Frame kind end) e f z = absurd (omega (arith, f .reason))
-waited r store x (Head.Refused reason) e f z =
-    let w = first-is (held store r) e ∙ sym (f .reason) ∙ z in
-    (w, f .left ∙ kept-good (held store r) (ne-eqb (standsFirst (held store r)) badLength (λ y. omega arith)))
+held-fits : (r : Reader) (store : List ℕ) → length (held store r) ≤ length store
+unfolding held
+held-fits r store =
+    let p = usable-is store r in omega (arith, long-part store (usable (length store) r) p, p .within)
+
+ordered-either : {P : Type 0} (a b : ℕ) → (a ≤ b → P) → (b < a → P) → P
+ordered-either {P} a b f g = go (leb a b) refl
+  where
+    go : (t : Bool) → leb a b ≡ t → P
+    go true e = f (leb-true a b e)
+    go false e = g (leb-false a b e)
+
+taken-enough : (size : ℕ) (bytes arrival : List ℕ) → length bytes ≤ size → badFirst bytes ≡ false →
+    (takenCount size bytes arrival ≡ length arrival) ⊎ (length bytes + takenCount size bytes arrival ≡ size)
+taken-enough size bytes arrival h good =
+    both (λ (n : ℕ). (n ≡ length arrival) ⊎ (length bytes + n ≡ size)) (badFirst bytes) _ _
+    (λ t. absurd (true≢false (sym t ∙ good)))
+    (λ _. ordered-either (length arrival) (size - length bytes) (λ g. inl (omega arith)) (λ g. inr (omega arith)))
+
+pub takes-all : TakesAll
+takes-all r arrival store good =
+    let e = pushes-behind r arrival store .count in
+    ⊎-elim (λ z. inl (e ∙ z)) (λ z. inr (omega (arith, e)))
+    (taken-enough (length store) (held store r) arrival (held-fits r store) good)
 
 pub wait-has-room : WaitHasRoom
 wait-has-room r arrival store size e some =
     let b = held store r in
-    let w = waited r store (nextOf r store) (headOf b) refl (hands-first r store) e in
-    let p = pushes-behind (nextOf r store .reader) arrival store in
-    let not-bad = ne-eqb (standsFirst b) badLength (λ y. omega (arith, w .0)) in
-    let room = min (length arrival) (length store - length b) in
-    let n : pushOf (nextOf r store .reader) arrival store .answer .count ≡ room =
-        p .count ∙ ap (λ (l : List ℕ). takenCount (length store) l arrival) (w .1) ∙ sym (no _ room not-bad) in
-    omega (arith, n, wait-short b (w .0))
+    let good = ne-eqb (standsFirst b) badLength (λ y. omega (arith, e)) in
+    ⊎-elim (λ z. omega arith) (λ z. omega (arith, wait-short b e)) (takes-all r arrival store good)

@@ -14,7 +14,8 @@ use Rattle.message.specs.declared.head.Head.{Head}
 use Rattle.message.specs.Head.{headOf}
 use Rattle.streams.specs.declared.Reader.{Reader}
 use Rattle.streams.specs.declared.NextFrame.{NextFrame}
-use Rattle.streams.specs.Reader.{Push, lengthBytes, badLength, standsFirst, badFirst, startOver, isPart, part, held}
+use Rattle.streams.specs.Reader.{Push, lengthBytes, badLength, standsFirst, badFirst, startOver, isPart, part}
+use Rattle.streams.specs.Reader.{held}
 use Rattle.streams.specs.Reader.{pushOf, nextOf}
 use Rattle.streams.specs.ReaderRules.{kept, frameAt, Pushes, Hands, HandsNone, Whole}
 use Rattle.streams.proofs.HeldLaws.{stands-kept, pushes-behind, hands-first}
@@ -25,7 +26,8 @@ use Rattle.streams.specs.Divided.{Offered}
 use Rattle.streams.specs.Demands.{FramesArrive}
 use Rattle.streams.specs.Arrivals.{Always, Conserved, HandsOutFrames, Drained, ReadInOrder, goesOn, Refuses}
 use Rattle.streams.specs.Arrivals.{Stays, StaysBad, StartsEmpty, Drains}
-use Rattle.streams.proofs.FrontLaws.{frame-told, refused-some, refused-none, bad-told, bad-known, refusal, whole-told}
+use Rattle.streams.proofs.FrontLaws.{frame-told, refused-some, refused-none, bad-told, bad-known, refusal}
+use Rattle.streams.proofs.FrontLaws.{whole-told}
 use Rattle.streams.proofs.FrontLaws.{kept-both, nothing-kept}
 use Rattle.history.proofs.ListLaws.{all-append}
 use Rattle.streams.proofs.StreamLaws.{Holds, holds-as, joined-holds, more-comes, one-out, four-left, stream-is}
@@ -35,7 +37,7 @@ use Rattle.streams.proofs.StreamLaws.{whole-stream, dropped-alike, behi
 
 nothing-held : (store : List ℕ) → held store startOver ≡ []
 unfolding held
-nothing-held store = go (isPart store startOver)
+nothing-held store = go (isPart (length store) startOver)
   where
     go : (b : Bool) → part store (cond b startOver startOver) ≡ []
     go true = refl

@@ -15,7 +15,8 @@ use Rattle.message.specs.Head.{headOf}
 use Rattle.streams.specs.Reader.{lengthBytes, badLength, standsFirst, badFirst}
 use Rattle.streams.specs.ReaderRules.{kept, Whole}
 use Rattle.streams.specs.Stream.{joined, Stream, also, streamBy, streamFrom, stream, lessDropped}
-use Rattle.streams.proofs.FrontLaws.{frame-told, refusal, bad-told, whole-told, refused-none, frame-good, frame-more}
+use Rattle.streams.proofs.FrontLaws.{frame-told, refusal, bad-told, whole-told, refused-none, frame-good}
+use Rattle.streams.proofs.FrontLaws.{frame-more}
 use Rattle.streams.proofs.FrontLaws.{frame-whole, bad-more, bad-four, kept-bad, unkept, unkept-good, kept-all}
 use Rattle.streams.proofs.FrontLaws.{kept-both, first-kept, kept-kept, nothing-first, nothing-kept}
 

@@ -6,7 +6,7 @@ use mathlib.Core.List.{List, [], _∷_, _++_}
 use lib.ListN.{length, replicate}
 use Rattle.session.specs.Lists.{All}
 use Rattle.streams.specs.ReaderRules.{Whole}
-use Rattle.streams.specs.Reader.{lengthBytes, badLength, standsFirst, badFirst, pushOf, nextOf}
+use Rattle.streams.specs.Reader.{accepted, lengthBytes, badLength, standsFirst, badFirst, pushOf, nextOf}
 use Rattle.streams.specs.Reading.{Operation, push, nextFrame, restart, Reading, left, handedOut, operated}
 use Rattle.streams.specs.Reading.{reading}
 use Rattle.streams.specs.Stream.{joined, stream}
@@ -36,7 +36,7 @@ HandsOutFrames = Always (λ x. All Whole (handedOut x))
 
 -- "once no held frame remains"
 abbrev pub Drained : Reading → Type 0
-Drained x = standsFirst (left x) ≡ 0 → ⊥
+Drained x = standsFirst (left x) ≡ accepted → ⊥
 
 -- the frames and what is left are what the bytes taken come to: "Frames before a bad length are handed out first"
 pub record Reads (x : Reading) : Type 0 where
@@ -52,6 +52,7 @@ Drains = (x : Reading) → Drained (operated (replicate (length (left x)) nextFr
 
 -- ---- a bad length stays
 
+-- no start over among them
 abbrev pub goesOn : List Operation → Bool
 goesOn [] = true
 goesOn (push arrival ∷ os) = goesOn os

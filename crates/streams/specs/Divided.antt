@@ -1,37 +1,31 @@
 -- "However these are divided into arrivals, from the same session, with the same reports in order and reply buffers of
 -- 128 bytes or more, once no held frame remains the frames, the steps taken on them and what is left are equal."
-use Prim.Native.Nat.{ℕ, suc, _≤_}
+use Prim.Native.Nat.{ℕ, _≤_}
 use mathlib.Core.Bool.{true}
 use mathlib.Core.Path.{_≡_}
-use mathlib.Core.List.{List, [], _∷_, map}
+use mathlib.Core.List.{List, map}
 use mathlib.Core.Logic.{_⊎_}
 use lib.ListN.{length, take}
 use Rattle.session.specs.declared.Session.{Session}
-use Rattle.rules.specs.declared.Report.{Report}
+use Rattle.session.specs.Lists.{All}
 use Rattle.rules.specs.Step.{minBuffer}
 use Rattle.rules.specs.StepRules.{outcome}
-use Rattle.history.specs.Run.{Input, run}
+use Rattle.history.specs.Run.{Input, framesOf, reportsOf, run}
 use Rattle.streams.specs.Reader.{badFirst}
 use Rattle.streams.specs.Reading.{Reading, left}
 use Rattle.streams.specs.Stream.{lessDropped}
 use Rattle.streams.specs.Arrivals.{Always, Drained}
 
--- the steps on some frames, each with the report and the reply buffer of its turn
-unfoldable pub inputs : (ℕ → Report) → (ℕ → List ℕ) → ℕ → List (List ℕ) → List Input
-inputs reports buffers n [] = []
-inputs reports buffers n (f ∷ fs) =
-    record { frame = f; report = reports n; buffer = buffers n } ∷ inputs reports buffers (suc n) fs
-
 -- "reply buffers of 128 bytes or more"
-abbrev pub Roomy : (ℕ → List ℕ) → Type 0
-Roomy buffers = (n : ℕ) → minBuffer ≤ length (buffers n)
+abbrev pub Roomy : Input → Type 0
+Roomy i = minBuffer ≤ length (i .buffer)
 
--- of each step its answer, its session and its reply
 pub record Same (x y : Reading) : Type 0 where
   pub frames : x .frames ≡ y .frames
-  pub steps : (s : Session) (reports : ℕ → Report) (buffers others : ℕ → List ℕ) → Roomy buffers → Roomy others →
-      map outcome (run s (inputs reports buffers 0 (x .frames)))
-      ≡ map outcome (run s (inputs reports others 0 (y .frames)))
+  -- of each step its answer, its session and its reply
+  pub steps : (s : Session) (is js : List Input) → framesOf is ≡ x .frames → framesOf js ≡ y .frames →
+      reportsOf is ≡ reportsOf js → All Roomy is → All Roomy js →
+      map outcome (run s is) ≡ map outcome (run s js)
   pub rest : left x ≡ left y
 
 -- "these": the bytes taken, less those dropped

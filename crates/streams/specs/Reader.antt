@@ -23,6 +23,10 @@ storeSize = 65536
 abbrev pub lengthBytes : ℕ
 lengthBytes = 4
 
+-- a whole frame
+abbrev pub accepted : ℕ
+accepted = 0
+
 -- "1 means "wait for more""
 abbrev pub waitForMore : ℕ
 waitForMore = 1
@@ -31,7 +35,7 @@ waitForMore = 1
 abbrev pub badLength : ℕ
 badLength = 2
 
--- 0 a whole frame, 1 wait for more, 2 a bad length: the number of the head that the bytes begin with
+-- which of the three: the number of the head that the bytes begin with
 unfoldable pub standsFirst : List ℕ → ℕ
 standsFirst bytes = headReason (headOf bytes)
 
@@ -54,15 +58,15 @@ between store start end = take (end - start) (drop start store)
 abbrev pub part : List ℕ → Reader → List ℕ
 part store r = between store (r .start) (r .end)
 
--- any two numbers are a reader: two that are no part of the store hold nothing
-abbrev pub isPart : List ℕ → Reader → Bool
-isPart store r = leb (r .start) (r .end) && leb (r .end) (length store)
+-- any two numbers are a reader: two that are no part of a store of this size hold nothing
+abbrev pub isPart : ℕ → Reader → Bool
+isPart size r = leb (r .start) (r .end) && leb (r .end) size
 
-abbrev pub usable : List ℕ → Reader → Reader
-usable store r = cond (isPart store r) r startOver
+abbrev pub usable : ℕ → Reader → Reader
+usable size r = cond (isPart size r) r startOver
 
 unfoldable pub held : List ℕ → Reader → List ℕ
-held store r = part store (usable store r)
+held store r = part store (usable (length store) r)
 
 -- "then the store keeps only its four bytes": of a bad length that stands first
 abbrev pub settled : List ℕ → Reader → Reader
@@ -110,18 +114,18 @@ unfoldable pub pushAt : List ℕ → Reader → List ℕ → Push
 pushAt store r arrival = pushOn store r arrival (takenCount (length store) (part store r) arrival)
 
 unfoldable pub pushOf : Reader → List ℕ → List ℕ → Push
-pushOf r arrival store = pushAt store (usable store r) arrival
+pushOf r arrival store = pushAt store (usable (length store) r) arrival
 
 -- ---- the next frame
 
 -- a whole frame that stands first is handed out: its place, its length and its type; else there is none
 abbrev pub nextBy : List ℕ → Reader → Head → NextFrame
-nextBy store r (Head.Frame kind end) =
+nextBy store r (Head.Frame kind long) =
     record {
-      reader = settled store (reader (r .start + end) (r .end));
-      reason = headReason (Head.Frame kind end);
+      reader = settled store (reader (r .start + long) (r .end));
+      reason = headReason (Head.Frame kind long);
       start = r .start;
-      len = end;
+      len = long;
       kind = kind;
     }
 nextBy store r (Head.Refused reason) =
@@ -131,4 +135,4 @@ abbrev pub nextAt : List ℕ → Reader → NextFrame
 nextAt store r = nextBy store r (headOf (part store r))
 
 unfoldable pub nextOf : Reader → List ℕ → NextFrame
-nextOf r store = nextAt store (usable store r)
+nextOf r store = nextAt store (usable (length store) r)

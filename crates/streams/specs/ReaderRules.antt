@@ -1,7 +1,7 @@
 -- What holds of one push and of one next_frame, for every reader, store and arrival, also of a reader that nobody
 -- made: the bytes held decide everything, and they are what the reader has not handed out.
 use Prim.Native.Nat.{ℕ, _+_, _≤_, _<_}
-use mathlib.Core.Bool.{cond}
+use mathlib.Core.Bool.{false, cond}
 use mathlib.Core.Path.{_≡_}
 use mathlib.Core.List.{List, _++_}
 use mathlib.Core.Logic.{_⊎_}
@@ -10,7 +10,8 @@ use Rattle.message.specs.declared.head.Head.{Head}
 use Rattle.message.specs.Head.{headOf, lengthOf, maxLength}
 use Rattle.streams.specs.declared.Reader.{Reader}
 use Rattle.streams.specs.declared.NextFrame.{NextFrame}
-use Rattle.streams.specs.Reader.{Push, storeSize, lengthBytes, waitForMore, badLength, standsFirst, badFirst}
+use Rattle.streams.specs.Reader.{accepted, Push, storeSize, lengthBytes, waitForMore, badLength, standsFirst}
+use Rattle.streams.specs.Reader.{badFirst}
 use Rattle.streams.specs.Reader.{held, takenCount, pushOf, nextOf}
 
 -- of a bad length that stands first only its four bytes are kept
@@ -42,23 +43,23 @@ abbrev pub frameAt : List ℕ → NextFrame → List ℕ
 frameAt store x = take (x .len) (drop (x .start) store)
 
 -- the first bytes held are handed out, and the others are held
-pub record HandsOut (r : Reader) (store : List ℕ) (kind end : ℕ) (x : NextFrame) : Type 0 where
-  pub reason : x .reason ≡ 0
-  pub frame : frameAt store x ≡ take end (held store r)
+pub record HandsOut (r : Reader) (store : List ℕ) (type long : ℕ) (x : NextFrame) : Type 0 where
+  pub reason : x .reason ≡ accepted
+  pub frame : frameAt store x ≡ take long (held store r)
   pub within : x .start + x .len ≤ length store
-  pub len : x .len ≡ end
-  pub type : x .kind ≡ kind
-  pub left : held store (x .reader) ≡ kept (drop end (held store r))
+  pub len : x .len ≡ long
+  pub kind : x .kind ≡ type
+  pub left : held store (x .reader) ≡ kept (drop long (held store r))
 
 -- nothing is handed out
 pub record HandsNone (r : Reader) (store : List ℕ) (why : ℕ) (x : NextFrame) : Type 0 where
   pub reason : x .reason ≡ why
   pub len : x .len ≡ 0
-  pub type : x .kind ≡ 0
+  pub kind : x .kind ≡ 0
   pub left : held store (x .reader) ≡ kept (held store r)
 
 abbrev pub Hands : Reader → List ℕ → NextFrame → Head → Type 0
-Hands r store x (Head.Frame kind end) = HandsOut r store kind end x
+Hands r store x (Head.Frame type long) = HandsOut r store type long x
 Hands r store x (Head.Refused reason) = HandsNone r store reason x
 
 abbrev pub HandsFirst : Type 0
@@ -106,16 +107,24 @@ Exactly P Q = (P → Q) × (Q → P)
 
 -- "2 once a bad length stands first"; "1 .. exactly when neither it nor a whole frame stands first"
 pub record Reasons (bytes : List ℕ) : Type 0 where
-  pub whole : Exactly (standsFirst bytes ≡ 0) (WholeFirst bytes)
+  pub whole : Exactly (standsFirst bytes ≡ accepted) (WholeFirst bytes)
   pub bad : Exactly (standsFirst bytes ≡ badLength) (BadFirst bytes)
   pub wait : Exactly (standsFirst bytes ≡ waitForMore) ((WholeFirst bytes → ⊥) × (BadFirst bytes → ⊥))
 
 abbrev pub WaitsExactly : Type 0
 WaitsExactly = (bytes : List ℕ) → Reasons bytes
 
+-- ---- room
+
+-- "as far as there is room beside that": all of the arrival is taken, or the store is full then
+abbrev pub TakesAll : Type 0
+TakesAll =
+    (r : Reader) (arrival store : List ℕ) → badFirst (held store r) ≡ false →
+    (pushOf r arrival store .answer .count ≡ length arrival)
+    ⊎ (length (held store r) + pushOf r arrival store .answer .count ≡ length store)
+
 -- "wait for more" leaves room: of the next arrival at least one byte is taken
 abbrev pub WaitHasRoom : Type 0
 WaitHasRoom =
-    (r : Reader) (arrival store : List ℕ) → length store ≡ storeSize → nextOf r store .reason ≡ waitForMore →
-    1 ≤ length arrival →
-    1 ≤ pushOf (nextOf r store .reader) arrival store .answer .count
+    (r : Reader) (arrival store : List ℕ) → length store ≡ storeSize → standsFirst (held store r) ≡ waitForMore →
+    1 ≤ length arrival → 1 ≤ pushOf r arrival store .answer .count

@@ -7,9 +7,10 @@ use lib.ListN.{take}
 use lib.Dec.{eqb}
 use Rattle.streams.specs.declared.Reader.{Reader}
 use Rattle.streams.specs.declared.NextFrame.{NextFrame}
-use Rattle.streams.specs.Reader.{Push, startOver, held, pushOf, nextOf}
+use Rattle.streams.specs.Reader.{accepted, Push, startOver, held, pushOf, nextOf}
 use Rattle.streams.specs.ReaderRules.{frameAt}
 
+-- a push of an arrival, a next_frame, a start_over
 pub data Operation : Type 0 where
   push : List ℕ → Operation
   nextFrame : Operation
@@ -51,7 +52,7 @@ handedBy x next =
       reader = next .reader;
       store = x .store;
       taken = x .taken;
-      frames = cond (eqb (next .reason) 0) (x .frames ++ (frameAt (x .store) next ∷ [])) (x .frames);
+      frames = cond (eqb (next .reason) accepted) (x .frames ++ (frameAt (x .store) next ∷ [])) (x .frames);
       earlier = x .earlier;
     }
 

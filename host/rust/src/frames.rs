@@ -126,7 +126,8 @@ impl Frames {
     }
 
     /// Takes an arrival as far as there is room beside the held bytes, and answers how many bytes it
-    /// took: none where a bad length stands first. Push the others again once frames were handed out.
+    /// took. Push the others again once frames were handed out. 0 for bytes that are some means that the
+    /// store is full or a bad length stands first; [`next_frame`](Frames::next_frame) tells which.
     #[must_use = "bytes that were not taken must be pushed again"]
     pub fn push(&mut self, bytes: &[u8]) -> usize {
         // SAFETY: the pointer and the length are those of a slice, the store has its length and is
@@ -158,8 +159,8 @@ impl Frames {
         self.reader = empty();
     }
 
-    /// The bytes that were taken and are not handed out: whole frames, then the beginning of one; or the
-    /// four bytes of a bad length.
+    /// The bytes that were taken and are not handed out. Once a bad length stands first, its four bytes
+    /// alone.
     pub fn held(&self) -> &[u8] {
         &self.store[self.reader.start..self.reader.end]
     }

@@ -3,6 +3,7 @@
 use Prim.Native.Nat.{ℕ, _≤_}
 use native.Mathlib.Omega.{arith}
 use mathlib.Core.Path.{_≡_, sym, ap, _∙_}
+use lib.ListN.{length}
 use borrow.Author.Needs.{needs}
 use Rattle.message.specs.declared.head.Head.{Head}
 use Rattle.streams.specs.Reader.{nextBy}
@@ -20,14 +21,14 @@ returns : tie.Need-returns
 returns c =
     let a = c .before .before .before .args in
     c .waiting .ensures
-    ∙ next-none (a .store .now) (a .reader) (is-reversed (a .store .now) (a .reader) (c .before .if1 .taken))
+    ∙ next-none (a .store .now) (a .reader) (is-reversed (length (a .store .now)) (a .reader) (c .before .if1 .taken))
 
 returns-2 : tie.Need-returns-2
 returns-2 c =
     let a = c .before .before .before .before .args in
     c .waiting2 .ensures
     ∙ next-none (a .store .now) (a .reader)
-    (is-past (a .store .now) (a .reader) (c .before .before .if1 .left) (c .before .if2 .taken))
+    (is-past (length (a .store .now)) (a .reader) (c .before .before .if1 .left) (c .before .if2 .taken))
 
 add-settle : tie.Need-add-settle
 add-settle c =
@@ -58,7 +59,7 @@ returns-3 c =
     ap (λ (r : Reader). answer 0 (a .reader .start) (k .kind .given .0 .1 .0) r (c .wide .result))
     (c .before .settle .ensures)
     ∙ ap (λ (n : ℕ). nextBy (a .store .now) (a .reader) (Head.Frame n (k .kind .given .0 .1 .0))) (c .wide .ensures)
-    ∙ next-by (a .store .now) (a .reader) (is-part (a .store .now) (a .reader) (e .before .if1 .left) (e .if2 .left))
+    ∙ next-by (a .store .now) (a .reader) (is-part (length (a .store .now)) (a .reader) (e .before .if1 .left) (e .if2 .left))
     (sym (k .kind .given .1) ∙ k .before .before .read-head .ensures)
 
 returns-4 : tie.Need-returns-4
@@ -67,7 +68,7 @@ returns-4 c =
     let e = k .before .before .before .before in
     let a = e .before .before .before .args in
     ap (λ (r : Reader). answer (k .reason .given .0 .0) 0 0 r 0) (c .settle2 .ensures)
-    ∙ next-by (a .store .now) (a .reader) (is-part (a .store .now) (a .reader) (e .before .if1 .left) (e .if2 .left))
+    ∙ next-by (a .store .now) (a .reader) (is-part (length (a .store .now)) (a .reader) (e .before .if1 .left) (e .if2 .left))
     (sym (k .reason .given .1) ∙ k .before .before .read-head .ensures)
 
 pub next-in-spec : {M : Type 1} → statement M

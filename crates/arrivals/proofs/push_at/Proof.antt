@@ -21,7 +21,7 @@ answers n {r' = r'} {k = k} e f = ap (λ (q : Reader). answer q k n) e ∙ ap (�
 returns : tie.Need-returns
 returns c =
     let b = c .before .before .before .before .before .before in
-    let x = push-bad (b .args .store .now) (b .args .start) (b .args .end) (b .args .arrival .now) (b .pre)
+    let x = push-bad (b .args .store .now) (b .args .held .start) (b .args .held .end) (b .args .arrival .now) (b .pre)
     (c .before .stands-first .ensures) (c .if1 .taken) in
     (ap (λ (p : Push). p .answer) x, ap (λ (p : Push). p .store) x)
 
@@ -40,9 +40,9 @@ returns-2 c =
     let b = f .before .before .before .before .before in
     let n = l .lesser .result in
     let x =
-    push-as (b .args .store .now) (reader (b .args .start) (b .args .end)) (b .args .arrival .now) {n = n}
+    push-as (b .args .store .now) (b .args .held) (b .args .arrival .now) {n = n}
     (omega (arith, l .lesser .ensures))
-    (taken-room (b .args .store .now) (b .args .start) (b .args .end) (b .args .arrival .now) (b .pre)
+    (taken-room (b .args .store .now) (b .args .held .start) (b .args .held .end) (b .args .arrival .now) (b .pre)
     (f .stands-first .ensures) (l .before .if1 .left) (l .lesser .ensures))
     (m .make-room .ensures .0)
     (m .make-room .ensures .1 .0)
