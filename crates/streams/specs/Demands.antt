@@ -13,6 +13,7 @@ use Rattle.history.specs.History.{Kept, reached}
 use Rattle.writer.specs.declared.Draft.{Draft}
 use Rattle.writer.specs.RoundTrip.{Sized, ReadsAs}
 use Rattle.writer.specs.Write.{frameBytes, draftReason}
+use Rattle.streams.specs.Reader.{accepted, waitForMore, badLength}
 use Rattle.streams.specs.ReaderRules.{Whole}
 use Rattle.streams.specs.Reading.{Reading, left, handedOut}
 use Rattle.streams.specs.Stream.{joined}
@@ -22,8 +23,8 @@ use Rattle.streams.specs.Divided.{Offered}
 -- a step on a whole frame, as every frame handed out is, is never refused 1 or 2, and uses all of it unless it is
 -- refused 3
 pub record UsesAll (s : Session) (frame : List ℕ) (r : Report) (buffer : List ℕ) : Type 0 where
-  pub there : answer (stepOf s frame r buffer) .reason ≡ 1 → ⊥
-  pub good : answer (stepOf s frame r buffer) .reason ≡ 2 → ⊥
+  pub there : answer (stepOf s frame r buffer) .reason ≡ waitForMore → ⊥
+  pub good : answer (stepOf s frame r buffer) .reason ≡ badLength → ⊥
   pub used : minBuffer ≤ length buffer → answer (stepOf s frame r buffer) .used ≡ length frame
 
 abbrev pub StepsUseAll : Type 0
@@ -45,7 +46,7 @@ pub record Written : Type 0 where
   pub body : List ℕ
   pub args : List ℕ
   pub sized : Sized draft
-  pub good : _≡_ {A = ℕ} (draftReason draft body args) 0
+  pub good : draftReason draft body args ≡ accepted
 
 abbrev pub frameOf : Written → List ℕ
 frameOf w = frameBytes (w .draft) (w .body) (w .args)
