@@ -22,7 +22,7 @@ void connection_begin(struct connection *c);
  */
 bool connection_serve(struct connection *c, const uint8_t *bytes, size_t len, FILE *out);
 
-/* How many bytes are held: the beginning of a frame whose rest has not arrived. */
+/* How many bytes are held: the beginning of a frame whose rest has not arrived, or the four of a bad length. */
 size_t connection_held(const struct connection *c);
 
 /*
