@@ -17,15 +17,14 @@ use Rattle.rules.specs.Kind.{isA, oneOf}
 use Rattle.session.specs.Tables as Tables
 use Rattle.reply.specs.declared.Reply.{Reply}
 use Rattle.reply.specs.Reply.{codeOf, replyBytes}
-use Rattle.reply.proofs.ReplyLaws.{fits-smallest}
 use Rattle.rules.specs.declared.Report.{Report}
 use Rattle.rules.specs.declared.Decision.{Decision}
 use Rattle.rules.specs.Refusal.{reportReason, stepReason}
 use Rattle.rules.specs.Rows.{firstRow, rowCount, sendsColumns, noneRemain}
 use Rattle.rules.specs.Decision.{sessionAfter, markOf, reply, named, wireCode, refusedReply, refusedBy, accepted, decidedBy, decisionOf}
 use Rattle.rules.specs.Read.{Read}
-use Rattle.rules.proofs.RefusalLaws.{code-small, passed}
-use Rattle.rules.proofs.StepLaws.{wire-small, named-small}
+use Rattle.rules.proofs.BufferLaws.{mark-fits, decision-fits}
+use Rattle.rules.proofs.RefusalLaws.{passed}
 use Rattle.keeper.specs.declared.decision.Verdict.{Verdict}
 use Rattle.keeper.specs.Rows.{Names, markFrom}
 use Rattle.keeper.specs.Verdict.{verdict, refusedWith, decidedOn, Accepts, Sends, Decides}
@@ -268,24 +267,6 @@ module _ (s : Session) (m : Message) (r : Report) where
   abbrev Fits : Reply → Type 0
   Fits x = length (replyBytes x) ≤ 128
 
-  plain-fits : (mark : ℕ) → Fits (reply mark)
-  plain-fits mark = fits-smallest (reply mark) (omega arith) (omega arith)
-
-  refusal-fits : Read m → Fits (refusedReply m r (stepReason s m r))
-  unfolding refusedReply
-  refusal-fits read =
-      let n = stepReason s m r in
-      both Fits (ltb n 4) (reply 0) (error m r n (wireCode r n) (named m n)) (λ _. plain-fits 0)
-      (λ _.
-      fits-smallest (error m r n (wireCode r n) (named m n)) (wire-small r n (code-small s m r read)) (named-small m read n))
-
-  pub decision-fits : Read m → Fits (decisionOf s m r .reply)
-  unfolding decisionOf
-  decision-fits read =
-      let n = stepReason s m r in
-      both (λ (d : Decision). Fits (d .reply)) (eqb n 0) (accepted s m r) (refusedBy s n (refusedReply m r n))
-      (λ _. plain-fits (markOf s m r)) (λ _. refusal-fits read)
-
   pub verdict-fits : Read m → (short : Bool) → Fits (decidedOn short s m r .reply)
-  verdict-fits read true = plain-fits 0
-  verdict-fits read false = decision-fits read
+  verdict-fits read true = mark-fits 0
+  verdict-fits read false = decision-fits s m r read

@@ -18,7 +18,7 @@ use Rattle.rules.specs.declared.Report.{Report}
 use Rattle.rules.specs.Decision.{decisionOf}
 use Rattle.rules.specs.Step.{minBuffer, stepOf}
 use Rattle.rules.proofs.ReadLaws.{frames-are-read}
-use Rattle.keeper.proofs.DecisionLaws.{decision-fits}
+use Rattle.rules.proofs.BufferLaws.{decision-fits}
 use Rattle.trace_line.specs.Line.{markOf}
 use Rattle.trace_line.specs.LineRules.{letterFor, MarksTell}
 use Rattle.trace_line.specs.Trace.{replyBuffer}
