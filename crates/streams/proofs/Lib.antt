@@ -4,3 +4,4 @@ pub mod StreamLaws
 pub mod ReadingLaws
 pub mod DividedLaws
 pub mod DemandLaws
+pub mod SampleLaws

@@ -5,3 +5,4 @@ pub mod Stream
 pub mod Arrivals
 pub mod Divided
 pub mod Demands
+pub mod Samples
