@@ -2,6 +2,8 @@
 
 use differential::compare::{search, search_arrivals, sweep, sweep_arrivals};
 use differential::coverage::Coverage;
+use differential::generate::{arrivals, Event, Operation, Random};
+use differential::implementation::{Implementation, NextFrame, Pushed};
 use differential::model::{Mistake, Model, MISTAKES};
 use differential::mutants::{hunt_all, WITHIN};
 use differential::under_test;
@@ -46,6 +48,51 @@ fn promises_alone_find_all_on_arrivals() {
         let mutant = Model::wrong(*mistake);
         let found = search_arrivals(&mutant, &mutant, SEED, WITHIN, &mut Coverage::default());
         assert!(found.is_some(), "{mistake:?} keeps all promises");
+    }
+}
+
+/// What an operation on a reader answers, and what is held behind it.
+#[derive(Debug, PartialEq)]
+enum Told {
+    Pushed(Pushed),
+    Next(NextFrame),
+    StartedOver,
+}
+
+fn told<I: Implementation>(
+    who: &I,
+    reader: &mut I::Reader,
+    operation: &Operation,
+) -> (Told, Vec<u8>) {
+    let told = match operation {
+        Operation::Push(bytes) => Told::Pushed(who.push(reader, bytes)),
+        Operation::NextFrame { .. } => Told::Next(who.next_frame(reader)),
+        Operation::StartOver => {
+            who.start_over(reader);
+            Told::StartedOver
+        }
+    };
+    (told, who.held(reader))
+}
+
+/// Whether two readers differ in one sequence, with no promise asked of either.
+fn differ<A: Implementation, B: Implementation>(a: &A, b: &B, events: &[Event]) -> bool {
+    let (mut left, mut right) = (a.reader(), b.reader());
+    events.iter().any(|event| match event {
+        Event::Reader(operation) => told(a, &mut left, operation) != told(b, &mut right, operation),
+        _ => false,
+    })
+}
+
+/// The comparison leaves no mistake on arrivals unseen either, without the promises.
+#[test]
+fn comparison_alone_finds_all_on_arrivals() {
+    const SEQUENCES: usize = 2_000;
+    for mistake in MISTAKES.iter().filter(|mistake| mistake.is_on_arrivals()) {
+        let (honest, mutant) = (under_test(), Model::wrong(*mistake));
+        let mut random = Random::new(SEED);
+        let found = (0..SEQUENCES).any(|_| differ(&honest, &mutant, &arrivals(&mut random)));
+        assert!(found, "{mistake:?} answers as the library does");
     }
 }
 
