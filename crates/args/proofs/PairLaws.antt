@@ -1,11 +1,12 @@
--- The short way for a message of two fields: its values of one byte, its steps, and what a message's rows make of a pair. Assumes
--- nothing.
+-- The short ways for a message of one field or two: their values of one byte, their steps, and what a message's rows
+-- make of the fields. Assumes nothing.
 use Prim.Native.Nat.{ℕ, _+_, _-_, _*_, _/_, _%_, _^_, _≤_, _<_}
 use native.Mathlib.Omega.{arith}
 use mathlib.Core.Bool.{Bool, true, false}
 use mathlib.Core.Path.{_≡_, refl, sym, ap, subst, _∙_}
 use mathlib.Core.List.{List}
 use lib.ListN.{length, take, getD}
+use lib.Seq.{length-take-le, getD-take}
 use lib.Dec.{ltb, leb, eqb}
 use borrow.Author.Tests.{ltb-true, ltb-false, leb-true, eqb-true, lt-ltb, le-ltb, lt-leb, le-leb, eq-eqb, ne-eqb}
 use Rattle.varint.proofs.PastLaws.{both}
@@ -22,7 +23,7 @@ use Rattle.layout.specs.declared.slots.Slots.{Slots}
 use Rattle.layout.specs.declared.fields.Use.{Use}
 use Rattle.layout.proofs.FieldsLaws.{kept-slot, starts, goes-on, ends}
 use Rattle.args.specs.Part.{embedded}
-use Rattle.args.specs.Pair.{pairOf, pairAt, pairIn}
+use Rattle.args.specs.Pair.{pairOf, pairAt, pairIn, loneIn}
 use Rattle.args.specs.declared.pair.Pair.{Pair}
 use Rattle.args.proofs.PartLaws.{yes, no, part-within}
 
@@ -40,15 +41,20 @@ module _ (s : List ℕ) (wire at v : ℕ) (inside : at < length s) (is : v ≡ g
       ∙ ap (ofLength s) (one-byte s at v inside is short)
       ∙ value-length s wire at (λ z. omega arith) (λ z. omega arith) e
 
--- ---- what a pair says of the bytes
+-- ---- what the short ways say of the bytes
 
--- field 1 with the value `first` and the tag `tag`, in a byte each, and the value of that tag, up to the end of s
-pub record TwoFields (s : List ℕ) (at first tag value start : ℕ) : Type 0 where
-  pub len : ℕ
-  pub inside : at + 3 ≤ length s
+-- field 1 with the value `first`, in a byte
+pub record FieldOne (s : List ℕ) (at first : ℕ) : Type 0 where
+  pub inside : at + 2 ≤ length s
   pub one-is : getD s at 0 ≡ 8
   pub first-is : first ≡ getD s (at + 1) 0
   pub first-short : first < 128
+
+-- that field, the tag `tag` in a byte, and the value of that tag, up to the end of s
+pub record TwoFields (s : List ℕ) (at first tag value start : ℕ) : Type 0 where
+  pub one : FieldOne s at first
+  pub len : ℕ
+  pub inside : at + 3 ≤ length s
   pub tag-is : tag ≡ getD s (at + 2) 0
   pub tag-short : tag < 128
   pub value-is : Value.Good value start len (length s) ≡ valueAt s (tag % 8) (at + 3)
@@ -75,11 +81,9 @@ at-says s at =
         both (Says s at) (eqb next (length s)) (Pair.Two (getD s (at + 1) 0) (getD s (at + 2) 0) value start) Pair.Other
         (λ q.
         record {
+          one = record { inside = omega (arith, l); one-is = o; first-is = refl; first-short = f };
           len = len;
           inside = l;
-          one-is = o;
-          first-is = refl;
-          first-short = f;
           tag-is = refl;
           tag-short = t;
           value-is = ap (Value.Good value start len) (sym (eqb-true next (length s) q)) ∙ e;
@@ -101,9 +105,33 @@ in-says s at n =
     go (Pair.Two first tag value start) h p = (h, p)
     go Pair.Other h p = tt
 
--- ---- the fields of a pair
+-- field 1 alone; 0 is no type that stands alone
+abbrev SaysLone : List ℕ → ℕ → ℕ → ℕ → Type 0
+SaysLone s at n first = 0 < first → (n ≡ 2) × FieldOne s at first
 
-module _ {s : List ℕ} {at first tag value start : ℕ} (t : TwoFields s at first tag value start) where
+lone-says : (s : List ℕ) (at n : ℕ) → SaysLone s at n (loneIn s at n)
+unfolding loneIn
+lone-says s at n =
+    both (SaysLone s at n) (eqb n 2) _ _
+    (λ two. both (SaysLone s at n) (ltb (length s) (at + 2)) _ _ (λ _ h. absurd (omega arith))
+    (λ l. both (SaysLone s at n) (eqb (getD s at 0) 8) _ _
+    (λ o. both (SaysLone s at n) (ltb (getD s (at + 1) 0) 128) _ _
+    (λ f h. (
+      eqb-true n 2 two,
+      record {
+        inside = ltb-false (length s) (at + 2) l;
+        one-is = eqb-true (getD s at 0) 8 o;
+        first-is = refl;
+        first-short = ltb-true (getD s (at + 1) 0) 128 f;
+      },
+    ))
+    (λ _ h. absurd (omega arith)))
+    (λ _ h. absurd (omega arith))))
+    (λ _ h. absurd (omega arith))
+
+-- ---- the fields
+
+module _ {s : List ℕ} {at first : ℕ} (t : FieldOne s at first) where
   field-one : fieldAt s at ≡ Field.Good 1 0 first (at + 1) 1 (at + 2)
   field-one =
       let next : at + 1 + 1 ≡ at + 2 = omega arith in
@@ -112,6 +140,21 @@ module _ {s : List ℕ} {at first tag value start : ℕ} (t : TwoFields s at fir
       ∙ ap (ofValue 1 0) (quick-number s 0 (at + 1) first (omega (arith, t .inside)) (t .first-is) (t .first-short) refl)
       ∙ quick-wire s at 8 (omega (arith, t .inside)) (sym (t .one-is)) (omega arith) 0 (omega arith) refl (omega arith))
 
+  -- the field in the bytes cut off behind it
+  cut-behind : FieldOne (take (at + 2) s) at first
+  cut-behind =
+      record {
+        inside = omega (arith, length-take-le (at + 2) s (t .inside));
+        one-is = getD-take (at + 2) s at 0 (omega arith) ∙ t .one-is;
+        first-is = t .first-is ∙ sym (getD-take (at + 2) s (at + 1) 0 (omega arith));
+        first-short = t .first-short;
+      }
+
+  one-listed : (rows : List (List ℕ)) (u : Use) → length s ≡ at + 2 → u ≡ useOf rows 1 0 first →
+      noted u noSlots 1 first (at + 1) 1 ≡ fieldList rows s at
+  one-listed rows u h e = ends (goes-on (starts rows s at) (omega (arith, t .inside)) field-one u e) (omega (arith, h))
+
+module _ {s : List ℕ} {at first tag value start : ℕ} (t : TwoFields s at first tag value start) where
   -- the wire type of a value is one of these
   never : (tag % 8 ≡ 0 → ⊥) → (tag % 8 ≡ 1 → ⊥) → (tag % 8 ≡ 2 → ⊥) → (tag % 8 ≡ 5 → ⊥) → ⊥
   never a b d f = let z : _≡_ {A = ℕ} 0 1 = cc (t .value-is, value-none s (tag % 8) (at + 3) a b d f) in omega arith
@@ -143,10 +186,10 @@ module _ {s : List ℕ} {at first tag value start : ℕ} (t : TwoFields s at fir
   two-listed : (rows : List (List ℕ)) (u v : Use) → 8 ≤ tag → u ≡ useOf rows 1 0 first → v ≡ useOf rows (tag / 8) (tag % 8) value →
       noted v (noted u noSlots 1 first (at + 1) 1) (tag / 8) value start (t .len) ≡ fieldList rows s at
   two-listed rows u v h e f =
-      ends (goes-on (goes-on (starts rows s at) (omega (arith, t .inside)) field-one u e) (omega (arith, t .inside)) (field-two h) v f)
-      (omega arith)
+      let one = goes-on (starts rows s at) (omega (arith, t .inside)) (field-one (t .one)) u e in
+      ends (goes-on one (omega (arith, t .inside)) (field-two h) v f) (omega arith)
 
--- ---- the steps of the short way
+-- ---- the steps of the short ways
 
 module _ (first tag end : ℕ) {value start len next : ℕ} {read : Value} (e : read ≡ Value.Good value start len next) where
   pub pair-ends : next ≡ end → Pair.Two first tag value start ≡ pairOf first tag end read
@@ -201,14 +244,63 @@ module _ (s : List ℕ) (at n : ℕ) where
   unfolding pairIn
   in-cut h = yes _ Pair.Other (le-leb (at + n) (length s) h)
 
--- ---- what a message's rows make of a pair
+module _ (s : List ℕ) (at n : ℕ) where
+  pub lone-longer : (n ≡ 2 → ⊥) → 0 ≡ loneIn s at n
+  unfolding loneIn
+  lone-longer h = no _ 0 (ne-eqb n 2 h)
+
+  module _ (two : n ≡ 2) where
+    pub lone-past : length s < at + 2 → 0 ≡ loneIn s at n
+    unfolding loneIn
+    lone-past h = simp (eq-eqb n 2 two, lt-ltb (length s) (at + 2) h)
+
+    module _ (inside : at + 2 ≤ length s) where
+      pub lone-other : (getD s at 0 ≡ 8 → ⊥) → 0 ≡ loneIn s at n
+      unfolding loneIn
+      lone-other o = simp (eq-eqb n 2 two, le-ltb (length s) (at + 2) inside, ne-eqb (getD s at 0) 8 o)
+
+      module _ (o : getD s at 0 ≡ 8) (first : ℕ) (f : first ≡ getD s (at + 1) 0) where
+        pub lone-long : 128 ≤ first → 0 ≡ loneIn s at n
+        unfolding loneIn
+        lone-long h =
+            simp (
+              eq-eqb n 2 two,
+              le-ltb (length s) (at + 2) inside,
+              eq-eqb (getD s at 0) 8 o,
+              le-ltb (getD s (at + 1) 0) 128 (omega arith),
+            )
+
+        pub lone-found : first < 128 → first ≡ loneIn s at n
+        unfolding loneIn
+        lone-found h =
+            f
+            ∙ yes (getD s (at + 1) 0) 0 (lt-ltb (getD s (at + 1) 0) 128 (omega arith))
+            ∙ yes _ 0 (eq-eqb (getD s at 0) 8 o)
+            ∙ no 0 _ (le-ltb (length s) (at + 2) inside)
+            ∙ yes _ 0 (eq-eqb n 2 two)
+
+-- ---- what a message's rows make of one field
+
+-- the code asks for a type; the rows keep it
+pub lone-kept : (s : List ℕ) (at n : ℕ) {r : ℕ} → r ≡ loneIn s at n → (rows : List (List ℕ)) (kind : ℕ) → r ≡ kind →
+    0 < kind → Use.Kept ≡ useOf rows 1 0 kind →
+    checked rows (noted Use.Kept noSlots 1 kind (at + 1) 1) ≡ embedded rows s at n
+lone-kept s at n {r} p rows kind e some kept = go (subst (SaysLone s at n) (sym p ∙ e) (lone-says s at n) some)
+  where
+    go : (n ≡ 2) × FieldOne s at kind → checked rows (noted Use.Kept noSlots 1 kind (at + 1) 1) ≡ embedded rows s at n
+    go (two, f) =
+        ap (checked rows) (one-listed (cut-behind f) rows Use.Kept (length-take-le (at + 2) s (f .inside)) kept)
+        ∙ part-within rows s at 2 (f .inside)
+        ∙ ap (embedded rows s at) (sym two)
+
+-- ---- what they make of a pair
 
 module _ (s : List ℕ) (at n : ℕ) {r : Pair} {first tag value start : ℕ} (e : r ≡ Pair.Two first tag value start) (p : r ≡ pairIn s at n) where
   pub told : SaysIn s at n (Pair.Two first tag value start)
   told = subst (SaysIn s at n) (sym p ∙ e) (in-says s at n)
 
   pub named-short : first * 256 + tag < 2 ^ 16
-  named-short = omega (arith, told .1 .first-short, told .1 .tag-short)
+  named-short = omega (arith, told .1 .one .first-short, told .1 .tag-short)
 
   -- the code asks for a type and a tag, both in one number; the rows keep both fields
   module _ (rows : List (List ℕ)) (kind key : ℕ) (named : first * 256 + tag ≡ kind * 256 + key) (some : 8 ≤ key)

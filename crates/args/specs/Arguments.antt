@@ -7,7 +7,7 @@ use lib.Dec.{ltb, eqb}
 use Rattle.wire.specs.Field.{fieldAt}
 use Rattle.wire.specs.declared.field.Field.{Field}
 use Rattle.wire.specs.declared.value.Value.{Value}
-use Rattle.scalar.specs.Argument.{reasonOf, valuesOf}
+use Rattle.scalar.specs.Argument.{reasonOf}
 use Rattle.scalar.specs.declared.argument.Argument.{Argument}
 use Rattle.scalar.specs.declared.argument.Argument.the-variants as Va
 use Rattle.args.specs.Value.{bad, argumentIn}
@@ -58,7 +58,7 @@ argumentsFrom (suc most) s at = andMore (λ next. argumentsFrom most s next) (ne
 abbrev pub argumentsAt : List ℕ → ℕ → List Argument
 argumentsAt s from = argumentsFrom (length s) s from
 
--- document 01's type of an Any: 1 scalar, 2 object, 3 array; 0 for a bad one
+-- the type of an Any: 1 scalar, 2 object, 3 array; 0 for a bad one (L7)
 abbrev pub anyTypeOf : Argument → ℕ
 anyTypeOf (Va.Signed z) = 1
 anyTypeOf (Va.Unsigned n) = 1
@@ -102,30 +102,15 @@ together x (a ∷ rest) =
 abbrev pub argumentsIn : List ℕ → ℕ → Arguments
 argumentsIn s from = together (noArguments from (length s)) (argumentsAt s from)
 
--- as it is handed out: itself, or refused by its number, "of an object or array 8"
+-- as it is handed out: itself, or refused by its number, "of an object or array 8" (A6)
 abbrev pub asked : Argument → Argument
 asked a = cond (eqb (reasonOf a) 0) a (Va.Refused (reasonOf a))
 
--- document 01's number and values for the next argument: its own, and the place behind it
+-- the number of the next argument: its own, or 9 (H9, A7)
 abbrev pub nextReason : NextArgument → ℕ
 nextReason (NextArgument.Found a next) = reasonOf a
 nextReason NextArgument.End = 9
 
-abbrev pub nextValues : NextArgument → List ℕ
-nextValues (NextArgument.Found a next) = next ∷ valuesOf a
-nextValues NextArgument.End = []
-
--- and for the place of an args field: a bad field makes a bad payload, 6
-abbrev pub placeReason : ArgPlace → ℕ
-placeReason (ArgPlace.At start len next) = 0
-placeReason ArgPlace.End = 9
-placeReason ArgPlace.Bad = 6
-
-abbrev pub placeValues : ArgPlace → List ℕ
-placeValues (ArgPlace.At start len next) = start ∷ len ∷ next ∷ []
-placeValues ArgPlace.End = []
-placeValues ArgPlace.Bad = []
-
--- the argument with an index, from 0: "past the last argument 9"
+-- the argument with an index, from 0: "past the last argument 9" (A6)
 abbrev pub nthArgument : List ℕ → ℕ → ℕ → Argument
 nthArgument s from index = asked (getD (argumentsAt s from) index (Va.Refused 9))

@@ -1,5 +1,5 @@
--- The short way for a message of two fields: what it finds, by the bytes alone. What it does not find the long way reads.
--- For contracts inside the library; it follows the code's tests, and what is promised does not cite it.
+-- The short ways for a message of one field or two: what they find, by the bytes alone. What they do not find the long
+-- way reads. For contracts inside the library; they follow the code's tests, and what is promised does not cite them.
 use Prim.Native.Nat.{ℕ, _+_, _%_}
 use mathlib.Core.Bool.{cond}
 use mathlib.Core.List.{List}
@@ -14,7 +14,8 @@ abbrev pub pairOf : ℕ → ℕ → ℕ → Value → Pair
 pairOf first tag end (Value.Good value start len next) = cond (eqb next end) (Pair.Two first tag value start) Pair.Other
 pairOf first tag end Value.Bad = Pair.Other
 
--- from the place `at` to the end of s: the tag of field 1 as a varint, its value, and a tag, in a byte each; then that tag's value
+-- from the place `at` to the end of s: the tag of field 1 as a varint, its value, and a tag, in a byte each; then that
+-- tag's value
 unfoldable pub pairAt : List ℕ → ℕ → Pair
 pairAt s at =
     cond (ltb (length s) (at + 3)) Pair.Other
@@ -29,3 +30,13 @@ pairAt s at =
 -- in n bytes of s from the place `at` on
 unfoldable pub pairIn : List ℕ → ℕ → ℕ → Pair
 pairIn s at n = cond (leb (at + n) (length s)) (pairAt (take (at + n) s) at) Pair.Other
+
+-- the value of field 1, a varint of one byte, where the field fills n bytes of s from the place `at` on; else 0
+unfoldable pub loneIn : List ℕ → ℕ → ℕ → ℕ
+loneIn s at n =
+    cond (eqb n 2)
+    (cond (ltb (length s) (at + 2)) 0
+    (cond (eqb (getD s at 0) 8)
+    (cond (ltb (getD s (at + 1) 0) 128) (getD s (at + 1) 0) 0)
+    0))
+    0

@@ -1,5 +1,5 @@
--- Messages embedded in others. Places count from the start of the frame, so an embedded message is read from the frame cut off
--- behind it.
+-- Messages embedded in others. Places count from the start of the frame, so an embedded message is read from the frame
+-- cut off behind it.
 use Prim.Native.Nat.{ℕ, _+_, _%_, _^_}
 use mathlib.Core.Bool.{Bool, cond}
 use mathlib.Core.List.{List}
@@ -29,6 +29,6 @@ startOf x k = getD (x .start) k 0
 abbrev pub lenOf : Slots → ℕ → ℕ
 lenOf x k = getD (x .len) k 0
 
--- a uint32 and an enum keep the low 32 bits
+-- a uint32 and an enum keep the low 32 bits (W3)
 abbrev pub low32 : ℕ → ℕ
 low32 v = v % 2 ^ 32

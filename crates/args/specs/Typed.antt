@@ -1,4 +1,4 @@
--- Each Scalar type gives its own case: document 01's number of what is read is the type that the message names.
+-- Each Scalar type gives its own case: the number of what is read is the type that the message names (L8, H9).
 use Prim.Native.Nat.{ℕ}
 use mathlib.Core.Path.{_≡_}
 use mathlib.Core.List.{List}

@@ -1,6 +1,6 @@
--- The value of one argument (document 01, "Payload rules"): an Any of type 1 must have its scalar; Scalar types 1 to 8 are sint,
--- uint, null, octets, double, float, bool, string; the named value must be present, null has none; octets and string hold
--- required bytes in field 1. What a type does not choose is skipped unread.
+-- The value of one argument (L7, L8, L9, L10): an Any of type 1 must have its scalar; Scalar types 1 to 8 are sint,
+-- uint, null, octets, double, float, bool, string; the named value must be present, null has none; octets and string
+-- hold required bytes in field 1. What a type does not choose is skipped unread.
 use Prim.Native.Nat.{ℕ}
 use mathlib.Core.Bool.{Bool, true, false, not, cond}
 use mathlib.Core.List.{List}
@@ -22,7 +22,8 @@ present count a = cond (eqb count 0) bad a
 
 -- the bytes in field 1 of an octets or string message
 abbrev pub bytesOf : Bool → Slots → Argument
-bytesOf octets x = cond (x .good) (cond octets (Va.Octets (startOf x 1) (lenOf x 1)) (Va.String (startOf x 1) (lenOf x 1))) bad
+bytesOf octets x =
+    cond (x .good) (cond octets (Va.Octets (startOf x 1) (lenOf x 1)) (Va.String (startOf x 1) (lenOf x 1))) bad
 
 abbrev pub bytesIn : Bool → List ℕ → ℕ → ℕ → Argument
 bytesIn octets s at n = bytesOf octets (embedded (rowsOf bytes) s at n)
@@ -46,7 +47,7 @@ scalarOf s x = cond (x .good) (ofType s x (low32 (valueOf x 1))) bad
 abbrev pub scalarIn : List ℕ → ℕ → ℕ → Argument
 scalarIn s at n = scalarOf s (embedded (rowsOf scalar) s at n)
 
--- by the Any's type: 1 scalar, 2 object, 3 array
+-- by the Any's type: 1 scalar, 2 object, 3 array (L7)
 unfoldable pub ofAnyType : List ℕ → Slots → ℕ → Argument
 ofAnyType s x t =
     cond (eqb t 1) (present (countOf x 2) (scalarIn s (startOf x 2) (lenOf x 2)))

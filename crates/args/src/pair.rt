@@ -1,13 +1,14 @@
-// The short way for a message of two fields, as an Any with its scalar, a Scalar with its value and a Prepare's statement
-// mostly are. It is here for speed: it fills no arrays and looks up no rows. The rows decide all the same: a law says what
-// a message's rows make of two fields that fill it, and the callers answer by that law.
+// The short ways for a message of two fields, as an Any with its scalar, a Scalar with its value and a Prepare's
+// statement mostly are, and of one, as an Any or a Scalar that holds only its type. They are here for speed: they fill
+// no arrays and look up no rows. The rows decide all the same: laws say what a message's rows make of one field or two
+// that fill it, and the callers answer by those laws.
 ghost use mathlib.Core.Path.{_≡_};
 ghost use Rattle.wire.specs.Value.{valueAt};
-ghost use Rattle.args.specs.Pair.{pairAt, pairIn, pairOf};
+ghost use Rattle.args.specs.Pair.{loneIn, pairAt, pairIn, pairOf};
 use wire::value::Value;
 
-// Two fields that fill the message: number 1, a varint of one byte with the value `first`; and one whose tag is the byte
-// `tag`, with its value and place. Other: no such pair, and the long way reads the message.
+// Two fields that fill the message: number 1, a varint of one byte with the value `first`; and one whose tag is the
+// byte `tag`, with its value and place. Other: no such pair, and the long way reads the message.
 pub enum Pair {
     Two {
         first: u64,
@@ -20,6 +21,12 @@ pub enum Pair {
 
 // The tag of field 1 as a varint.
 const FIRST_TAG: u8 = 8;
+
+// The bytes of that field with a value of one byte.
+const LONE_BYTES: usize = 2;
+
+// What is answered where there is no such field alone. No message's type is 0.
+const NOT_ALONE: u64 = 0;
 
 // A cast of a byte that asks nothing.
 fn wide(b: u8) -> u64
@@ -122,4 +129,27 @@ pub fn read_pair(s: &[u8], at: usize, n: usize) -> Pair
     }
     let end = at + n;
     pair_at(&s[..end], at)
+}
+
+// The value of field 1, a varint of one byte, if the field fills the `n` bytes of s from `at` on.
+pub fn read_lone(s: &[u8], at: usize, n: usize) -> u64
+    ensures { λ r. ⌜ r ≡ loneIn (now (s .entry)) at n ⌝ }
+{
+    if n != LONE_BYTES {
+        return NOT_ALONE;
+    }
+    if s.len() < at {
+        return NOT_ALONE;
+    }
+    if s.len() - at < LONE_BYTES {
+        return NOT_ALONE;
+    }
+    if s[at] != FIRST_TAG {
+        return NOT_ALONE;
+    }
+    let first = wide(s[at + 1]);
+    if 128 <= first {
+        return NOT_ALONE;
+    }
+    first
 }

@@ -20,7 +20,10 @@ pub fn fill_part(
     values: &mut [u64; 10],
     starts: &mut [usize; 10],
 ) -> bool
-    ensures { λ r. ⌜ Holds (embedded (now (rows .entry)) (now (s .entry)) start len) r (now (seen .exit)) (now (values .exit)) (now (starts .exit)) ⌝ }
+    ensures { λ r. ⌜
+        Holds (embedded (now (rows .entry)) (now (s .entry)) start len) r (now (seen .exit)) (now (values .exit))
+        (now (starts .exit))
+        ⌝ }
 {
     if s.len() < start {
         layout::fields::clear(seen, values, starts);

@@ -34,7 +34,10 @@ fn read_bytes(s: &[u8], at: usize, n: usize, octets: bool) -> Argument
 
 // The value that a Scalar's type names.
 fn scalar_value(s: &[u8], seen: &[bool; 10], values: &[u64; 10], starts: &[usize; 10]) -> Argument
-    ensures { λ r. ⌜ r ≡ scalarOf (now (s .entry)) (fromArrays true (now (seen .entry)) (now (values .entry)) (now (starts .entry))) ⌝ }
+    ensures { λ r. ⌜
+        r
+        ≡ scalarOf (now (s .entry)) (fromArrays true (now (seen .entry)) (now (values .entry)) (now (starts .entry)))
+        ⌝ }
 {
     let t = values[1] % 0x1_0000_0000;
     match t {
@@ -69,7 +72,9 @@ fn read_scalar(s: &[u8], at: usize, n: usize) -> Argument
 
 // The value of an Any: a scalar, an object or an array.
 fn any_value(s: &[u8], seen: &[bool; 10], values: &[u64; 10], starts: &[usize; 10]) -> Argument
-    ensures { λ r. ⌜ r ≡ anyOf (now (s .entry)) (fromArrays true (now (seen .entry)) (now (values .entry)) (now (starts .entry))) ⌝ }
+    ensures { λ r. ⌜
+        r ≡ anyOf (now (s .entry)) (fromArrays true (now (seen .entry)) (now (values .entry)) (now (starts .entry)))
+        ⌝ }
 {
     let t = values[1] % 0x1_0000_0000;
     match t {
@@ -112,12 +117,22 @@ const STRING: u64 = 0x08_4a;
 // The same for an Any: type 1 and the tag of its scalar.
 const ANY_SCALAR: u64 = 0x01_12;
 
-// The same as read_scalar, with the short way for a Scalar of two fields. The slice is lent anew to what is not inlined,
-// so that the short way keeps it in registers.
+// The types that may stand alone: of a Scalar, and of an Any.
+const NULL: u64 = 3;
+
+const OBJECT: u64 = 2;
+
+const ARRAY: u64 = 3;
+
+// The same as read_scalar, with the short ways for a Scalar of one field and of two. The slice is lent anew to what is
+// not inlined, so that the short ways keep it in registers.
 fn quick_scalar(s: &[u8], at: usize, n: usize) -> Argument
     ensures { λ r. ⌜ r ≡ scalarIn (now (s .entry)) at n ⌝ }
 {
     let all = s.len();
+    if crate::pair::read_lone(s, at, n) == NULL {
+        return Argument::Null;
+    }
     if let Pair::Two {
         first,
         tag,
@@ -139,11 +154,19 @@ fn quick_scalar(s: &[u8], at: usize, n: usize) -> Argument
     read_scalar(&s[..all], at, n)
 }
 
-// The same as read_argument, with the short way for an Any of two fields, its type and its scalar.
+// The same as read_argument, with the short ways for an Any of one field, its type, and of two, its type and its
+// scalar.
 pub fn quick_argument(s: &[u8], at: usize, n: usize) -> Argument
     ensures { λ r. ⌜ r ≡ argumentIn (now (s .entry)) at n ⌝ }
 {
     let all = s.len();
+    let alone = crate::pair::read_lone(s, at, n);
+    if alone == OBJECT {
+        return Argument::Object;
+    }
+    if alone == ARRAY {
+        return Argument::Array;
+    }
     if let Pair::Two {
         first,
         tag,

@@ -78,7 +78,7 @@ fn print_execute(stretch: &[u8]) {
         rows: 0,
         hascompact: false,
         compact: false,
-        choice: 0,
+        operation: 0,
     };
     let r = writer::write_message(d, b"", stretch, buf);
     print_sent(r, buf);

@@ -7,6 +7,7 @@ use mathlib.Core.List.{List}
 use lib.ListN.{length, take, drop}
 use lib.Seq.{sets-eq}
 use borrow.Author.Tests.{le-leb, lt-leb}
+use Rattle.protocol.specs.Reason as Reason
 use Rattle.reply.specs.Puts.{Puts}
 use Rattle.scalar.specs.declared.argument.Argument.{Argument}
 use Rattle.writer.specs.declared.Sent.{Sent}
@@ -22,27 +23,28 @@ module _ (a : Argument) (src buf : List ℕ) (at : ℕ) where
   abbrev pub Did : Sent → List ℕ → Type 0
   Did r b₁ = (r ≡ appendedOf a src (length buf) at) × (b₁ ≡ leftBy a src buf at)
 
-  refused : writable a src ≡ false → Did (sent 6 0) buf
+  refused : writable a src ≡ false → Did (sent Reason.badPayload 0) buf
   unfolding appendReason appendedOf leftBy
   refused e = rw e (refl, refl)
 
-  full : writable a src ≡ true → length buf < at + length (argField a src) → Did (sent 3 0) buf
+  full : writable a src ≡ true → length buf < at + length (argField a src) → Did (sent Reason.noRoom 0) buf
   unfolding appendReason appendedOf leftBy
   full e h = rw (e, lt-leb (at + length (argField a src)) (length buf) h) (refl, refl)
 
-  appended : {q : ℕ} {b₁ : List ℕ} → writable a src ≡ true → at + length (argField a src) ≤ length buf → Puts buf at (argField a src) q b₁ → Did (sent 0 q) b₁
+  appended : {q : ℕ} {b₁ : List ℕ} → writable a src ≡ true → at + length (argField a src) ≤ length buf →
+      Puts buf at (argField a src) q b₁ → Did (sent Reason.accepted q) b₁
   unfolding appendReason appendedOf leftBy
   appended e h f =
       rw (e, le-leb (at + length (argField a src)) (length buf) h)
-      (ap (λ (n : ℕ). sent 0 n) (f .behind), f .stored ∙ sets-eq (argField a src) buf at h)
+      (ap (λ (n : ℕ). sent Reason.accepted n) (f .behind), f .stored ∙ sets-eq (argField a src) buf at h)
 
   -- as the code has it: the form, and the part of src that it names
   module _ (f : Form) (is : f ≡ formOf a (length src)) where
     good-is : f .good ≡ writable a src
     good-is = ap (λ (x : Form). x .good) is ∙ form-good a src
 
-    pub did-six : f .good ≡ false → Did (sent 6 0) buf
-    did-six e = refused (sym good-is ∙ e)
+    pub did-bad : f .good ≡ false → Did (sent Reason.badPayload 0) buf
+    did-bad e = refused (sym good-is ∙ e)
 
     module _ (e : f .good ≡ true) where
       well : writable a src ≡ true
@@ -65,8 +67,10 @@ module _ (a : Argument) (src buf : List ℕ) (at : ℕ) where
             ∙ ap (λ (t : ℕ). argBytes t (valueIn f (take (f .len) (drop (f .start) src)))) (form-is .kind)
             ∙ ap (argBytes _) (form-is .value)
 
-        pub did-three : {n : ℕ} → n ≡ length bytes → length buf < at + n → Did (sent 3 0) buf
-        did-three m h = full well (omega (arith, ap length field-is))
+        pub did-full : {n : ℕ} → n ≡ length bytes → length buf < at + n → Did (sent Reason.noRoom 0) buf
+        did-full m h = full well (omega (arith, ap length field-is))
 
-        pub did-all : {q : ℕ} {b₁ : List ℕ} → at + length bytes ≤ length buf → Puts buf at bytes q b₁ → Did (sent 0 q) b₁
-        did-all {q} {b₁} h f = appended well (omega (arith, ap length field-is)) (subst (λ (l : List ℕ). Puts buf at l q b₁) field-is f)
+        pub did-all : {q : ℕ} {b₁ : List ℕ} → at + length bytes ≤ length buf → Puts buf at bytes q b₁ →
+            Did (sent Reason.accepted q) b₁
+        did-all {q} {b₁} h f =
+            appended well (omega (arith, ap length field-is)) (subst (λ (l : List ℕ). Puts buf at l q b₁) field-is f)

@@ -1,4 +1,4 @@
--- Fields with a fixed value (document 01: the fixed wire types), as they are written.
+-- Fields with a fixed value (W6, W7), as they are written.
 use Prim.Native.Nat.{ℕ, zero, suc, _+_, _*_, _/_, _%_}
 use mathlib.Core.List.{List, [], _∷_, _++_}
 use Rattle.varint.specs.Shortest.{varintBytes}

@@ -1,6 +1,7 @@
--- What the code makes of an argument before it writes it: whether it can be written, its Scalar type, and the tag, wire type and
--- value of the field that holds its value, or the place and length of its bytes. A null has no such field: its wire type is 3,
--- which no value has. These are of the private functions' contracts; what is promised does not cite them.
+-- What the code makes of an argument before it writes it: whether it can be written, its Scalar type, and the tag, wire
+-- type and value of the field that holds its value, or the place and length of its bytes. A null has no such field: its
+-- wire type is 3, which no value has. These are of the private functions' contracts; what is promised does not cite
+-- them.
 use Prim.Native.Nat.{ℕ, _+_}
 use mathlib.Core.Bool.{Bool, true, false, cond}
 use mathlib.Core.List.{List, [], _++_}

@@ -1,5 +1,5 @@
--- What is appended reads back: the result is a good stretch whose last argument is the one appended, and the earlier ones are as
--- they were.
+-- What is appended reads back: the result is a good stretch whose last argument is the one appended, and the earlier
+-- ones are as they were.
 use Prim.Native.Nat.{ℕ, _^_, _<_}
 use mathlib.Core.Path.{_≡_}
 use mathlib.Core.Bool.{true}
@@ -59,7 +59,8 @@ pub record Appended (a : Argument) (src before s : List ℕ) : Type 0 where
 abbrev pub AppendReads : Type 0
 AppendReads =
     (a : Argument) (src s : List ℕ) →
-    Sized a → writable a src ≡ true → length (argField a src) < 2 ^ 64 → goodStretch s ≡ true → Appended a src s (s ++ argField a src)
+    Sized a → writable a src ≡ true → length (argField a src) < 2 ^ 64 → goodStretch s ≡ true →
+    Appended a src s (s ++ argField a src)
 
 -- so does the buffer that it was appended to, cut off behind the stretch
 abbrev pub AppendedReads : Type 0
@@ -72,4 +73,5 @@ AppendedReads =
 abbrev pub EveryBits : Type 0
 EveryBits =
     (src : List ℕ) (n : ℕ) →
-    (n < 2 ^ 64 → Sized (doubleOf n) × (writable (doubleOf n) src ≡ true)) × (n < 2 ^ 32 → Sized (floatOf n) × (writable (floatOf n) src ≡ true))
+    (n < 2 ^ 64 → Sized (doubleOf n) × (writable (doubleOf n) src ≡ true))
+    × (n < 2 ^ 32 → Sized (floatOf n) × (writable (floatOf n) src ≡ true))

@@ -1,4 +1,4 @@
--- One scalar as an args field (document 01, "Layouts": Any and Scalar): known fields in number order, shortest varints.
+-- One scalar as an args field (C11, L1): known fields in number order, shortest varints.
 use Prim.Native.Nat.{ℕ, _+_}
 use mathlib.Core.Bool.{Bool, true, false, not, cond}
 use mathlib.Core.List.{List, [], _++_}
@@ -28,8 +28,9 @@ bytesOf Va.Object s = []
 bytesOf Va.Array s = []
 bytesOf (Va.Refused n) s = []
 
--- a scalar that can be written: one whose bytes, if it has any, stand in src, and that the reader gives. The reader keeps a NaN
--- as its bits, so that a double or float that is a NaN itself, and bits that are no NaN's, would not read back as they are
+-- a scalar that can be written: one whose bytes, if it has any, stand in src, and that the reader gives. The reader
+-- keeps a NaN as its bits, so that a double or float that is a NaN itself, and bits that are no NaN's, would not read
+-- back as they are
 abbrev pub writable : Argument → List ℕ → Bool
 writable (Va.Octets start len) src = leb (start + len) (length src)
 writable (Va.String start len) src = leb (start + len) (length src)
@@ -45,8 +46,8 @@ writable Va.Object src = false
 writable Va.Array src = false
 writable (Va.Refused n) src = false
 
--- the field of a Scalar with the value: 2 sint64, 3 uint64, 5 octets, 6 double, 7 float, 8 bool, 9 string. Octets and string are
--- messages that hold the bytes in field 1; null has no value
+-- the field of a Scalar with the value: 2 sint64, 3 uint64, 5 octets, 6 double, 7 float, 8 bool, 9 string. Octets and
+-- string are messages that hold the bytes in field 1; null has no value (L8, L9)
 abbrev pub valueField : Argument → List ℕ → List ℕ
 valueField (Va.Signed z) src = numberField 2 (zigzag z)
 valueField (Va.Unsigned n) src = numberField 3 n

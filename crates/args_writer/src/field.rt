@@ -90,7 +90,9 @@ fn put_value(f: Form, bytes: &[u8], buf: &mut [u8], at: usize) -> usize
 
 fn put_any(f: Form, bytes: &[u8], buf: &mut [u8], at: usize) -> usize
     requires { ⌜ at + length (anyBytes (f .kind) (valueIn f (now bytes))) ≤ length (now buf) ⌝ }
-    ensures { λ r. ⌜ Puts (now (buf .entry)) at (anyBytes (f .kind) (valueIn f (now (bytes .entry)))) r (now (buf .exit)) ⌝ }
+    ensures { λ r. ⌜
+        Puts (now (buf .entry)) at (anyBytes (f .kind) (valueIn f (now (bytes .entry)))) r (now (buf .exit))
+        ⌝ }
 {
     let p = put_pair(buf, at, 8, 1);
     let q = put_pair(buf, p, 18, scalar_len(f, bytes) as u64);
@@ -100,7 +102,9 @@ fn put_any(f: Form, bytes: &[u8], buf: &mut [u8], at: usize) -> usize
 
 pub(crate) fn put_field(f: Form, bytes: &[u8], buf: &mut [u8], at: usize) -> usize
     requires { ⌜ at + length (argBytes (f .kind) (valueIn f (now bytes))) ≤ length (now buf) ⌝ }
-    ensures { λ r. ⌜ Puts (now (buf .entry)) at (argBytes (f .kind) (valueIn f (now (bytes .entry)))) r (now (buf .exit)) ⌝ }
+    ensures { λ r. ⌜
+        Puts (now (buf .entry)) at (argBytes (f .kind) (valueIn f (now (bytes .entry)))) r (now (buf .exit))
+        ⌝ }
 {
     let p = put_pair(buf, at, 18, any_len(f, bytes) as u64);
     put_any(f, bytes, buf, p)

@@ -3,6 +3,7 @@
 ghost use mathlib.Core.Path.{_≡_};
 ghost use lib.ListN.{length};
 ghost use Rattle.args_writer.specs.Append.{appendedOf, leftBy};
+use protocol::reason;
 use scalar::argument::Argument;
 use writer::Sent;
 
@@ -14,25 +15,37 @@ mod put;
 // scalar are those of `src` at its place and length. Answers the reason by which it is refused, or 0 and
 // the length of the stretch then.
 pub fn append_argument(a: Argument, src: &[u8], buf: &mut [u8], at: usize) -> Sent
-    ensures { λ r. ⌜ (r ≡ appendedOf a (now (src .entry)) (length (now (buf .entry))) at) × (now (buf .exit) ≡ leftBy a (now (src .entry)) (now (buf .entry)) at) ⌝ }
+    ensures { λ r. ⌜
+        (r ≡ appendedOf a (now (src .entry)) (length (now (buf .entry))) at)
+        × (now (buf .exit) ≡ leftBy a (now (src .entry)) (now (buf .entry)) at)
+        ⌝ }
 {
     let f = form::form_of(a, src.len());
     if !f.good {
-        return Sent { reason: 6, len: 0 };
+        return Sent {
+            reason: reason::BAD_PAYLOAD,
+            len: 0,
+        };
     }
     let start = f.start;
     let end = start + f.len;
     let bytes = &src[start..end];
     let n = field::field_len(f, bytes);
     if buf.len() < at {
-        return Sent { reason: 3, len: 0 };
+        return Sent {
+            reason: reason::NO_ROOM,
+            len: 0,
+        };
     }
     if buf.len() - at < n {
-        return Sent { reason: 3, len: 0 };
+        return Sent {
+            reason: reason::NO_ROOM,
+            len: 0,
+        };
     }
     let next = field::put_field(f, bytes, buf, at);
     Sent {
-        reason: 0,
+        reason: reason::ACCEPTED,
         len: next,
     }
 }

@@ -1,5 +1,5 @@
 -- What a push and a next_frame answer, case by case. Assumes nothing.
-use Prim.Native.Nat.{ℕ, _+_, _-_, _≤_, _<_, min}
+use Prim.Native.Nat.{ℕ, _+_, _-_, _≤_, min}
 use native.Mathlib.Nat.{add-zero}
 use native.Mathlib.Omega.{arith}
 use mathlib.Core.Bool.{true, false}
@@ -8,14 +8,14 @@ use mathlib.Core.List.{List, []}
 use lib.ListN.{length, take}
 use lib.Seq.{length-take-le}
 use borrow.Author.Tests.{le-leb, eq-eqb, ne-eqb}
+use Rattle.protocol.specs.Reason as Reason
 use Rattle.varint.specs.Put.{written}
 use Rattle.varint.proofs.PutLaws.{put-fits}
 use Rattle.args.proofs.PartLaws.{yes, no}
 use Rattle.message.specs.declared.head.Head.{Head}
-use Rattle.message.specs.Head.{headOf}
-use Rattle.message.specs.Numbers.{headReason}
+use Rattle.message.specs.Head.{lengthBytes, headOf, headReason}
 use Rattle.message.proofs.WithinLaws.{frame-within}
-use Rattle.streams.specs.Reader.{lengthBytes, badLength, standsFirst, reader, startOver, between, part, isPart}
+use Rattle.streams.specs.Reader.{standsFirst, reader, startOver, between, part, isPart}
 use Rattle.streams.specs.Reader.{usable, settled, nextBy, nextAt, nextOf}
 use Rattle.streams.specs.Reader.{Push, takenCount, readerFor, storeFor, pushedTo, behind, pushOn, pushAt, pushOf}
 use Rattle.streams.specs.declared.Reader.{Reader}
@@ -36,15 +36,15 @@ frame-fits store start end a b e =
 -- ---- a bad length, or none
 
 module _ (store : List ℕ) (start end : ℕ) {first : ℕ} (e : first ≡ standsFirst (between store start end)) where
-  pub settled-bad : first ≡ badLength → reader start (start + lengthBytes) ≡ settled store (reader start end)
+  pub settled-bad : first ≡ Reason.badLength → reader start (start + lengthBytes) ≡ settled store (reader start end)
   settled-bad h =
       yes (reader start (start + lengthBytes)) (reader start end)
-      (eq-eqb (standsFirst (between store start end)) badLength (sym e ∙ h))
+      (eq-eqb (standsFirst (between store start end)) Reason.badLength (sym e ∙ h))
 
-  pub settled-not : (first ≡ badLength → ⊥) → reader start end ≡ settled store (reader start end)
+  pub settled-not : (first ≡ Reason.badLength → ⊥) → reader start end ≡ settled store (reader start end)
   settled-not h =
       no (reader start (start + lengthBytes)) (reader start end)
-      (ne-eqb (standsFirst (between store start end)) badLength (λ z. h (e ∙ z)))
+      (ne-eqb (standsFirst (between store start end)) Reason.badLength (λ z. h (e ∙ z)))
 
 -- ---- the next frame
 
@@ -85,19 +85,22 @@ module _ (store : List ℕ) (start end : ℕ) (arrival : List ℕ)
     (part-of : (start ≤ end) × (end ≤ length store)) {first : ℕ}
     (e : first ≡ standsFirst (between store start end)) where
   -- a bad length stands first: nothing is taken
-  pub push-bad : first ≡ badLength →
+  pub push-bad : first ≡ Reason.badLength →
       _≡_ {A = Push}
       (record {
-        answer = record { reader = reader start (start + lengthBytes); reason = badLength; count = 0 };
+        answer = record { reader = reader start (start + lengthBytes); reason = Reason.badLength; count = 0 };
         store = store;
       }) (pushAt store (reader start end) arrival)
   push-bad h =
       let r = reader start end in
       let none =
       yes 0 (min (length arrival) (length store - length (part store r)))
-      (eq-eqb (standsFirst (between store start end)) badLength (sym e ∙ h)) in
+      (eq-eqb (standsFirst (between store start end)) Reason.badLength (sym e ∙ h)) in
       let fits = le-leb (end + 0) (length store) (omega (arith, part-of .1)) in
-      ap (λ (q : Reader). record { answer = record { reader = q; reason = badLength; count = 0 }; store = store })
+      ap (λ (q : Reader). record {
+        answer = record { reader = q; reason = Reason.badLength; count = 0 };
+        store = store;
+      })
       (settled-bad store start end e h)
       ∙ ap (λ (n : ℕ). record { answer = record { reader = settled store r; reason = n; count = 0 }; store = store })
       (sym h ∙ e)
@@ -106,13 +109,13 @@ module _ (store : List ℕ) (start end : ℕ) (arrival : List ℕ)
       (yes store (written store 0 (part store r)) fits) (written-nothing store end (part-of .1))
 
   -- none does: what there is room for
-  pub taken-room : (first ≡ badLength → ⊥) → {n : ℕ} → n ≡ min (length arrival) (length store - (end - start)) →
+  pub taken-room : (first ≡ Reason.badLength → ⊥) → {n : ℕ} → n ≡ min (length arrival) (length store - (end - start)) →
       n ≡ takenCount (length store) (part store (reader start end)) arrival
   taken-room h {n} g =
       g
       ∙ ap (λ (k : ℕ). min (length arrival) (length store - k)) (sym (length-between store start end (part-of .1)))
       ∙ no 0 (min (length arrival) (length store - length (between store start end)))
-      (ne-eqb (standsFirst (between store start end)) badLength (λ z. h (e ∙ z)))
+      (ne-eqb (standsFirst (between store start end)) Reason.badLength (λ z. h (e ∙ z)))
 
 -- behind what is usable of a reader
 pub push-usable : (store : List ℕ) (r : Reader) (arrival : List ℕ) {q : Reader} → q ≡ usable (length store) r →

@@ -7,6 +7,8 @@ ghost use lib.ListN.{length};
 ghost use Rattle.streams.specs.Reader.{nextAt, nextOf, pushAt, pushOf, reader, settled};
 ghost use Rattle.streams.specs.Reader.{standsFirst, startOver, storeSize, usable};
 use message::head::Head;
+use message::head::LENGTH_BYTES;
+use protocol::reason;
 use room::make_room;
 use streams::NextFrame;
 use streams::Pushed;
@@ -14,16 +16,6 @@ use streams::Reader;
 use streams::STORE;
 
 mod room;
-
-// What stands first, by its reason: a whole frame, neither, a bad length.
-pub const ACCEPTED: u64 = 0;
-
-pub const WAIT_FOR_MORE: u64 = 1;
-
-pub const BAD_LENGTH: u64 = 2;
-
-// The bytes of a frame's length.
-const LENGTH_BYTES: usize = 4;
 
 // A reader that holds nothing.
 pub fn start_over() -> Reader
@@ -63,12 +55,12 @@ fn lesser(a: usize, b: usize) -> usize
     if a < b { a } else { b }
 }
 
-// What stands first: 0 a whole frame, 1 wait for more, 2 a bad length.
+// What stands first, by its reason: a whole frame, neither, a bad length.
 fn stands_first(s: &[u8]) -> u64
     ensures { λ r. ⌜ r ≡ standsFirst (now (s .entry)) ⌝ }
 {
     match message::head::read_head(s) {
-        Head::Frame { kind: _, end: _ } => ACCEPTED,
+        Head::Frame { kind: _, end: _ } => reason::ACCEPTED,
         Head::Refused(reason) => reason,
     }
 }
@@ -79,7 +71,7 @@ fn settle(store: &[u8], start: usize, end: usize) -> Reader
     ensures { λ r. ⌜ r ≡ settled (now (store .entry)) (reader start end) ⌝ }
 {
     let first = stands_first(&store[start..end]);
-    if first == BAD_LENGTH {
+    if first == reason::BAD_LENGTH {
         return Reader {
             start,
             end: start + LENGTH_BYTES,
@@ -94,7 +86,7 @@ fn waiting() -> NextFrame
 {
     NextFrame {
         reader: start_over(),
-        reason: WAIT_FOR_MORE,
+        reason: reason::NOT_ALL_THERE,
         start: 0,
         len: 0,
         kind: 0,
@@ -116,7 +108,7 @@ fn next_in(reader: Reader, store: &[u8]) -> NextFrame
     match message::head::read_head(&store[start..end]) {
         Head::Frame { kind, end: len } => NextFrame {
             reader: settle(store, start + len, end),
-            reason: ACCEPTED,
+            reason: reason::ACCEPTED,
             start,
             len,
             kind: wide(kind),
@@ -139,13 +131,13 @@ fn push_at(held: Reader, arrival: &[u8], store: &mut [u8]) -> Pushed
 {
     let start = held.start;
     let end = held.end;
-    if stands_first(&store[start..end]) == BAD_LENGTH {
+    if stands_first(&store[start..end]) == reason::BAD_LENGTH {
         return Pushed {
             reader: Reader {
                 start,
                 end: start + LENGTH_BYTES,
             },
-            reason: BAD_LENGTH,
+            reason: reason::BAD_LENGTH,
             count: 0,
         };
     }

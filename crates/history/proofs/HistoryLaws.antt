@@ -1,81 +1,81 @@
--- Demand 3. The invariant ties the openings that the tally holds to the live cursors of the table: under every weight the two
--- have the same sum. Assumes nothing.
-use Prim.Native.Nat.{ℕ, _+_, _-_, min}
+-- Demand 3. The invariant ties the openings that the tally holds to the live cursors of the table: under every weight
+-- the two have the same sum. Assumes nothing.
+use Prim.Native.Nat.{ℕ, _+_, _-_, _≤_, min}
 use native.Mathlib.Nat.{le-trans}
 use native.Mathlib.Omega.{arith}
-use mathlib.Core.Bool.{Bool, true, false, cond, not, _&&_, or-false, true≢false}
+use mathlib.Core.Bool.{Bool, true, false, cond, not, _&&_, or-false, true≢false, false≢true}
 use mathlib.Core.Path.{_≡_, refl, sym, ap, subst, _∙_}
 use mathlib.Core.List.{List, [], _∷_}
 use lib.ListN.{length, getD, take}
 use lib.Dec.{eqb}
-use borrow.Author.Tests.{eqb-true, eq-eqb, ne-eqb, ltb-false}
+use borrow.Author.Tests.{eqb-true, eqb-false, eq-eqb, ne-eqb, ltb-false, not-true}
 use Rattle.varint.specs.Put.{written}
 use Rattle.varint.proofs.PastLaws.{both}
-use Rattle.layout.specs.Table.{open', close, fetch}
-use Rattle.message.specs.Frame.{messageOf}
-use Rattle.message.specs.declared.message.Message.{Message}
+use Rattle.protocol.specs.Client.{open', fetch}
+use Rattle.protocol.specs.Reason as Reason
+use Rattle.message.specs.Request.{cursorOf}
+use Rattle.message.specs.Frame.{frameOf}
+use Rattle.message.specs.declared.request.Fetch.{Fetch as Asked}
+use Rattle.message.specs.declared.request.Open.{Open as Opens}
+use Rattle.message.specs.declared.request.Request.{Request}
+use Rattle.message.specs.declared.request.Request.the-variants.{Reset, SessionClose, Prepare, Execute, Deallocate, Open, Close, Fetch}
+use Rattle.message.specs.declared.request.Frame.{Frame}
+use Rattle.message.specs.declared.request.Frame.the-variants.{Good}
 use Rattle.session.specs.declared.Cursor.{Cursor}
 use Rattle.session.specs.declared.Place.{Place}
-use Rattle.session.specs.declared.Session.{Session}
-use Rattle.session.specs.Lists.{sumBy, howMany, All, change, entryAt}
-use Rattle.session.specs.Entry.{noCursor, isCursor}
-use Rattle.session.specs.Tables.{maxCursors, fresh, cursorAt, cursorPlace, liveCursor}
+use Rattle.session.specs.Session.{Session}
+use Rattle.session.specs.Lists.{sumBy, howMany, All, change, changed, entryAt}
+use Rattle.session.specs.Entry.{noCursor, newCursor, isLiveCursor, isCursor, raise}
+use Rattle.session.specs.Tables.{maxCursors, fresh, cursorAt, cursorPlace, liveCursor, ends}
 use Rattle.session.specs.Sound.{Sound}
 use Rattle.session.proofs.PlaceLaws.{Passes, found}
-use Rattle.session.proofs.SumLaws.{one, sum-same, sum-map, sum-replicate, counted}
-use Rattle.session.proofs.TableLaws.{fresh-sound}
+use Rattle.session.proofs.SumLaws.{one, sum-same, sum-map, sum-replicate, counted, and-true}
+use Rattle.session.proofs.TableLaws.{fresh-sound, fetched-as}
+use Rattle.reply.specs.declared.Reply.{Reply}
 use Rattle.reply.specs.Reply.{replyBytes}
+use Rattle.reply.specs.ReplyRules.{minBuffer, isDone}
 use Rattle.reply.specs.Frames.{holdsDone}
 use Rattle.reply.proofs.ReplyLaws.{tells-done}
 use Rattle.rules.specs.declared.Report.{Report}
-use Rattle.rules.specs.Kind.{isA, oneOf}
-use Rattle.rules.specs.Rows.{firstRow, rowCount, fetchCount, openCount}
+use Rattle.rules.specs.Kind.{oneOf, onGood}
+use Rattle.rules.specs.Report.{suits}
+use Rattle.rules.specs.Rows.{firstRow, rowCount, fetchCount, openCount, leftAfter}
+use Rattle.rules.specs.Read.{Read, ReadIn}
 use Rattle.rules.specs.Ending.{endsIt, endsCursor}
 use Rattle.rules.specs.Refusal.{stepReason}
-use Rattle.rules.specs.Decision.{sessionAfter, markOf, reply}
-use Rattle.rules.specs.Step.{Step, replyOf, stepOn, short, minBuffer, stepOf}
-use Rattle.rules.proofs.BufferLaws.{mark-fits}
+use Rattle.rules.specs.Decision.{sessionAfter, replyTo, endOf, accepted}
+use Rattle.rules.specs.Step.{Step, replyOf, tooShort, stepBy, stepOn, short, stepOf}
+use Rattle.rules.proofs.BufferLaws.{reply-fits}
 use Rattle.rules.proofs.EndingLaws.{ends-as-listed}
-use Rattle.rules.proofs.KindLaws.{withKind, either}
-use Rattle.rules.proofs.RefusalLaws.{Looked, looked, passed}
-use Rattle.rules.proofs.StepLaws.{step-has, reply-front}
+use Rattle.rules.proofs.ReadLaws.{frames-are-read}
+use Rattle.rules.proofs.RefusalLaws.{Looked, Took}
+use Rattle.rules.proofs.StepLaws.{refusedStep, step-has, reply-front}
 use Rattle.rules.proofs.SoundLaws.{after-sound}
-use Rattle.history.specs.Tally.{Segment, Opening, Tally, empty, sent, kept, endings, longer, withOpening, withRows, adds, fed}
-use Rattle.history.specs.Run.{Input, run, handedBack, told, tallied}
-use Rattle.history.specs.History.{State, reached, Proper, Kept, Demand3, ReachesSound, FetchOfOne}
-use Rattle.history.proofs.ListLaws.{sum-kept, sum-all, sum-only, all-kept, all-append, all-map, all-imp, all-both, all-zero}
+use Rattle.history.specs.Tally.{Segment, Opening, Tally, empty, sent, kept, endings, isOf, longer, withOpening, withRows, adds, fedOn, fed}
+use Rattle.history.specs.Run.{Input, run, leaves, Told, toldBy, told, fedBy, tallied}
+use Rattle.history.specs.History.{State, tallyOf, reached, Proper, allSent, isFor, TellsDone, TellDone, Kept, Demand3, ReachesSound}
+use Rattle.history.proofs.ListLaws.{sum-kept, sum-all, sum-only, all-kept, kept-pass, all-append, all-map, all-imp, all-both, all-zero}
 use Rattle.history.proofs.OpeningLaws.{sent-longer, goes-on, begins, sent-or-not}
 use Rattle.history.proofs.TableLaws.{Weight, weigh, table, off, plus, unless-own, ends-weigh, open-weigh, fetch-weigh}
 
-abbrev weighO : Weight → Opening → ℕ
-weighO w o = w (o .cursor) (o .stmt) (o .rows) (sent o)
+-- ---- the invariant
+
+-- an opening as the cursor that it is in the table
+abbrev asCursor : Opening → Cursor
+asCursor o = newCursor (o .cursor) (o .stmt) (o .first + o .rows) (o .first + sent o)
 
 -- what the openings weigh
 abbrev openings : Weight → List Opening → ℕ
-openings w os = sumBy (weighO w) os
+openings w os = sumBy (λ o. w (asCursor o)) os
 
-pub record Inv (x : State) : Type 0 where
-  pub sound : Sound (x .session)
-  pub same : (w : Weight) → openings w (x .tally .live) ≡ table w (x .session .cursors)
-  pub live : All Proper (x .tally .live)
-  pub ended : All Proper (x .tally .ended)
+record Inv (s : Session) (t : Tally) : Type 0 where
+  sound : Sound s
+  same : (w : Weight) → openings w (t .live) ≡ table w (s .cursors)
+  live : All Proper (t .live)
+  ended : All Proper (t .ended)
+  none : t .strays ≡ 0
 
--- the total follows, by the weight that is the rows unsent
-pub keeps : (x : State) → Inv x → Kept x
-keeps x h =
-    record {
-      live = h .live;
-      ended = h .ended;
-      total =
-          omega (
-            arith,
-            sent-or-not (x .tally .live) (h .live),
-            sent-or-not (x .tally .ended) (h .ended),
-            h .same (λ id stmt rows sent. rows - sent),
-          );
-    }
-
-starts : Inv (record { session = fresh; tally = empty })
+starts : Inv fresh empty
 unfolding All sumBy
 starts =
     record {
@@ -83,17 +83,21 @@ starts =
       same = λ w. sym (sum-replicate (weigh w) maxCursors noCursor refl);
       live = tt;
       ended = tt;
+      none = refl;
     }
 
--- ---- an accepted message
+-- what the live openings have still to send, by the weight that is the rows unsent
+owing : (os : List Opening) → openings (λ c. c .rows - c .sent) os ≡ sumBy (λ o. o .rows - sent o) os
+owing os = sum-same (λ o. o .first + o .rows - (o .first + sent o)) (λ o. o .rows - sent o) (λ o. omega arith) os
 
--- the cursor that a Fetch is of, in its place
-pub record Held (s : Session) (id : ℕ) : Type 0 where
-  pub place : ℕ
-  pub passes : Passes (isCursor id) noCursor (s .cursors) place
-  pub it : liveCursor s id ≡ getD (s .cursors) place noCursor
+-- ---- the cursor that a Fetch is of, in its place
 
-held : (s : Session) (id : ℕ) → not (liveCursor s id .live) ≡ false → Held s id
+record Held (s : Session) (id : ℕ) : Type 0 where
+  place : ℕ
+  passes : Passes (isCursor id) noCursor (s .cursors) place
+  it : liveCursor s id ≡ getD (s .cursors) place noCursor
+
+held : (s : Session) (id : ℕ) → not (isLiveCursor (liveCursor s id)) ≡ false → Held s id
 held s id h = go (cursorAt s id) refl
   where
     go : (x : Place) → cursorAt s id ≡ x → Held s id
@@ -103,69 +107,133 @@ held s id h = go (cursorAt s id) refl
           passes = found (isCursor id) noCursor (s .cursors) i e;
           it = ap (λ x. entryAt (s .cursors) x noCursor) e;
         }
-    go Place.Nothing e = absurd (true≢false (sym (ap (λ x. not (entryAt (s .cursors) x noCursor .live)) e) ∙ h))
+    go Place.Nothing e = absurd (true≢false (sym (ap (λ x. not (isLiveCursor (entryAt (s .cursors) x noCursor))) e) ∙ h))
 
 -- an opening with a cursor id has these rows reported and sent
-abbrev Has : ℕ → ℕ → ℕ → Opening → Type 0
-Has k rows sent' o = eqb (o .cursor) k ≡ true → (o .rows ≡ rows) × (sent o ≡ sent')
+abbrev Has : ℕ → Cursor → Opening → Type 0
+Has k c o = isOf k o ≡ true → (o .first + o .rows ≡ c .rows) × (o .first + sent o ≡ c .sent)
 
 -- 1 for a cursor of an id with other rows
-abbrev others : ℕ → ℕ → ℕ → Weight
-others k rows sent' id stmt r n = cond (eqb id k) (one (not (eqb r rows && eqb n sent'))) 0
+abbrev others : ℕ → Cursor → Weight
+others k c x = cond (eqb (x .id) k) (one (not (eqb (x .rows) (c .rows) && eqb (x .sent) (c .sent)))) 0
 
-has-of : (k rows sent' : ℕ) (o : Opening) → weighO (others k rows sent') o ≡ 0 → Has k rows sent' o
-has-of k rows sent' o e h = go (eqb (o .rows) rows) refl (eqb (sent o) sent') refl (rw h at e)
+has-of : (k : ℕ) (c : Cursor) (o : Opening) → others k c (asCursor o) ≡ 0 → Has k c o
+has-of k c o e h =
+    go (eqb (o .first + o .rows) (c .rows)) refl (eqb (o .first + sent o) (c .sent)) refl (rw h at e)
   where
-    go : (a : Bool) → eqb (o .rows) rows ≡ a → (b : Bool) → eqb (sent o) sent' ≡ b → one (not (a && b)) ≡ 0 → (o .rows ≡ rows) × (sent o ≡ sent')
-    go true f true g z = (eqb-true (o .rows) rows f, eqb-true (sent o) sent' g)
+    go : (a : Bool) → eqb (o .first + o .rows) (c .rows) ≡ a → (b : Bool) → eqb (o .first + sent o) (c .sent) ≡ b → one (not (a && b)) ≡ 0 →
+        (o .first + o .rows ≡ c .rows) × (o .first + sent o ≡ c .sent)
+    go true f true g z = (eqb-true (o .first + o .rows) (c .rows) f, eqb-true (o .first + sent o) (c .sent) g)
     go true f false g z = absurd (omega arith)
     go false f b g z = absurd (omega arith)
 
--- a message that is no Open and no Fetch
-adds-none : (m : Message) (r : Report) (g : Segment) (t : Tally) → isA open' m ≡ false → isA fetch m ≡ false → adds m r g t ≡ t
-adds-none m r g t a b = simp (a, b)
+-- a test of two numbers, by what is left between them
+left-none : (rows n : ℕ) → n ≤ rows → eqb (rows - n) 0 ≡ eqb n rows
+left-none rows n h = go (eqb n rows) refl
+  where
+    go : (b : Bool) → eqb n rows ≡ b → eqb (rows - n) 0 ≡ b
+    go true e = eq-eqb (rows - n) 0 (omega (arith, eqb-true n rows e))
+    go false e = ne-eqb (rows - n) 0 (λ z. eqb-false n rows e (omega arith))
 
-module _ (s : Session) (sound : Sound s) (t : Tally) (same : (w : Weight) → openings w (t .live) ≡ table w (s .cursors)) where
+done-end : (left : ℕ) → isDone (endOf left) ≡ eqb left 0
+done-end left = go (eqb left 0)
+  where
+    go : (b : Bool) → isDone (cond b Reply.Done Reply.Suspended) ≡ b
+    go true = refl
+    go false = refl
+
+-- ---- an accepted request
+
+module _ (s : Session) (t : Tally) (h : Inv s t) where
   -- after the endings the openings are the cursors that do not end
-  left : (m : Message) (w : Weight) → openings w (endings m t .live) ≡ table (off (endsIt m) w) (s .cursors)
-  left m w =
-      sum-kept (λ o. not (endsIt m (o .cursor) (o .stmt))) (weighO w) (t .live) ∙ same (off (endsIt m) w)
+  left : (q : Request) (w : Weight) → openings w (endings q t .live) ≡ table (off (endsIt q) w) (s .cursors)
+  left q w =
+      sum-kept (λ o. not (endsIt q (o .cursor) (o .stmt))) (λ o. w (asCursor o)) (t .live) ∙ h .same (off (endsIt q) w)
 
-  module _ (r : Report) (d : Bool) where
-    abbrev part : Message → Segment
-    part m = record { first = firstRow s m; count = rowCount s m r; done = d }
+  left-proper : (q : Request) → All Proper (endings q t .live)
+  left-proper q = all-kept Proper (λ o. not (endsIt q (o .cursor) (o .stmt))) (t .live) (h .live)
 
-    abbrev added : Message → Tally
-    added m = adds m r (part m) (endings m t)
+  ended-proper : (q : Request) → All Proper (endings q t .ended)
+  ended-proper q =
+      all-append Proper (kept (λ o. endsIt q (o .cursor) (o .stmt)) (t .live)) (t .ended)
+      (all-kept Proper (λ o. endsIt q (o .cursor) (o .stmt)) (t .live) (h .live)) (h .ended)
 
-    opening-same : (m : Message) → Looked s (withKind m open') → (w : Weight) →
-        openings w (added (withKind m open') .live) ≡ table w (sessionAfter s (withKind m open') r .cursors)
-    unfolding sessionAfter endsIt rowCount sumBy
-    opening-same m l w =
-        let z : openCount m r + 0 ≡ openCount m r = omega arith in
-        omega (
-          arith,
-          ap (w (m .cursor) (m .stmt) (r .b)) z,
-          left (withKind m open') w,
-          open-weigh (endsIt (withKind m open')) (m .cursor) (λ k stmt. or-false (eqb k (m .cursor))) w (s .cursors)
-              (sound .cursorOnce (m .cursor)) (m .stmt) (r .b) (openCount m r) (cursorPlace s (m .cursor)) refl (l .cursorPlaced),
-        )
+  module _ (r : Report) where
+    abbrev part : Request → Segment
+    part q = record { first = firstRow s q; count = rowCount s q r }
 
-    -- the cursor of a Fetch
-    module _ (m : Message) (l : Looked s (withKind m fetch)) where
+    abbrev added : Request → Tally
+    added q = adds q r (part q) (endings q t)
+
+    -- what a reply with FetchDone or without says of the openings that the request is for
+    abbrev Says : ℕ → Bool → List Opening → Type 0
+    Says k d os = All (λ o. isOf k o ≡ true → d ≡ allSent o) os
+
+    -- a request that only ends openings
+    ends-only : (q : Request) → sessionAfter s q r .cursors ≡ ends (endsCursor q) (s .cursors) → (w : Weight) → openings w (endings q t .live) ≡ table w (sessionAfter s q r .cursors)
+    ends-only q e w = left q w ∙ sym (ends-weigh (endsCursor q) (endsIt q) w (λ c f. rw f) (s .cursors)) ∙ ap (table w) (sym e)
+
+    -- ---- an Open
+
+    module _ (o : Opens) (l : Looked s (Open o)) where
+      opening-same : (w : Weight) → openings w (added (Open o) .live) ≡ table w (sessionAfter s (Open o) r .cursors)
+      unfolding sessionAfter endsIt rowCount sumBy
+      opening-same w =
+          let stmt = o .execute .stmt in
+          let n = openCount (o .rows) (r .rows) in
+          let y : 0 + r .rows ≡ r .rows = omega arith in
+          let z : 0 + (n + 0) ≡ n = omega arith in
+          let new =
+          ap (λ (k : ℕ). w (newCursor (o .cursor) stmt k (0 + (n + 0)))) y
+          ∙ ap (λ (k : ℕ). w (newCursor (o .cursor) stmt (r .rows) k)) z in
+          omega (
+            arith,
+            new,
+            left (Open o) w,
+            open-weigh (endsIt (Open o)) (o .cursor) (λ k stmt. or-false (eqb k (o .cursor))) w (s .cursors)
+                (h .sound .cursorOnce (o .cursor)) stmt (r .rows) n (cursorPlace s (o .cursor)) refl (l .cursorPlaced),
+          )
+
+      opening-proper : All Proper (added (Open o) .live)
+      unfolding All rowCount firstRow
+      opening-proper = (begins (o .cursor) (o .execute .stmt) (r .rows) (part (Open o)) refl (omega arith), left-proper (Open o))
+
+      -- no other opening has its cursor id any more
+      gone : (x : Opening) → not (endsIt (Open o) (x .cursor) (x .stmt)) ≡ true → isOf (o .cursor) x ≡ true → ⊥
+      unfolding endsIt
+      gone x e f =
+          true≢false (sym f ∙ sym (or-false (eqb (x .cursor) (o .cursor))) ∙ not-true _ e)
+
+      opening-tells : Says (o .cursor) (isDone (replyTo s (Open o) r)) (added (Open o) .live)
+      unfolding All replyTo rowCount firstRow sumBy
+      opening-tells =
+          let n = openCount (o .rows) (r .rows) in
+          let z : 0 + n ≡ n + 0 = omega arith in (
+            λ _. done-end (r .rows - (0 + n)) ∙ left-none (r .rows) (0 + n) (omega arith) ∙ ap (λ (k : ℕ). eqb k (r .rows)) z,
+            all-imp (λ x. not (endsIt (Open o) (x .cursor) (x .stmt)) ≡ true)
+                (λ x. isOf (o .cursor) x ≡ true → isDone (replyTo s (Open o) r) ≡ allSent x) (λ x e f. absurd (gone x e f))
+                (endings (Open o) t .live) (kept-pass (λ x. not (endsIt (Open o) (x .cursor) (x .stmt))) (t .live)),
+          )
+
+    -- ---- a Fetch
+
+    module _ (f : Asked) (l : Looked s (Fetch f)) where
       abbrev it : Cursor
-      it = liveCursor s (m .cursor)
+      it = liveCursor s (f .cursor)
 
       abbrev strange : Weight
-      strange = others (m .cursor) (it .rows) (it .sent)
+      strange = others (f .cursor) it
 
-      at-held : Held s (m .cursor) → table strange (s .cursors) ≡ 0
-      at-held h =
-          sum-only (isCursor (m .cursor)) (weigh strange)
-          (unless-own (λ id stmt. eqb id (m .cursor)) (m .cursor) (λ id stmt. refl) (λ id stmt rows n. one (not (eqb rows (it .rows) && eqb n (it .sent)))))
-          noCursor refl (s .cursors) (h .place) (sound .cursorOnce (m .cursor)) (h .passes)
-          ∙ ap (weigh strange) (sym (h .it))
-          ∙ none (it .live) (eqb (it .id) (m .cursor)) (eqb (it .rows) (it .rows) && eqb (it .sent) (it .sent))
+      abbrev os : List Opening
+      os = endings (Fetch f) t .live
+
+      at-held : Held s (f .cursor) → table strange (s .cursors) ≡ 0
+      at-held g =
+          sum-only (isCursor (f .cursor)) (weigh strange)
+          (unless-own (λ id stmt. eqb id (f .cursor)) (f .cursor) (λ id stmt. refl) (λ c. one (not (eqb (c .rows) (it .rows) && eqb (c .sent) (it .sent)))))
+          noCursor refl (s .cursors) (g .place) (h .sound .cursorOnce (f .cursor)) (g .passes)
+          ∙ ap (weigh strange) (sym (g .it))
+          ∙ none (isLiveCursor it) (eqb (it .id) (f .cursor)) (eqb (it .rows) (it .rows) && eqb (it .sent) (it .sent))
           (rw (eq-eqb (it .rows) (it .rows) refl, eq-eqb (it .sent) (it .sent) refl))
         where
           none : (a b c : Bool) → c ≡ true → _≡_ {A = ℕ} (cond a (cond b (one (not c)) 0) 0) 0
@@ -173,201 +241,274 @@ module _ (s : Session) (sound : Sound s) (t : Tally) (same : (w : Weight) → op
           none true false c e = refl
           none false b c e = refl
 
-      -- the openings of its cursor id have its rows
-      have : All (Has (m .cursor) (it .rows) (it .sent)) (endings (withKind m fetch) t .live)
+      -- a Fetch ends nothing
+      fetch-left : (w : Weight) → openings w os ≡ table w (s .cursors)
       unfolding endsIt
+      fetch-left w = left (Fetch f) w
+
+      -- the openings of its cursor id have its rows
+      have : All (Has (f .cursor) it) os
       have =
-          all-imp (λ o. weighO strange o ≡ 0) (Has (m .cursor) (it .rows) (it .sent)) (has-of (m .cursor) (it .rows) (it .sent))
-          (endings (withKind m fetch) t .live)
-          (all-zero (weighO strange) (endings (withKind m fetch) t .live)
-          (left (withKind m fetch) strange ∙ at-held (held s (m .cursor) (l .cursorLive))))
+          all-imp (λ o. strange (asCursor o) ≡ 0) (Has (f .cursor) it) (has-of (f .cursor) it) os
+          (all-zero (λ o. strange (asCursor o)) os (fetch-left strange ∙ at-held (held s (f .cursor) (l .cursorLive))))
 
-      fetching-one : (w : Weight) (o : Opening) → Has (m .cursor) (it .rows) (it .sent) o →
-          weighO w (change (λ o. eqb (o .cursor) (m .cursor)) (longer (part (withKind m fetch))) o)
-          ≡ weighO (plus (m .cursor) (rowCount s (withKind m fetch) r) w) o
-      unfolding rowCount
-      fetching-one w o h =
-          both (λ x. weighO w x ≡ weighO (plus (m .cursor) (fetchCount s m) w) o) (eqb (o .cursor) (m .cursor))
-          (longer (part (withKind m fetch)) o) o (λ e. rw e (ap (w (o .cursor) (o .stmt) (o .rows)) (more (h e)))) (λ e. rw e)
-        where
-          more : (o .rows ≡ it .rows) × (sent o ≡ it .sent) →
-              sent (longer (part (withKind m fetch)) o) ≡ sent o + min (fetchCount s m) (o .rows - sent o)
-          more f = omega (arith, sent-longer (part (withKind m fetch)) o)
+      abbrev n : ℕ
+      n = fetchCount it (f .rows)
 
-      fetching-same : (w : Weight) → openings w (added (withKind m fetch) .live) ≡ table w (sessionAfter s (withKind m fetch) r .cursors)
-      unfolding sessionAfter endsIt
+      abbrev g : Segment
+      g = record { first = it .sent; count = n }
+
+      raised : (o : Opening) → (o .first + o .rows ≡ it .rows) × (o .first + sent o ≡ it .sent) → asCursor (longer g o) ≡ raise n (asCursor o)
+      raised o e =
+          let m : o .first + sent (longer g o) ≡ o .first + sent o + min n (o .first + o .rows - (o .first + sent o)) =
+          omega (arith, sent-longer g o) in
+          ap (newCursor (o .cursor) (o .stmt) (o .first + o .rows)) m
+
+      fetching-one : (w : Weight) (o : Opening) → Has (f .cursor) it o →
+          w (asCursor (change (isOf (f .cursor)) (longer g) o)) ≡ plus (f .cursor) n w (asCursor o)
+      fetching-one w o e =
+          both (λ x. w (asCursor x) ≡ plus (f .cursor) n w (asCursor o)) (isOf (f .cursor) o) (longer g o) o
+          (λ k. rw k (ap w (raised o (e k)))) (λ k. rw k)
+
+      fetching-same : (w : Weight) → openings w (changed (isOf (f .cursor)) (longer g) os) ≡ table w (changed (isCursor (f .cursor)) (raise n) (s .cursors))
       fetching-same w =
-          let n = rowCount s (withKind m fetch) r in
-          let f = change (λ o. eqb (o .cursor) (m .cursor)) (longer (part (withKind m fetch))) in
-          let os = endings (withKind m fetch) t .live in
-          sum-map (weighO w) f os
-          ∙ sum-all (Has (m .cursor) (it .rows) (it .sent)) (λ o. weighO w (f o)) (weighO (plus (m .cursor) n w)) (fetching-one w) os have
-          ∙ left (withKind m fetch) (plus (m .cursor) n w)
-          ∙ sym (fetch-weigh (m .cursor) n w (s .cursors))
+          let change' = change (isOf (f .cursor)) (longer g) in
+          sum-map (λ o. w (asCursor o)) change' os
+          ∙ sum-all (Has (f .cursor) it) (λ o. w (asCursor (change' o))) (λ o. plus (f .cursor) n w (asCursor o)) (fetching-one w) os have
+          ∙ fetch-left (plus (f .cursor) n w)
+          ∙ sym (fetch-weigh (f .cursor) n w (s .cursors))
 
-    ending-same : (m : Message) → isA open' m ≡ false → isA fetch m ≡ false → (w : Weight) →
-        openings w (added m .live) ≡ table w (sessionAfter s m r .cursors)
-    ending-same m a b w =
-        ap (λ x. openings w (x .live)) (adds-none m r (part m) (endings m t) a b)
-        ∙ left m w
-        ∙ sym (ends-weigh (endsCursor m) (endsIt m) w (λ c e. rw e) (s .cursors))
-        ∙ ap (table w) (sym (ends-as-listed s m r sound ∙ simp (a, b)))
+      fetched-same : (w : Weight) → openings w (added (Fetch f) .live) ≡ table w (sessionAfter s (Fetch f) r .cursors)
+      unfolding sessionAfter rowCount firstRow
+      fetched-same w = fetching-same w ∙ ap (λ x. table w (x .cursors)) (sym (fetched-as (h .sound) (f .cursor) n))
 
-    after-same : (m : Message) → Looked s m → (w : Weight) → openings w (added m .live) ≡ table w (sessionAfter s m r .cursors)
-    after-same m =
-        either S m open' (opening-same m) (λ a. either S m fetch (fetching-same m) (λ b l w. ending-same m a b w))
-      where
-        S : Message → Type 0
-        S m = Looked s m → (w : Weight) → openings w (added m .live) ≡ table w (sessionAfter s m r .cursors)
+      fetched-one : (o : Opening) → Proper o × Has (f .cursor) it o → Proper (change (isOf (f .cursor)) (longer g) o)
+      fetched-one o p =
+          both Proper (isOf (f .cursor) o) (longer g o) o
+          (λ k. let e = p .1 k in goes-on g o (p .0) (sym (e .1)) (omega (arith, p .0 .within))) (λ _. p .0)
 
-    -- ---- each opening is proper
+      fetched-proper : All Proper (added (Fetch f) .live)
+      unfolding rowCount firstRow
+      fetched-proper =
+          all-map (λ o. Proper o × Has (f .cursor) it o) Proper (change (isOf (f .cursor)) (longer g)) fetched-one os
+          (all-both Proper (Has (f .cursor) it) os (left-proper (Fetch f)) have)
 
-    done-of : (b : Bool) → eqb (cond b 3 2) 3 ≡ b
-    done-of true = refl
-    done-of false = refl
-
-    opening-proper : (m : Message) → d ≡ eqb (markOf s (withKind m open') r) 3 → All Proper (t .live) → All Proper (added (withKind m open') .live)
-    unfolding All markOf rowCount firstRow
-    opening-proper m e h =
-        let z : 0 + openCount m r ≡ openCount m r = omega arith in (
-          begins (m .cursor) (m .stmt) (r .b) (part (withKind m open')) refl (omega arith)
-              (e ∙ done-of (eqb (0 + openCount m r) (r .b)) ∙ ap (λ (n : ℕ). eqb n (r .b)) z),
-          all-kept Proper (λ o. not (endsIt (withKind m open') (o .cursor) (o .stmt))) (t .live) h,
-        )
-
-    module _ (m : Message) (l : Looked s (withKind m fetch)) (e : d ≡ eqb (markOf s (withKind m fetch) r) 3) where
-      fetched-one : (o : Opening) → Proper o × Has (m .cursor) (liveCursor s (m .cursor) .rows) (liveCursor s (m .cursor) .sent) o →
-          Proper (change (λ o. eqb (o .cursor) (m .cursor)) (longer (part (withKind m fetch))) o)
-      unfolding markOf rowCount firstRow
-      fetched-one o h =
-          both Proper (eqb (o .cursor) (m .cursor)) (longer (part (withKind m fetch)) o) o
-          (λ f. more (h .1 f)) (λ _. h .0)
+      tells-one : (o : Opening) → Proper o × Has (f .cursor) it o → isOf (f .cursor) (change (isOf (f .cursor)) (longer g) o) ≡ true →
+          eqb (it .rows - (it .sent + n)) 0 ≡ allSent (change (isOf (f .cursor)) (longer g) o)
+      tells-one o p =
+          both (λ x. isOf (f .cursor) x ≡ true → eqb (it .rows - (it .sent + n)) 0 ≡ allSent x) (isOf (f .cursor) o) (longer g o) o
+          (λ k _. told' (p .1 k)) (λ k e. absurd (true≢false (sym e ∙ k)))
         where
-          more : (o .rows ≡ liveCursor s (m .cursor) .rows) × (sent o ≡ liveCursor s (m .cursor) .sent) → Proper (longer (part (withKind m fetch)) o)
-          more f =
-              goes-on (part (withKind m fetch)) o (h .0) (sym (f .1)) (omega (arith, h .0 .within))
-              (e ∙ done-of (eqb (liveCursor s (m .cursor) .sent + fetchCount s m) (liveCursor s (m .cursor) .rows))
-              ∙ ap (λ (k : ℕ). eqb (k + fetchCount s m) (liveCursor s (m .cursor) .rows)) (sym (f .1))
-              ∙ ap (eqb (sent o + fetchCount s m)) (sym (f .0)))
+          told' : (o .first + o .rows ≡ it .rows) × (o .first + sent o ≡ it .sent) → eqb (it .rows - (it .sent + n)) 0 ≡ allSent (longer g o)
+          told' e =
+              let z : it .rows - (it .sent + n) ≡ o .rows - sent (longer g o) = omega (arith, e .0, e .1, sent-longer g o) in
+              ap (λ (k : ℕ). eqb k 0) z
+              ∙ left-none (o .rows) (sent (longer g o)) (omega (arith, e .0, e .1, sent-longer g o, p .0 .within))
 
-      fetching-proper : All Proper (t .live) → All Proper (added (withKind m fetch) .live)
-      fetching-proper h =
-          let os = endings (withKind m fetch) t .live in
-          let q : Opening → Type 0 = Has (m .cursor) (liveCursor s (m .cursor) .rows) (liveCursor s (m .cursor) .sent) in
-          all-map (λ o. Proper o × q o) Proper (change (λ o. eqb (o .cursor) (m .cursor)) (longer (part (withKind m fetch))))
-          fetched-one os
-          (all-both Proper q os (all-kept Proper (λ o. not (endsIt (withKind m fetch) (o .cursor) (o .stmt))) (t .live) h) (have m l))
+      fetched-tells : Says (f .cursor) (isDone (replyTo s (Fetch f) r)) (added (Fetch f) .live)
+      unfolding replyTo rowCount firstRow
+      fetched-tells =
+          all-imp (λ o. isOf (f .cursor) o ≡ true → eqb (it .rows - (it .sent + n)) 0 ≡ allSent o)
+          (λ o. isOf (f .cursor) o ≡ true → isDone (endOf (it .rows - (it .sent + n))) ≡ allSent o)
+          (λ o e k. done-end (it .rows - (it .sent + n)) ∙ e k) (changed (isOf (f .cursor)) (longer g) os)
+          (all-map (λ o. Proper o × Has (f .cursor) it o) (λ o. isOf (f .cursor) o ≡ true → eqb (it .rows - (it .sent + n)) 0 ≡ allSent o)
+          (change (isOf (f .cursor)) (longer g)) tells-one os (all-both Proper (Has (f .cursor) it) os (left-proper (Fetch f)) have))
 
-    after-proper : (m : Message) → Looked s m → d ≡ eqb (markOf s m r) 3 → All Proper (t .live) → All Proper (added m .live)
-    after-proper m =
-        either S m open' (λ _ e h. opening-proper m e h) (λ a. either S m fetch (λ l e h. fetching-proper m l e h) (λ b _ _ h.
-        subst (λ x. All Proper (x .live)) (sym (adds-none m r (part m) (endings m t) a b))
-        (all-kept Proper (λ o. not (endsIt m (o .cursor) (o .stmt))) (t .live) h)))
-      where
-        S : Message → Type 0
-        S m = Looked s m → d ≡ eqb (markOf s m r) 3 → All Proper (t .live) → All Proper (added m .live)
+      -- one opening has its cursor id
+      of-cursor : (cs : List Cursor) → table (λ c. one (eqb (c .id) (f .cursor))) cs ≡ howMany (isCursor (f .cursor)) cs
+      of-cursor cs =
+          sum-same (weigh (λ c. one (eqb (c .id) (f .cursor)))) (λ c. one (isCursor (f .cursor) c))
+          (λ c. each (isLiveCursor c) (eqb (c .id) (f .cursor))) cs
+        where
+          each : (a b : Bool) → cond a (one b) 0 ≡ one (a && b)
+          each true b = refl
+          each false b = refl
 
-    ended-same : (m : Message) → added m .ended ≡ endings m t .ended
-    ended-same m =
-        both (λ (x : Tally). x .ended ≡ endings m t .ended) (isA open' m) (withOpening m r (part m) (endings m t))
-        (cond (isA fetch m) (withRows (m .cursor) (part m) (endings m t)) (endings m t)) (λ _. refl)
-        (λ _. both (λ (x : Tally). x .ended ≡ endings m t .ended) (isA fetch m) (withRows (m .cursor) (part m) (endings m t)) (endings m t)
-        (λ _. refl) (λ _. refl))
+      one-opening : howMany (isOf (f .cursor)) os ≡ 1
+      one-opening =
+          let k = held s (f .cursor) (l .cursorLive) in
+          omega (
+            arith,
+            fetch-left (λ c. one (eqb (c .id) (f .cursor))),
+            of-cursor (s .cursors),
+            h .sound .cursorOnce (f .cursor),
+            counted (isCursor (f .cursor)) noCursor (s .cursors) (k .place) (k .passes),
+          )
 
--- an accepted message keeps the invariant
-accepts : (s : Session) (t : Tally) (m : Message) (r : Report) (d : Bool) → Inv (record { session = s; tally = t }) → Looked s m →
-    d ≡ eqb (markOf s m r) 3 →
-    Inv (record {
-      session = sessionAfter s m r;
-      tally = adds m r (record { first = firstRow s m; count = rowCount s m r; done = d }) (endings m t);
-    })
-accepts s t m r d h l e =
-    record {
-      sound = after-sound s m r (h .sound) l;
-      same = after-same s (h .sound) t (h .same) r d m l;
-      live = after-proper s (h .sound) t (h .same) r d m l e (h .live);
-      ended =
-          subst (All Proper) (sym (ended-same s (h .sound) t (h .same) r d m))
-          (all-append Proper (kept (λ o. endsIt m (o .cursor) (o .stmt)) (t .live)) (t .ended)
-          (all-kept Proper (λ o. endsIt m (o .cursor) (o .stmt)) (t .live) (h .live)) (h .ended));
-    }
+      no-stray : added (Fetch f) .strays ≡ 0
+      no-stray =
+          let e = ap (λ (b : Bool). cond {A = ℕ} b 0 1) (eq-eqb (howMany (isOf (f .cursor)) os) 1 one-opening) in
+          omega (arith, e, h .none)
+
+    -- ---- each request
+
+    after-same : (q : Request) → Looked s q → (w : Weight) → openings w (added q .live) ≡ table w (sessionAfter s q r .cursors)
+    after-same Reset l = ends-only Reset (ends-as-listed s Reset r (h .sound))
+    after-same SessionClose l = ends-only SessionClose (ends-as-listed s SessionClose r (h .sound))
+    after-same (Prepare p) l = ends-only (Prepare p) (ends-as-listed s (Prepare p) r (h .sound))
+    after-same (Execute x) l = ends-only (Execute x) (ends-as-listed s (Execute x) r (h .sound))
+    after-same (Deallocate stmt) l = ends-only (Deallocate stmt) (ends-as-listed s (Deallocate stmt) r (h .sound))
+    after-same (Open o) l = opening-same o l
+    after-same (Close cursor) l = ends-only (Close cursor) (ends-as-listed s (Close cursor) r (h .sound))
+    after-same (Fetch f) l = fetched-same f l
+
+    after-proper : (q : Request) → Looked s q → All Proper (added q .live)
+    after-proper Reset l = left-proper Reset
+    after-proper SessionClose l = left-proper SessionClose
+    after-proper (Prepare p) l = left-proper (Prepare p)
+    after-proper (Execute x) l = left-proper (Execute x)
+    after-proper (Deallocate stmt) l = left-proper (Deallocate stmt)
+    after-proper (Open o) l = opening-proper o l
+    after-proper (Close cursor) l = left-proper (Close cursor)
+    after-proper (Fetch f) l = fetched-proper f l
+
+    after-ended : (q : Request) → All Proper (added q .ended)
+    after-ended Reset = ended-proper Reset
+    after-ended SessionClose = ended-proper SessionClose
+    after-ended (Prepare p) = ended-proper (Prepare p)
+    after-ended (Execute x) = ended-proper (Execute x)
+    after-ended (Deallocate stmt) = ended-proper (Deallocate stmt)
+    after-ended (Open o) = ended-proper (Open o)
+    after-ended (Close cursor) = ended-proper (Close cursor)
+    after-ended (Fetch f) = ended-proper (Fetch f)
+
+    after-none : (q : Request) → Looked s q → added q .strays ≡ 0
+    after-none Reset l = h .none
+    after-none SessionClose l = h .none
+    after-none (Prepare p) l = h .none
+    after-none (Execute x) l = h .none
+    after-none (Deallocate stmt) l = h .none
+    after-none (Open o) l = h .none
+    after-none (Close cursor) l = h .none
+    after-none (Fetch f) l = no-stray f l
+
+    accepts : (q : Request) → Read q → Looked s q → suits q r ≡ true → Inv (sessionAfter s q r) (added q)
+    accepts q read l e =
+        record {
+          sound = after-sound s q r (h .sound) read l e;
+          same = after-same q l;
+          live = after-proper q l;
+          ended = after-ended q;
+          none = after-none q l;
+        }
+
+-- ---- what the reply says
+
+module _ (s : Session) (t : Tally) (h : Inv s t) (r : Report) where
+  -- of a request that is no Open and no Fetch nothing is said
+  abbrev SaysFor : Request → Bool → List Opening → Type 0
+  SaysFor q d os = All (λ o. (oneOf open' fetch q && isOf (cursorOf q) o) ≡ true → d ≡ allSent o) os
+
+  nothing-said : (d : Bool) (os : List Opening) → All (λ o. false ≡ true → d ≡ allSent o) os
+  unfolding All
+  nothing-said d [] = tt
+  nothing-said d (o ∷ os) = (λ e. absurd (false≢true e), nothing-said d os)
+
+  says : (q : Request) → Looked s q → SaysFor q (isDone (replyTo s q r)) (adds q r (record { first = firstRow s q; count = rowCount s q r }) (endings q t) .live)
+  says Reset l = nothing-said _ _
+  says SessionClose l = nothing-said _ _
+  says (Prepare p) l = nothing-said _ _
+  says (Execute x) l = nothing-said _ _
+  says (Deallocate stmt) l = nothing-said _ _
+  says (Open o) l = opening-tells s t h r o l
+  says (Close cursor) l = nothing-said _ _
+  says (Fetch f) l = fetched-tells s t h r f l
 
 -- ---- steps
 
-done-told : (mark : ℕ) (buffer : List ℕ) → short buffer ≡ false →
-    holdsDone (take (length (replyBytes (reply mark))) (written buffer 0 (replyBytes (reply mark)))) ≡ eqb mark 3
-done-told mark buffer h =
-    ap holdsDone
-    (reply-front buffer (replyBytes (reply mark)) (le-trans (mark-fits mark) (ltb-false (length buffer) minBuffer h)))
-    ∙ tells-done (reply mark)
+done-told : (reply : Reply) (buffer : List ℕ) → length (replyBytes reply) ≤ minBuffer → short buffer ≡ false →
+    holdsDone (take (length (replyBytes reply)) (written buffer 0 (replyBytes reply))) ≡ isDone reply
+done-told reply buffer fits h =
+    ap holdsDone (reply-front buffer (replyBytes reply) (le-trans fits (ltb-false (length buffer) minBuffer h))) ∙ tells-done reply
 
--- the session that a step hands back, and the tally with what it told
-abbrev next : Input → Tally → Step → State
-next i t x = record { session = x .back .session; tally = fed (i .frame) (i .report) (x .back .answer) (replyOf x) t }
+-- what a step on a frame keeps: the invariant, and what its reply says is right
+record Goes (x : Frame) (r : Report) (t : Tally) (y : Step) : Type 0 where
+  keeps : Inv (y .session) (fedOn x r (y .answer) t)
+  tells : All (λ o. (eqb (y .answer .reason) Reason.accepted && onGood false (λ q. oneOf open' fetch q && isOf (cursorOf q) o) x) ≡ true →
+      holdsDone (replyOf y) ≡ allSent o) (fedOn x r (y .answer) t .live)
 
-step-keeps : (i : Input) (s : Session) (t : Tally) → Inv (record { session = s; tally = t }) →
-    Inv (next i t (stepOf s (i .frame) (i .report) (i .buffer)))
-unfolding stepOf fed
-step-keeps i s t h =
-    let m = messageOf (i .frame) in
-    let r = i .report in
-    step-has (λ x. Inv (next i t x)) s m r (i .buffer)
-    (λ _. h)
-    (λ room e. accepts s t m r _ h (looked s m (passed s m r e .look)) (done-told (markOf s m r) (i .buffer) room))
-    (λ _ some. rw (ne-eqb (stepReason s m r) 0 some) h)
+silent : (b d : Bool) (os : List Opening) → b ≡ false → (p : Opening → Bool) → All (λ o. (b && p o) ≡ true → d ≡ allSent o) os
+unfolding All
+silent b d [] e p = tt
+silent b d (o ∷ os) e p = (λ f. absurd (false≢true (sym (ap (λ (a : Bool). a && p o) e) ∙ f)), silent b d os e p)
 
-run-keeps : (is : List Input) (s : Session) (t : Tally) → Inv (record { session = s; tally = t }) →
-    Inv (record { session = handedBack s (run s is); tally = tallied t (told is (run s is)) })
-unfolding run handedBack told tallied
+-- a step that is refused
+refused-goes : (x : Frame) (r : Report) (s : Session) (t : Tally) (y : Step) → Inv s t → y .session ≡ s →
+    eqb (y .answer .reason) Reason.accepted ≡ false → Goes x r t y
+refused-goes x r s t y h same e =
+    record {
+      keeps = subst (λ z. Inv z (fedOn x r (y .answer) t)) (sym same) (rw e h);
+      tells = silent (eqb (y .answer .reason) Reason.accepted) (holdsDone (replyOf y)) (fedOn x r (y .answer) t .live) e
+          (λ o. onGood false (λ q. oneOf open' fetch q && isOf (cursorOf q) o) x);
+    }
+
+says-told : (d e : Bool) → d ≡ e → (p : Opening → Bool) (os : List Opening) → All (λ o. p o ≡ true → e ≡ allSent o) os →
+    All (λ o. p o ≡ true → d ≡ allSent o) os
+says-told d e f p os h = all-imp (λ o. p o ≡ true → e ≡ allSent o) (λ o. p o ≡ true → d ≡ allSent o) (λ o g k. f ∙ g k) os h
+
+step-goes : (x : Frame) (r : Report) (buffer : List ℕ) (s : Session) (t : Tally) → Inv s t → ReadIn x → Goes x r t (stepOn s x r buffer)
+step-goes x r buffer s t h read =
+    step-has (Goes x r t) s x r buffer
+    (λ _. refused-goes x r s t (tooShort s buffer) h refl refl)
+    (λ used q room k. subst (λ z. Goes z r t (stepBy (Good used q) buffer (accepted s r q))) (sym (k .good)) (goes used q room k))
+    (λ _ some. refused-goes x r s t (refusedStep s x r buffer) h refl (ne-eqb (stepReason s x r) 0 some))
+  where
+    goes : (used : ℕ) (q : Request) → short buffer ≡ false → Took s x r used q → Goes (Good used q) r t (stepBy (Good used q) buffer (accepted s r q))
+    goes used q room k =
+        record {
+          keeps = accepts s t h r q (subst ReadIn (k .good) read) (k .look) (k .report);
+          tells =
+              says-told (holdsDone (replyOf (stepBy (Good used q) buffer (accepted s r q)))) (isDone (replyTo s q r))
+              (done-told (replyTo s q r) buffer (reply-fits s q r) room) (λ o. oneOf open' fetch q && isOf (cursorOf q) o)
+              (adds q r (record { first = firstRow s q; count = rowCount s q r }) (endings q t) .live) (says s t h r q (k .look));
+        }
+
+-- ---- runs
+
+abbrev stepped : Session → Input → Step
+stepped s i = stepOf s (i .frame) (i .report) (i .buffer)
+
+goes-fed : (i : Input) (s : Session) (t : Tally) → Inv s t → Inv (stepped s i .session) (fedBy (toldBy i (stepped s i)) t)
+unfolding fed
+goes-fed i s t h = step-goes (frameOf (i .frame)) (i .report) (i .buffer) s t h (frames-are-read (i .frame)) .keeps
+
+goes-tells : (i : Input) (s : Session) (t : Tally) → Inv s t → TellsDone (toldBy i (stepped s i)) (fedBy (toldBy i (stepped s i)) t)
+unfolding fed
+goes-tells i s t h = step-goes (frameOf (i .frame)) (i .report) (i .buffer) s t h (frames-are-read (i .frame)) .tells
+
+run-keeps : (is : List Input) (s : Session) (t : Tally) → Inv s t → Inv (leaves s (run s is)) (tallied t (told is (run s is)))
+unfolding run leaves told tallied
 run-keeps [] s t h = h
 run-keeps (i ∷ is) s t h =
-    let x = stepOf s (i .frame) (i .report) (i .buffer) in
-    run-keeps is (x .back .session) (next i t x .tally) (step-keeps i s t h)
+    run-keeps is (stepped s i .session) (fedBy (toldBy i (stepped s i)) t) (goes-fed i s t h)
 
-holds : (steps : List Input) → Inv (reached steps)
+run-tells : (is : List Input) (s : Session) (t : Tally) → Inv s t → TellDone t (told is (run s is))
+unfolding run told TellDone
+run-tells [] s t h = tt
+run-tells (i ∷ is) s t h =
+    (goes-tells i s t h, run-tells is (stepped s i .session) (fedBy (toldBy i (stepped s i)) t) (goes-fed i s t h))
+
+holds : (steps : List Input) → Inv (reached steps .session) (tallyOf (reached steps))
 holds steps = run-keeps steps fresh empty starts
 
 pub demand-3 : Demand3
-demand-3 steps = keeps (reached steps) (holds steps)
+demand-3 steps =
+    let h = holds steps in
+    let t = tallyOf (reached steps) in
+    record {
+      live = h .live;
+      ended = h .ended;
+      ofOne = h .none;
+      tells = run-tells steps fresh empty starts;
+      total =
+          omega (
+            arith,
+            sent-or-not (t .live) (h .live),
+            sent-or-not (t .ended) (h .ended),
+            owing (t .live),
+            h .same (λ c. c .rows - c .sent),
+          );
+    }
 
 pub reaches-sound : ReachesSound
 reaches-sound steps = holds steps .sound
-
--- ---- an accepted Fetch is of one opening
-
-accepts-look : (s : Session) (m : Message) (r : Report) (buffer : List ℕ) → stepOn s m r buffer .back .answer .reason ≡ 0 → Looked s m
-accepts-look s m r buffer =
-    step-has (λ x. x .back .answer .reason ≡ 0 → Looked s m) s m r buffer
-    (λ _ e. absurd (omega arith)) (λ _ e _. looked s m (passed s m r e .look)) (λ _ some e. absurd (some e))
-
-of-cursor : (k : ℕ) (cs : List Cursor) → table (λ id stmt rows n. one (eqb id k)) cs ≡ howMany (isCursor k) cs
-of-cursor k cs =
-    sum-same (weigh (λ id stmt rows n. one (eqb id k))) (λ c. one (isCursor k c)) (λ c. each (c .live) (eqb (c .id) k)) cs
-  where
-    each : (a b : Bool) → cond a (one b) 0 ≡ one (a && b)
-    each true b = refl
-    each false b = refl
-
-one-opening : (x : State) → Inv x → (k : ℕ) → not (liveCursor (x .session) k .live) ≡ false →
-    howMany (λ o. eqb (o .cursor) k) (x .tally .live) ≡ 1
-one-opening x h k live =
-    let l = held (x .session) k live in
-    omega (
-      arith,
-      h .same (λ id stmt rows n. one (eqb id k)),
-      of-cursor k (x .session .cursors),
-      h .sound .cursorOnce k,
-      counted (isCursor k) noCursor (x .session .cursors) (l .place) (l .passes),
-    )
-
-fetch-live : (s : Session) (m : Message) → m .kind ≡ fetch → Looked s m → not (liveCursor s (m .cursor) .live) ≡ false
-fetch-live s m e l =
-    ap (λ (k : ℕ). oneOf fetch close (withKind m k) && not (liveCursor s (m .cursor) .live)) (sym e) ∙ l .cursorLive
-
-pub fetch-of-one : FetchOfOne
-unfolding stepOf
-fetch-of-one steps i h =
-    let s = reached steps .session in
-    let m = messageOf (i .frame) in
-    one-opening (reached steps) (holds steps) (m .cursor)
-    (fetch-live s m (h .fetches) (accepts-look s m (i .report) (i .buffer) (h .accepted)))

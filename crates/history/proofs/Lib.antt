@@ -1,5 +1,6 @@
 pub mod ListLaws
-pub mod TableLaws
 pub mod OpeningLaws
+pub mod TableLaws
 pub mod HistoryLaws
 pub mod SampleLaws
+pub mod CallLaws

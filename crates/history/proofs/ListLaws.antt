@@ -36,6 +36,16 @@ module _ {A : Type 0} where
       go true l = (h .0, l)
       go false l = l
 
+  -- what is kept passes the test
+  pub kept-pass : (p : A → Bool) (xs : List A) → All (λ x. p x ≡ true) (kept p xs)
+  unfolding All kept
+  kept-pass p [] = tt
+  kept-pass p (x ∷ xs) = go (p x) refl (kept-pass p xs)
+    where
+      go : (b : Bool) → p x ≡ b → All (λ x. p x ≡ true) (kept p xs) → All (λ x. p x ≡ true) (cond b (x ∷ kept p xs) (kept p xs))
+      go true e l = (e, l)
+      go false e l = l
+
   pub all-append : (P : A → Type 0) (xs ys : List A) → All P xs → All P ys → All P (xs ++ ys)
   unfolding All
   all-append P [] ys h g = g

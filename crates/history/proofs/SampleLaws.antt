@@ -1,42 +1,49 @@
 -- The samples, by computing them. An Open is read in parts, each computed once. Assumes nothing.
 use Prim.Native.Nat.{ℕ}
+use native.Mathlib.Omega.{arith}
 use mathlib.Core.Bool.{true}
 use mathlib.Core.Path.{_≡_, refl, ap, _∙_}
-use mathlib.Core.List.{List, [], _∷_}
+use mathlib.Core.List.{List, [], _∷_, _++_}
 use Rattle.varint.specs.Shortest.{shortest}
 use Rattle.varint.specs.Varint.{groups}
 use Rattle.wire.specs.Field.{fieldAt}
 use Rattle.scalar.specs.Fixed.{little}
 use Rattle.layout.specs.Fields.{fieldsAt, fieldsFrom, hasRequired}
 use Rattle.layout.specs.Row.{rowFor}
-use Rattle.layout.specs.Table.{rowsOf, open', openStmt}
+use Rattle.protocol.specs.Client.{open'}
+use Rattle.layout.specs.Table.{rowsOf, openStmt}
 use Rattle.layout.specs.declared.slots.Slots.{Slots}
 use Rattle.args.specs.Part.{embedded}
 use Rattle.args.specs.Arguments.{noArguments, argumentsFrom, placeFrom, nextArgument, together}
-use Rattle.message.specs.Message.{payload, message, noOptional, sound}
-use Rattle.message.specs.Simple.{deallocateMessage, fetchMessage}
-use Rattle.message.specs.Prepare.{prepareMessage, bodyIn}
-use Rattle.message.specs.Execute.{openFrom, openOf, openWith, openMessage, executeIn, argumentsWithin}
-use Rattle.message.specs.Frame.{messageIn, messageOf}
-use Rattle.message.specs.declared.message.Message.{Message}
-use Rattle.session.specs.Lists.{first, All}
-use Rattle.session.specs.declared.Session.{Session}
+use Rattle.message.specs.Request.{noOptional}
+use Rattle.message.specs.Payload.{payload}
+use Rattle.message.specs.Simple.{deallocateFrame, fetchFrame}
+use Rattle.message.specs.Prepare.{prepareFrame, bodyIn}
+use Rattle.message.specs.Execute.{openFrom, openChosen, openOf, openFrame, executeIn, argumentsWithin}
+use Rattle.message.specs.Frame.{frameIn, frameOf}
+use Rattle.message.specs.declared.request.Execute.{Execute}
+use Rattle.message.specs.declared.request.Request.{Request}
+use Rattle.message.specs.declared.request.Frame.{Frame}
+use Rattle.session.specs.Lists.{sumBy, first, All}
+use Rattle.session.specs.Session.{Session}
 use Rattle.reply.specs.Decimal.{digits}
 use Rattle.reply.specs.Text.{text}
-use Rattle.reply.specs.Frame.{numberField, bytesField, errorPayload}
+use Rattle.reply.specs.Frame.{okFrame, fetchSuspended, stmtExecuteOk, numberField, bytesField, errorPayload}
 use Rattle.reply.specs.Reply.{replyBytes}
+use Rattle.rules.specs.Ending.{endsIt}
 use Rattle.rules.specs.Refusal.{lookReason, reportReason}
 use Rattle.rules.specs.Rows.{firstRow, rowCount, sendsColumns}
-use Rattle.rules.specs.Decision.{sessionAfter, markOf, named, wireCode, refusedReply, decisionOf}
+use Rattle.rules.specs.Decision.{sessionAfter, replyTo, named, namedKind, wireCode, refusedReply, decisionOf}
 use Rattle.rules.specs.Step.{Step, replyOf, stepOn, stepOf}
-use Rattle.history.specs.Run.{run, handedBack}
-use Rattle.history.specs.History.{reached}
-use Rattle.history.specs.Samples.{prepareOne, openOne, fetchOne, SamplesShown}
+use Rattle.history.specs.Tally.{Tally, empty, kept, fedOn, fed}
+use Rattle.history.specs.Run.{run, leaves, fedBy, tallied}
+use Rattle.history.specs.History.{reached, Kept}
+use Rattle.history.specs.Samples.{prepareOne, openOne, fetchOne, SamplesShown, tells, servedOn, ServedOnRefused}
 
 -- ---- the Open frame
 
-abbrev openFrame : List ℕ
-openFrame = openOne 0 .frame
+abbrev opens : List ℕ
+opens = openOne 0 .frame
 
 abbrev slots : List ℕ → List ℕ → List ℕ → List ℕ → Slots
 slots count value at len = record { good = true; count = count; value = value; start = at; len = len }
@@ -51,30 +58,30 @@ inner =
     slots (0 ∷ 1 ∷ 1 ∷ 0 ∷ 0 ∷ 0 ∷ 0 ∷ 0 ∷ 0 ∷ 0 ∷ []) (0 ∷ 0 ∷ 2 ∷ 0 ∷ 0 ∷ 0 ∷ 0 ∷ 0 ∷ 0 ∷ 0 ∷ [])
     (0 ∷ 10 ∷ 13 ∷ 0 ∷ 0 ∷ 0 ∷ 0 ∷ 0 ∷ 0 ∷ 0 ∷ []) (0 ∷ 1 ∷ 2 ∷ 0 ∷ 0 ∷ 0 ∷ 0 ∷ 0 ∷ 0 ∷ 0 ∷ [])
 
-outer-is : fieldsAt (rowsOf open') openFrame payload ≡ outer
+outer-is : fieldsAt (rowsOf open') opens payload ≡ outer
 unfolding groups fieldAt fieldsFrom hasRequired rowFor rowsOf
 outer-is = refl
 
-inner-is : embedded (rowsOf openStmt) openFrame 9 6 ≡ inner
+inner-is : embedded (rowsOf openStmt) opens 9 6 ≡ inner
 unfolding groups fieldAt fieldsFrom hasRequired rowFor rowsOf
 inner-is = refl
 
-execute-is : executeIn openFrame 13 2 ≡ record { good = true; stmt = 1; compact = noOptional; args = noArguments 13 15 }
+abbrev execute : Execute
+execute = record { stmt = 1; compact = noOptional; args = noArguments 13 15 }
+
+execute-is : executeIn opens 13 2 ≡ execute
 unfolding groups fieldAt fieldsFrom hasRequired rowFor rowsOf executeIn argumentsWithin argumentsFrom placeFrom nextArgument together
 execute-is = refl
 
-abbrev opening : Message
-opening = message 15 open' 1 1 noOptional noOptional 0 (record { start = 13; len = 2 }) (noArguments 13 15)
+abbrev opening : Frame
+opening =
+    Frame.Good 15 (Request.Open (record { cursor = 1; rows = noOptional; body = record { start = 13; len = 2 }; execute = execute }))
 
-open-is : openMessage openFrame ≡ opening
-unfolding openMessage
+open-is : openFrame opens ≡ opening
+unfolding openFrame
 open-is =
-    ap (openWith openFrame) outer-is ∙ ap (openOf openFrame outer) inner-is
-    ∙ ap (λ e. sound openFrame true (sound openFrame true (sound openFrame true (openFrom openFrame outer inner e)))) execute-is
-
-open-read : messageOf openFrame ≡ opening
-unfolding little messageIn messageOf
-open-read = open-is
+    ap (openOf opens) outer-is ∙ ap (openChosen opens 1 noOptional) inner-is
+    ∙ ap (openFrom opens 1 noOptional (record { start = 13; len = 2 })) execute-is
 
 -- ---- the steps
 
@@ -82,18 +89,18 @@ open-read = open-is
 abbrev prepared : Session
 prepared = reached (prepareOne 5 ∷ []) .session
 
-abbrev openStep : ℕ → Message → Step
-openStep rows m = stepOn prepared m (openOne rows .report) (openOne rows .buffer)
+abbrev openStep : ℕ → Frame → Step
+openStep rows x = stepOn prepared x (openOne rows .report) (openOne rows .buffer)
 
-abbrev fetchStep : ℕ → ℕ → Message → Step
-fetchStep rows count m =
-    stepOf (openStep rows m .back .session) (fetchOne count .frame) (fetchOne count .report) (fetchOne count .buffer)
+abbrev fetchStep : ℕ → ℕ → Frame → Step
+fetchStep rows count x =
+    stepOf (openStep rows x .session) (fetchOne count .frame) (fetchOne count .report) (fetchOne count .buffer)
 
 abbrev reasonOf : Step → ℕ
-reasonOf x = x .back .answer .reason
+reasonOf x = x .answer .reason
 
 pub samples-shown : SamplesShown
-unfolding All stepOf decisionOf lookReason reportReason sessionAfter markOf firstRow rowCount sendsColumns refusedReply wireCode named messageOf messageIn deallocateMessage prepareMessage fetchMessage bodyIn argumentsWithin argumentsFrom placeFrom nextArgument together groups little fieldAt fieldsFrom hasRequired rowFor rowsOf run handedBack first replyBytes text digits errorPayload numberField bytesField shortest
+unfolding All stepOn decisionOf lookReason reportReason sessionAfter replyTo firstRow rowCount sendsColumns refusedReply wireCode named namedKind frameOf frameIn deallocateFrame prepareFrame fetchFrame bodyIn argumentsWithin argumentsFrom placeFrom nextArgument together groups little fieldAt fieldsFrom hasRequired rowFor rowsOf run leaves first replyBytes text digits errorPayload numberField bytesField shortest
 samples-shown = (
   (refl, refl),
   (
@@ -115,10 +122,10 @@ samples-shown = (
                   (
                     (refl, refl),
                     (
-                      (ap (λ m. reasonOf (openStep 0 m)) open-is, ap (λ m. replyOf (openStep 0 m)) open-is),
+                      (ap (λ x. reasonOf (openStep 0 x)) open-is, ap (λ x. replyOf (openStep 0 x)) open-is),
                       (
-                        (ap (λ m. reasonOf (fetchStep 0 1 m)) open-is, ap (λ m. replyOf (fetchStep 0 1 m)) open-is),
-                        ((ap (λ m. reasonOf (fetchStep 2 0 m)) open-is, ap (λ m. replyOf (fetchStep 2 0 m)) open-is), tt),
+                        (ap (λ x. reasonOf (fetchStep 0 1 x)) open-is, ap (λ x. replyOf (fetchStep 0 1 x)) open-is),
+                        ((ap (λ x. reasonOf (fetchStep 2 0 x)) open-is, ap (λ x. replyOf (fetchStep 2 0 x)) open-is), tt),
                       ),
                     ),
                   ),
@@ -131,3 +138,20 @@ samples-shown = (
     ),
   ),
 )
+
+-- ---- a keeper that must not pass
+
+-- its Fetch is of no opening: the second Prepare ended the one that the Open made
+abbrev fedOpen : Frame → Tally
+fedOpen x =
+    let opened = tells (openOne 2) 0 0 (fetchSuspended ++ stmtExecuteOk) in
+    let prepares = tells (prepareOne 5) 0 0 okFrame in
+    let fetches = tells (fetchOne 1) 0 1 (fetchSuspended ++ stmtExecuteOk) in
+    fedBy fetches (fedBy prepares (fedOn x (opened .report) (opened .answer) (fedBy prepares empty)))
+
+served-on-strays : tallied empty servedOn .strays ≡ 1
+unfolding tallied fed kept endsIt sumBy frameOf frameIn prepareFrame fetchFrame bodyIn argumentsWithin argumentsFrom placeFrom nextArgument together groups little fieldAt fieldsFrom hasRequired rowFor rowsOf
+served-on-strays = ap (λ x. fedOpen x .strays) open-is
+
+pub served-on-refused : ServedOnRefused
+served-on-refused s h = omega (arith, h .ofOne, served-on-strays)

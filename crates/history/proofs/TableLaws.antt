@@ -11,7 +11,7 @@ use Rattle.varint.proofs.PastLaws.{both}
 use Rattle.session.specs.declared.Cursor.{Cursor}
 use Rattle.session.specs.declared.Place.{Place}
 use Rattle.session.specs.Lists.{first, orPlace, sumBy, howMany, put, changed, change}
-use Rattle.session.specs.Entry.{noCursor, newCursor, isCursor, freeCursor, raise}
+use Rattle.session.specs.Entry.{noCursor, newCursor, isLiveCursor, isCursor, freeCursor, raise}
 use Rattle.session.specs.Tables.{ends}
 use Rattle.session.proofs.PlaceLaws.{Taken, taken}
 use Rattle.session.proofs.PlaceLaws.Taken.{own, new}
@@ -19,38 +19,38 @@ use Rattle.session.proofs.SumLaws.{sum-same, sum-map, sum-add, sum-set, and-tru
 use Rattle.rules.specs.Refusal.{noPlace}
 use Rattle.history.proofs.ListLaws.{sum-absent, sum-only}
 
--- a weight of a cursor id, a statement id, the rows reported and the rows sent
+-- a weight of an entry
 abbrev pub Weight : Type 0
-Weight = ℕ → ℕ → ℕ → ℕ → ℕ
+Weight = Cursor → ℕ
 
 -- live cursors alone weigh
 abbrev pub weigh : Weight → Cursor → ℕ
-weigh w c = cond (c .live) (w (c .id) (c .stmt) (c .rows) (c .sent)) 0
+weigh w c = cond (isLiveCursor c) (w c) 0
 
 abbrev pub table : Weight → List Cursor → ℕ
 table w cs = sumBy (weigh w) cs
 
 -- nothing where a test of the ids passes; nothing where it does not
 abbrev pub off : (ℕ → ℕ → Bool) → Weight → Weight
-off p w id stmt rows sent = cond (not (p id stmt)) (w id stmt rows sent) 0
+off p w c = cond (not (p (c .id) (c .stmt))) (w c) 0
 
 abbrev pub on : (ℕ → ℕ → Bool) → Weight → Weight
-on p w id stmt rows sent = cond (p id stmt) (w id stmt rows sent) 0
+on p w c = cond (p (c .id) (c .stmt)) (w c) 0
 
 -- ---- endings
 
-module _ (p : Cursor → Bool) (q : ℕ → ℕ → Bool) (w : Weight) (agree : (c : Cursor) → c .live ≡ true → p c ≡ q (c .id) (c .stmt)) where
-  gone : (c : Cursor) → p c ≡ true → (l : Bool) → c .live ≡ l → 0 ≡ weigh (off q w) c
+module _ (p : Cursor → Bool) (q : ℕ → ℕ → Bool) (w : Weight) (agree : (c : Cursor) → isLiveCursor c ≡ true → p c ≡ q (c .id) (c .stmt)) where
+  gone : (c : Cursor) → p c ≡ true → (l : Bool) → isLiveCursor c ≡ l → 0 ≡ weigh (off q w) c
   gone c t true e = rw (e, sym (agree c e) ∙ t)
   gone c t false e = rw e
 
-  stays : (c : Cursor) → p c ≡ false → (l : Bool) → c .live ≡ l → weigh w c ≡ weigh (off q w) c
+  stays : (c : Cursor) → p c ≡ false → (l : Bool) → isLiveCursor c ≡ l → weigh w c ≡ weigh (off q w) c
   stays c t true e = rw (e, sym (agree c e) ∙ t)
   stays c t false e = rw e
 
   ends-one : (c : Cursor) → weigh w (change p (λ c. noCursor) c) ≡ weigh (off q w) c
   ends-one c =
-      both (λ x. weigh w x ≡ weigh (off q w) c) (p c) noCursor c (λ t. gone c t (c .live) refl) (λ t. stays c t (c .live) refl)
+      both (λ x. weigh w x ≡ weigh (off q w) c) (p c) noCursor c (λ t. gone c t (isLiveCursor c) refl) (λ t. stays c t (isLiveCursor c) refl)
 
   pub ends-weigh : (cs : List Cursor) → table w (ends p cs) ≡ table (off q w) cs
   ends-weigh cs =
@@ -61,7 +61,7 @@ module _ (p : Cursor → Bool) (q : ℕ → ℕ → Bool) (w : Weight) (agree : 
 
 module _ (q : ℕ → ℕ → Bool) (w : Weight) where
   split-one : (c : Cursor) → weigh (off q w) c + weigh (on q w) c ≡ weigh w c
-  split-one c = go (c .live) (q (c .id) (c .stmt)) (w (c .id) (c .stmt) (c .rows) (c .sent))
+  split-one c = go (isLiveCursor c) (q (c .id) (c .stmt)) (w c)
     where
       go : (l b : Bool) (n : ℕ) → cond l (cond (not b) n 0) 0 + cond l (cond b n 0) 0 ≡ cond l n 0
       go true true n = omega arith
@@ -77,22 +77,22 @@ module _ (q : ℕ → ℕ → Bool) (w : Weight) where
 -- the cursor of an id is what a test of the ids takes
 module _ (q : ℕ → ℕ → Bool) (id : ℕ) (own-id : (k stmt : ℕ) → q k stmt ≡ eqb k id) (w : Weight) where
   pub unless-own : (c : Cursor) → isCursor id c ≡ false → weigh (on q w) c ≡ 0
-  unless-own c e = go (c .live) refl (eqb (c .id) id) (own-id (c .id) (c .stmt)) e
+  unless-own c e = go (isLiveCursor c) refl (eqb (c .id) id) (own-id (c .id) (c .stmt)) e
     where
-      go : (l : Bool) → c .live ≡ l → (b : Bool) → q (c .id) (c .stmt) ≡ b → (l && b) ≡ false → weigh (on q w) c ≡ 0
+      go : (l : Bool) → isLiveCursor c ≡ l → (b : Bool) → q (c .id) (c .stmt) ≡ b → (l && b) ≡ false → weigh (on q w) c ≡ 0
       go true f true g z = absurd (true≢false z)
       go true f false g z = rw (f, g)
       go false f b g z = rw f
 
   own-weigh : (c : Cursor) → isCursor id c ≡ true → weigh (on q w) c ≡ weigh w c
-  own-weigh c e = rw (own-id (c .id) (c .stmt), and-true (c .live) (eqb (c .id) id) e .1)
+  own-weigh c e = rw (own-id (c .id) (c .stmt), and-true (isLiveCursor c) (eqb (c .id) id) e .1)
 
   module _ (cs : List Cursor) (once : howMany (isCursor id) cs ≤ 1) (stmt rows sent : ℕ) where
     abbrev opening : Cursor
     opening = newCursor id stmt rows sent
 
     open-at : (i : ℕ) → Taken (isCursor id) freeCursor noCursor cs i →
-        table w (set cs i opening) ≡ table (off q w) cs + w id stmt rows sent
+        table w (set cs i opening) ≡ table (off q w) cs + w (newCursor id stmt rows sent)
     open-at i (own l) =
         omega (
           arith,
@@ -111,10 +111,10 @@ module _ (q : ℕ → ℕ → Bool) (id : ℕ) (own-id : (k stmt : ℕ) → q k 
         )
       where
         free : weigh w (getD cs i noCursor) ≡ 0
-        free = rw (not-true (getD cs i noCursor .live) (l .passing))
+        free = rw (not-true (isLiveCursor (getD cs i noCursor)) (l .passing))
 
     pub open-weigh : (at : Place) → orPlace (first (isCursor id) cs 0) (first freeCursor cs 0) ≡ at → noPlace at ≡ false →
-        table w (put cs at opening) ≡ table (off q w) cs + w id stmt rows sent
+        table w (put cs at opening) ≡ table (off q w) cs + w (newCursor id stmt rows sent)
     open-weigh (Place.At i) e z = open-at i (taken (isCursor id) freeCursor noCursor cs i e)
     open-weigh Place.Nothing e z = absurd (true≢false z)
 
@@ -122,16 +122,18 @@ module _ (q : ℕ → ℕ → Bool) (id : ℕ) (own-id : (k stmt : ℕ) → q k 
 
 -- the cursor of an id sends n rows more, and no more than it has
 abbrev pub plus : ℕ → ℕ → Weight → Weight
-plus k n w id stmt rows sent = cond (eqb id k) (w id stmt rows (sent + min n (rows - sent))) (w id stmt rows sent)
+plus k n w c = cond (eqb (c .id) k) (w (raise n c)) (w c)
 
 module _ (k n : ℕ) (w : Weight) where
   raise-one : (c : Cursor) → weigh w (change (isCursor k) (raise n) c) ≡ weigh (plus k n w) c
-  raise-one c = go (c .live) refl (eqb (c .id) k) refl
+  raise-one c =
+      both (λ y. weigh w y ≡ weigh (plus k n w) c) (isCursor k c) (raise n c) c
+      (λ t. rw (and-true (isLiveCursor c) (eqb (c .id) k) t .1)) (λ t. left (isLiveCursor c) refl (eqb (c .id) k) refl t)
     where
-      go : (l : Bool) → c .live ≡ l → (b : Bool) → eqb (c .id) k ≡ b → weigh w (change (isCursor k) (raise n) c) ≡ weigh (plus k n w) c
-      go true e true f = rw (e, f)
-      go true e false f = rw (e, f)
-      go false e b f = rw e
+      left : (l : Bool) → isLiveCursor c ≡ l → (b : Bool) → eqb (c .id) k ≡ b → (l && b) ≡ false → weigh w c ≡ weigh (plus k n w) c
+      left true e true f t = absurd (true≢false t)
+      left true e false f t = rw (e, f)
+      left false e b f t = rw e
 
   pub fetch-weigh : (cs : List Cursor) → table w (changed (isCursor k) (raise n) cs) ≡ table (plus k n w) cs
   fetch-weigh cs =

@@ -1,4 +1,4 @@
-pub mod BehindLaws
 pub mod GivenLaws
+pub mod MessageLaws
 pub mod ReadLaws
 pub mod ValueLaws

@@ -18,8 +18,10 @@ use Rattle.args.specs.Value.{bad, present, bytesOf, bytesIn, ofType, scalarOf, 
 use Rattle.args.specs.Arguments.{argPlace, ofPlace, nextArgument, andMore, argumentsFrom, argumentsAt, asked, nthArgument}
 use Rattle.args.specs.declared.arguments.ArgPlace.{ArgPlace}
 use Rattle.args.specs.declared.arguments.NextArgument.{NextArgument}
-use Rattle.message.specs.Frame.{argumentIn as argumentFrom, argumentOf, messageOf}
-use Rattle.message.specs.declared.message.Message.{Message}
+use Rattle.message.specs.Request.{argsOf}
+use Rattle.message.specs.Frame.{argumentIn as argumentFrom, argumentOf, frameOf}
+use Rattle.message.specs.declared.request.Frame.{Frame}
+use Rattle.message.specs.declared.request.Frame.the-variants.{NotAllThere, BadLength, UnknownType, BadPayload, Good}
 use Rattle.karramotx.specs.ValueRules.{Told, ToldByIndex, ToldNext, ToldInPass}
 
 abbrev NoNan : Argument → Type 0
@@ -138,14 +140,17 @@ module _ (s : List ℕ) where
 asked-number : (a : Argument) → NoNan a → NoNan (asked a)
 asked-number a h = both NoNan (eqb (reasonOf a) 0) a (Va.Refused (reasonOf a)) (λ _. h) (λ _. tt)
 
-argument-number : (s : List ℕ) (index : ℕ) (m : Message) → NoNan (argumentFrom s index m)
-argument-number s index m =
-    let t = take (m .args .end) s in
-    both NoNan (eqb (m .reason) 0) (nthArgument t (m .args .start) index) (Va.Refused (m .reason))
-    (λ _. asked-number (getD (argumentsAt t (m .args .start)) index (Va.Refused 9)) (from-number t (length t) (m .args .start) index)) (λ _. tt)
+argument-number : (s : List ℕ) (index : ℕ) (x : Frame) → NoNan (argumentFrom s index x)
+argument-number s index NotAllThere = tt
+argument-number s index BadLength = tt
+argument-number s index (UnknownType used) = tt
+argument-number s index (BadPayload used kind) = tt
+argument-number s index (Good used q) =
+    let t = take (argsOf q .end) s in
+    asked-number (getD (argumentsAt t (argsOf q .start)) index (Va.Refused 9)) (from-number t (length t) (argsOf q .start) index)
 
 pub told-by-index : ToldByIndex
-told-by-index frame index = told (argumentOf frame index) (argument-number frame index (messageOf frame))
+told-by-index frame index = told (argumentOf frame index) (argument-number frame index (frameOf frame))
 
 told-next : (n : NextArgument) → NextNoNan n → ToldNext n
 told-next (NextArgument.Found a next) h = told a h

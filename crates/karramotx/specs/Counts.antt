@@ -1,5 +1,5 @@
 -- The sizes of a session's tables, and the rows owed.
-use Rattle.session.specs.declared.Session.{Session}
+use Rattle.session.specs.Session.{Session}
 use Rattle.session.specs.Tables.{owed, stmtCount, cursorCount}
 use Rattle.karramotx.specs.declared.Counts.{Counts}
 

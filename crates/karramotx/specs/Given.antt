@@ -1,5 +1,5 @@
--- A scalar that a host gives as numbers (document 01, "Payload rules": Scalar types 1 to 8): a sint in two's complement, the bits
--- of a double or a float, a bool that is true for any number but 0. Octets and strings are all of the bytes handed in beside it.
+-- A scalar that a host gives as numbers (L8, W4, W6, C12): a sint in two's complement, the bits of a double or a float,
+-- a bool that is true for any number but 0. Octets and strings are all of the bytes handed in beside it.
 use Prim.Native.Nat.{ℕ, _^_}
 use mathlib.Core.Bool.{not, cond}
 use lib.Dec.{ltb, eqb}

@@ -1,5 +1,5 @@
 pub mod Counts
-pub mod InPlace
+pub mod Message
 pub mod Value
 pub mod ValueRules
 pub mod Given

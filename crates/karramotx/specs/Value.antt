@@ -1,4 +1,4 @@
--- An argument as numbers (document 01, "Payload rules": Scalar types 1 to 8; every bit of a double and a float is kept).
+-- An argument as numbers (A4, L8, W6).
 use Prim.Native.Nat.{ℕ}
 use mathlib.Core.Bool.{cond}
 use mir.Syntax.{w64}
@@ -20,7 +20,8 @@ placed kind start len = record { reason = 0; kind = kind; value = 0; start = sta
 abbrev pub refusedBy : ℕ → Value
 refusedBy reason = record { reason = reason; kind = 0; value = 0; start = 0; len = 0; next = 0 }
 
--- a double as its 64 bits, a float as its 32; a NaN has no bits here (no argument that is read is one: `DoubleNan` has its bits)
+-- a double as its 64 bits, a float as its 32; a NaN has no bits here (no argument that is read is one: `DoubleNan` has
+-- its bits)
 abbrev pub doubleValue : Float → Value
 doubleValue d = cond (isNan d) (refusedBy 6) (numbered 5 (toBits binary64 d))
 

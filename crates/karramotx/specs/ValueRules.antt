@@ -35,7 +35,7 @@ given s n =
     -- all else is refused
     (refusedBy 6))))
 
--- What a host gives is what a host is told. Of doubles and floats this is document 01's "every bit kept, NaNs too", and of those in
+-- What a host gives is what a host is told. Of doubles and floats every bit is kept, NaNs too (W6), and of those in
 -- frames as well: both are `doubleOf` and `floatOf` of the bits.
 abbrev pub GivenIsTold : Type 0
 GivenIsTold = (s : Scalar) (n : ℕ) → s .value < 2 ^ 64 → valueOf (givenArgument s n) ≡ given s n
@@ -44,7 +44,7 @@ GivenIsTold = (s : Scalar) (n : ℕ) → s .value < 2 ^ 64 → valueOf (givenArg
 abbrev pub SignedTold : Type 0
 SignedTold = (n : ℕ) → n < 2 ^ 64 → toZ w64 (valueOf (signedOf n) .value) ≡ unzigzag n
 
--- document 01's number by which the argument is refused, and its Scalar type
+-- the number by which the argument is refused, and its Scalar type (H9, A5, A6, L8)
 abbrev pub Told : Argument → Type 0
 Told a = (valueOf a .reason ≡ reasonOf a) × (valueOf a .kind ≡ typeOf a)
 

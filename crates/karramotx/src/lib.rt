@@ -1,35 +1,39 @@
-// The library for hosts in C and Rust: numbers, slices, `#[repr(C)]` structs and references to a session only. A
-// slice is passed as a pointer and a length, a reference as a pointer. Nothing is asked of a caller: a report
-// kind or a message type that is not listed is refused.
+// The library for hosts in C and Rust: numbers, slices, `#[repr(C)]` structs and references to a session's words only.
+// A slice is passed as a pointer and a length, a reference as a pointer. Nothing is asked of a caller: every bit
+// pattern is a session, and a report kind or a message type that is not listed is refused.
 ghost use mathlib.Core.Path.{_≡_};
 ghost use lib.ListN.{length};
 ghost use Rattle.args.specs.Arguments.{nextArgument};
 ghost use Rattle.args_writer.specs.Append.{appendedOf, leftBy};
 ghost use Rattle.streams.specs.Reader.{nextOf, pushOf, startOver, storeSize};
-ghost use Rattle.message.specs.Frame.{argumentOf, messageOf};
-ghost use Rattle.rules.specs.Step.{lookAt, stepOf};
+ghost use Rattle.message.specs.Frame.{argumentOf, frameOf, partOf};
+ghost use Rattle.history.specs.Calls.{Contract, call};
+ghost use Rattle.rules.specs.Step.{lookAt};
 ghost use Rattle.session.specs.Tables.{fresh};
+ghost use Rattle.session.specs.Words.{sessionOf};
 ghost use Rattle.writer.specs.Write.{leftOf, sentOf};
 ghost use Rattle.karramotx.specs.Counts.{countsOf};
 ghost use Rattle.karramotx.specs.Given.{givenArgument};
-ghost use Rattle.karramotx.specs.InPlace.{InPlace};
+ghost use Rattle.karramotx.specs.Message.{messageOf};
 ghost use Rattle.karramotx.specs.Value.{nextValueOf, valueOf};
 use args::part::Part;
 use given::Scalar;
-use message::message::Message;
 use rules::Answer;
 use rules::Look;
 use rules::Report;
 use session::Session;
+use session::WORDS;
 use streams::NextFrame;
 use streams::Pushed;
 use streams::Reader;
 use streams::STORE;
+use told::Message;
 use value::Value;
 use writer::Draft;
 use writer::Sent;
 
 pub mod given;
+pub mod told;
 pub mod value;
 
 // The live statements, the live cursors, and the rows that these have still to send.
@@ -43,7 +47,7 @@ pub struct Counts {
 // A session with nothing in it.
 #[no_mangle]
 pub extern "C" fn karramotx_fresh() -> Session
-    ensures { λ r. ⌜ r ≡ fresh ⌝ }
+    ensures { λ r. ⌜ sessionOf (r .words) ≡ fresh ⌝ }
 {
     Session::fresh()
 }
@@ -51,33 +55,34 @@ pub extern "C" fn karramotx_fresh() -> Session
 // What the frame means by itself. Its arguments lie from `args.start` to `args.end`.
 #[no_mangle]
 pub extern "C" fn karramotx_read(frame: &[u8]) -> Message
-    ensures { λ r. ⌜ r ≡ messageOf (now (frame .entry)) ⌝ }
+    ensures { λ r. ⌜ r ≡ messageOf (frameOf (now (frame .entry))) ⌝ }
 {
-    message::frame::read_message(frame)
+    told::message_of(message::frame::read_frame(frame))
 }
 
 // A refusal, or the work that the frame wants of the engine. The host's own session is only read.
 #[no_mangle]
-pub extern "C" fn karramotx_look(session: &Session, frame: &[u8]) -> Look
-    ensures { λ r. ⌜ r ≡ lookAt (now (session .entry)) (now (frame .entry)) ⌝ }
+pub extern "C" fn karramotx_look(session: &[u32; WORDS], frame: &[u8]) -> Look
+    ensures { λ r. ⌜ r ≡ lookAt (sessionOf (now (session .entry))) (now (frame .entry)) ⌝ }
 {
-    keeper::look(*session, frame)
+    keeper::look::look(session, frame)
 }
 
-// The step on the host's own session, in place: the session behind the reference becomes the one after the
-// step, the reply stands at the front of `reply`, and the answer comes back.
+// The step on the host's own session, in place: its words become those of the session after the step, the reply stands
+// at the front of `reply`, and the answer comes back.
 #[no_mangle]
 pub extern "C" fn karramotx_step(
-    session: &mut Session,
+    session: &mut [u32; WORDS],
     frame: &[u8],
     report: Report,
     reply: &mut [u8],
 ) -> Answer
-    ensures { λ r. ⌜ InPlace (stepOf (now (session .entry)) (now (frame .entry)) report (now (reply .entry))) (now (session .exit)) r (now (reply .exit)) ⌝ }
+    ensures { λ r. ⌜
+        Contract (now (session .entry))
+        (call (now (frame .entry)) report (now (reply .entry)) r (now (session .exit)) (now (reply .exit)))
+        ⌝ }
 {
-    let stepped = keeper::step(*session, frame, report, reply);
-    *session = stepped.session;
-    stepped.answer
+    keeper::step::step(session, frame, report, reply)
 }
 
 // A reader of arrivals that holds nothing.
@@ -127,16 +132,18 @@ pub extern "C" fn karramotx_next_argument(s: &[u8], at: usize) -> Value
 // Where the chosen body lies in the frame; 0 and 0 where there is none.
 #[no_mangle]
 pub extern "C" fn karramotx_body(frame: &[u8]) -> Part
-    ensures { λ r. ⌜ r ≡ messageOf (now (frame .entry)) .body ⌝ }
+    ensures { λ r. ⌜ r ≡ partOf (frameOf (now (frame .entry))) ⌝ }
 {
-    let m = message::frame::read_message(frame);
-    m.body
+    message::frame::chosen_part(frame)
 }
 
 // The draft as a frame at the front of `buf`.
 #[no_mangle]
 pub extern "C" fn karramotx_write(draft: Draft, body: &[u8], args: &[u8], buf: &mut [u8]) -> Sent
-    ensures { λ r. ⌜ (r ≡ sentOf draft (now (body .entry)) (now (args .entry)) (length (now (buf .entry)))) × (now (buf .exit) ≡ leftOf draft (now (body .entry)) (now (args .entry)) (now (buf .entry))) ⌝ }
+    ensures { λ r. ⌜
+        (r ≡ sentOf draft (now (body .entry)) (now (args .entry)) (length (now (buf .entry))))
+        × (now (buf .exit) ≡ leftOf draft (now (body .entry)) (now (args .entry)) (now (buf .entry)))
+        ⌝ }
 {
     writer::write_message(draft, body, args, buf)
 }
@@ -145,27 +152,26 @@ pub extern "C" fn karramotx_write(draft: Draft, body: &[u8], args: &[u8], buf: &
 // other scalars ignore them.
 #[no_mangle]
 pub extern "C" fn karramotx_append(scalar: Scalar, bytes: &[u8], buf: &mut [u8], at: usize) -> Sent
-    ensures { λ r. ⌜ (r ≡ appendedOf (givenArgument scalar (length (now (bytes .entry)))) (now (bytes .entry)) (length (now (buf .entry))) at) × (now (buf .exit) ≡ leftBy (givenArgument scalar (length (now (bytes .entry)))) (now (bytes .entry)) (now (buf .entry)) at) ⌝ }
+    ensures { λ r. ⌜
+        (r
+        ≡ appendedOf (givenArgument scalar (length (now (bytes .entry)))) (now (bytes .entry))
+        (length (now (buf .entry))) at)
+        × (now (buf .exit)
+        ≡ leftBy (givenArgument scalar (length (now (bytes .entry)))) (now (bytes .entry)) (now (buf .entry)) at)
+        ⌝ }
 {
     let a = given::argument_of(scalar, bytes.len());
     args_writer::append_argument(a, bytes, buf, at)
 }
 
-// What a session holds and owes.
-fn counts_of(session: Session) -> Counts
-    ensures { λ r. ⌜ r ≡ countsOf session ⌝ }
-{
-    Counts {
-        stmts: session.stmt_count(),
-        cursors: session.cursor_count(),
-        owed: session.owed(),
-    }
-}
-
 // What the host's own session holds and owes.
 #[no_mangle]
-pub extern "C" fn karramotx_counts(session: &Session) -> Counts
-    ensures { λ r. ⌜ r ≡ countsOf (now (session .entry)) ⌝ }
+pub extern "C" fn karramotx_counts(session: &[u32; WORDS]) -> Counts
+    ensures { λ r. ⌜ r ≡ countsOf (sessionOf (now (session .entry))) ⌝ }
 {
-    counts_of(*session)
+    Counts {
+        stmts: session::count::stmt_count(session),
+        cursors: session::count::cursor_count(session),
+        owed: session::count::owed(session),
+    }
 }

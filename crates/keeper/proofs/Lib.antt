@@ -1,4 +1,7 @@
+pub mod AnswerLaws
 pub mod ReasonLaws
 pub mod RowsLaws
-pub mod DecisionLaws
 pub mod StepLaws
+pub mod RequestLaws
+pub mod FrameLaws
+pub mod LookLaws

@@ -1,279 +1,217 @@
--- The refusals of a look and of a report, case by case. Assumes nothing.
+-- The refusals of a request and of an engine report, case by case. Assumes nothing.
 use Prim.Native.Nat.{ℕ, _≤_, _<_}
-use mathlib.Core.Bool.{Bool, true, false, not, cond, _&&_, _||_}
-use mathlib.Core.Path.{_≡_, refl, sym, ap, _∙_}
+use mathlib.Core.Bool.{Bool, true, false, not, cond, _&&_}
+use mathlib.Core.Path.{_≡_, refl, ap, _∙_}
 use mathlib.Core.List.{[], _∷_}
 use lib.Dec.{eqb, ltb, leb}
 use borrow.Author.Tests.{eq-eqb, ne-eqb, lt-ltb, le-ltb, le-leb, lt-leb}
+use Rattle.protocol.specs.Reason as Reason
 use Rattle.args.specs.declared.arguments.Arguments.{Arguments}
 use Rattle.args.proofs.PartLaws.{yes, no as without}
-use Rattle.message.specs.declared.message.Message.{Message}
-use Rattle.session.specs.declared.Session.{Session}
+use Rattle.message.specs.declared.request.Execute.{Execute}
+use Rattle.message.specs.declared.request.Open.{Open}
+use Rattle.message.specs.declared.request.Request.{Request}
+use Rattle.session.specs.Session.{Session, flag}
 use Rattle.session.specs.declared.Stmt.{Stmt}
 use Rattle.session.specs.declared.Cursor.{Cursor}
-use Rattle.session.specs.Tables.{liveStmt, liveCursor, carried, stmtPlace, cursorPlace}
+use Rattle.session.specs.declared.Place.{Place}
+use Rattle.session.specs.Lists.{entryAt}
+use Rattle.session.specs.Entry.{noStmt, noCursor, isLiveStmt, isLiveCursor}
+use Rattle.session.specs.Sound.{maxNumber, maxPlaceholders}
+use Rattle.session.specs.Tables.{stmtAt, cursorOn, liveStmt, carried, cursorPlace}
 use Rattle.rules.specs.declared.Report.{Report}
-use Rattle.rules.specs.Kind.{wanted, within, fails, suits, workOf, works}
-use Rattle.rules.specs.Refusal.{refusal, firstOf, noPlace, unread, unsound, lookReason, reportReason, stepReason}
-use Rattle.keeper.specs.Reason.{bindingReason, fetchReason, other, openTests, orElse, openReason, tableReason}
+use Rattle.rules.specs.Report.{prepared, result, failed, maxColumns, fails, isPrepared, isResult}
+use Rattle.rules.specs.Refusal.{refusal, firstOf, noPlace}
+use Rattle.keeper.specs.private.Reasons.{bindingReason, cursorReason, fetchReason, requestReason}
+use Rattle.keeper.specs.private.Reasons.{orElse, unless, consulted}
 
--- ---- a statement, a cursor
+-- ---- two refusals, a flag
+
+pub or-else-first : (first next : ℕ) → (first ≡ Reason.accepted → ⊥) → first ≡ orElse first next
+or-else-first first next h = without next first (ne-eqb first Reason.accepted h)
+
+pub or-else-next : (first next : ℕ) → first ≡ Reason.accepted → next ≡ orElse first next
+or-else-next first next h = yes next first (eq-eqb first Reason.accepted h)
+
+pub dead : (live reason : ℕ) → live ≡ 0 → reason ≡ unless (flag live) reason
+dead live reason e = rw e
+
+pub alive : (live reason : ℕ) → (live ≡ 0 → ⊥) → Reason.accepted ≡ unless (flag live) reason
+alive live reason h = rw (ne-eqb live 0 h)
+
+-- ---- a statement that arguments are bound to
 
 module _ (t : Stmt) (a : Arguments) where
-  pub binding-dead : t .live ≡ false → 7 ≡ bindingReason t a
+  pub binding-dead : t .live ≡ 0 → Reason.noStmt ≡ bindingReason t a
   unfolding bindingReason
   binding-dead e = rw e
 
-  pub binding-kind : t .live ≡ true → (a .kind ≡ 0 → ⊥) → 8 ≡ bindingReason t a
-  unfolding bindingReason
-  binding-kind e k = rw (e, ne-eqb (a .kind) 0 k)
+  module _ (live : t .live ≡ 0 → ⊥) where
+    pub binding-kind : (a .kind ≡ 0 → ⊥) → Reason.notScalar ≡ bindingReason t a
+    unfolding bindingReason
+    binding-kind k = rw (ne-eqb (t .live) 0 live, ne-eqb (a .kind) 0 k)
 
-  pub binding-few : t .live ≡ true → a .kind ≡ 0 → a .count < t .placeholders → 9 ≡ bindingReason t a
-  unfolding bindingReason
-  binding-few e k h = rw (e, k, lt-ltb (a .count) (t .placeholders) h)
+    pub binding-few : a .kind ≡ 0 → a .count < t .placeholders → Reason.fewArguments ≡ bindingReason t a
+    unfolding bindingReason
+    binding-few k h = rw (ne-eqb (t .live) 0 live, k, lt-ltb (a .count) (t .placeholders) h)
 
-  pub binding-right : t .live ≡ true → a .kind ≡ 0 → t .placeholders ≤ a .count → 0 ≡ bindingReason t a
-  unfolding bindingReason
-  binding-right e k h = rw (e, k, le-ltb (a .count) (t .placeholders) h)
+    pub binding-right : a .kind ≡ 0 → t .placeholders ≤ a .count → Reason.accepted ≡ bindingReason t a
+    unfolding bindingReason
+    binding-right k h = rw (ne-eqb (t .live) 0 live, k, le-ltb (a .count) (t .placeholders) h)
+
+-- ---- a cursor to open, a cursor that is to send rows
+
+module _ (id : ℕ) (c : Cursor) (place : Place) where
+  pub opening-other : (c .live ≡ 0 → ⊥) → (c .id ≡ id → ⊥) → Reason.otherCursor ≡ cursorReason id c place
+  unfolding cursorReason
+  opening-other live h = rw (ne-eqb (c .live) 0 live, ne-eqb (c .id) id h)
+
+  -- no other cursor is carried: the place decides
+  opening-by : (isLiveCursor c && not (eqb (c .id) id)) ≡ false →
+      unless (not (noPlace place)) Reason.cursorsFull ≡ cursorReason id c place
+  unfolding cursorReason
+  opening-by e = turn (noPlace place) ∙ without Reason.otherCursor _ e
+    where
+      turn : (full : Bool) → unless (not full) Reason.cursorsFull ≡ cond full Reason.cursorsFull Reason.accepted
+      turn true = refl
+      turn false = refl
+
+  pub opening-none : c .live ≡ 0 → unless (not (noPlace place)) Reason.cursorsFull ≡ cursorReason id c place
+  opening-none e = opening-by (rw e)
+
+  pub opening-same : c .id ≡ id → unless (not (noPlace place)) Reason.cursorsFull ≡ cursorReason id c place
+  opening-same e = opening-by (rw (eq-eqb (c .id) id e) (go (isLiveCursor c)))
+    where
+      go : (b : Bool) → (b && false) ≡ false
+      go true = refl
+      go false = refl
 
 module _ (c : Cursor) where
-  pub fetch-dead : c .live ≡ false → 10 ≡ fetchReason c
+  pub fetch-dead : c .live ≡ 0 → Reason.noCursor ≡ fetchReason c
   unfolding fetchReason
   fetch-dead e = rw e
 
-  pub fetch-sent : c .live ≡ true → c .rows ≤ c .sent → 11 ≡ fetchReason c
-  unfolding fetchReason
-  fetch-sent e h = rw (e, le-leb (c .rows) (c .sent) h)
+  module _ (live : c .live ≡ 0 → ⊥) where
+    pub fetch-sent : c .rows ≤ c .sent → Reason.allSent ≡ fetchReason c
+    unfolding fetchReason
+    fetch-sent h = rw (ne-eqb (c .live) 0 live, le-leb (c .rows) (c .sent) h)
 
-  pub fetch-more : c .live ≡ true → c .sent < c .rows → 0 ≡ fetchReason c
-  unfolding fetchReason
-  fetch-more e h = rw (e, lt-leb (c .rows) (c .sent) h)
+    pub fetch-more : c .sent < c .rows → Reason.accepted ≡ fetchReason c
+    unfolding fetchReason
+    fetch-more h = rw (ne-eqb (c .live) 0 live, lt-leb (c .rows) (c .sent) h)
 
-pub or-else-this : (reason next : ℕ) → (reason ≡ 0 → ⊥) → reason ≡ orElse reason next
-or-else-this reason next h = without next reason (ne-eqb reason 0 h)
+-- ---- an Execute, an Open
 
-pub or-else-next : (reason next : ℕ) → reason ≡ 0 → next ≡ orElse reason next
-or-else-next reason next h = yes next reason (eq-eqb reason 0 h)
+-- the statement that was looked up: where it stands, and what stands there
+module _ (s : Session) (x : Execute) (place : Place) (t : Stmt) (n : ℕ) (p : place ≡ stmtAt s (x .stmt))
+    (e : t ≡ entryAt (s .stmts) place noStmt) (h : n ≡ bindingReason t (x .args)) where
+  bound : n ≡ bindingReason (liveStmt s (x .stmt)) (x .args)
+  bound =
+      h
+      ∙ ap (λ (y : Stmt). bindingReason y (x .args)) (e ∙ ap (λ (k : Place). entryAt (s .stmts) k noStmt) p)
 
--- ---- an Open
+  pub execute-bound : n ≡ requestReason s (Request.Execute x)
+  unfolding requestReason bindingReason
+  execute-bound = bound
 
-module _ (s : Session) (m : Message) where
-  abbrev carrying : Bool
-  carrying = other (m .cursor) (carried s (m .stmt))
-
-  abbrev full : Bool
-  full = noPlace (cursorPlace s (m .cursor))
-
-  pub open-binding : (n : ℕ) → n ≡ bindingReason (liveStmt s (m .stmt)) (m .args) → (n ≡ 0 → ⊥) → n ≡ openReason s m
-  unfolding openReason
-  open-binding n e h = or-else-this n (firstOf (openTests s m)) h ∙ ap (λ (k : ℕ). orElse k (firstOf (openTests s m))) e
-
-  open-bound : (n : ℕ) → n ≡ bindingReason (liveStmt s (m .stmt)) (m .args) → n ≡ 0 → firstOf (openTests s m) ≡ openReason s m
-  unfolding openReason
-  open-bound n e h = or-else-next n (firstOf (openTests s m)) h ∙ ap (λ (k : ℕ). orElse k (firstOf (openTests s m))) e
-
-  pub open-other : (n : ℕ) → n ≡ bindingReason (liveStmt s (m .stmt)) (m .args) → n ≡ 0 → carrying ≡ true → 12 ≡ openReason s m
-  open-other n e h o = yes 12 (firstOf (refusal 14 full ∷ [])) o ∙ open-bound n e h
-
-  pub open-full : (n : ℕ) → n ≡ bindingReason (liveStmt s (m .stmt)) (m .args) → n ≡ 0 → carrying ≡ false → cond full 14 0 ≡ openReason s m
-  open-full n e h o = without 12 (firstOf (refusal 14 full ∷ [])) o ∙ open-bound n e h
-
--- ---- the tables, by the message
-
-module _ (s : Session) (m : Message) where
-  pub table-prepare : m .kind ≡ 40 → cond (noPlace (stmtPlace s (m .stmt))) 13 0 ≡ tableReason s m
-  unfolding tableReason
-  table-prepare e = rw e
-
-  pub table-execute : m .kind ≡ 41 → bindingReason (liveStmt s (m .stmt)) (m .args) ≡ tableReason s m
-  unfolding tableReason bindingReason
-  table-execute e = rw e
-
-  pub table-deallocate : m .kind ≡ 42 → cond (not (liveStmt s (m .stmt) .live)) 7 0 ≡ tableReason s m
-  unfolding tableReason
-  table-deallocate e = rw e
-
-  pub table-close : m .kind ≡ 44 → cond (not (liveCursor s (m .cursor) .live)) 10 0 ≡ tableReason s m
-  unfolding tableReason
-  table-close e = rw e
-
-  pub table-fetch : m .kind ≡ 45 → fetchReason (liveCursor s (m .cursor)) ≡ tableReason s m
-  unfolding tableReason fetchReason
-  table-fetch e = rw e
-
-  pub table-none : (m .kind ≡ 40 → ⊥) → (m .kind ≡ 41 → ⊥) → (m .kind ≡ 42 → ⊥) → (m .kind ≡ 43 → ⊥) → (m .kind ≡ 44 → ⊥) →
-      (m .kind ≡ 45 → ⊥) → 0 ≡ tableReason s m
-  unfolding tableReason
-  table-none a b c d e f =
-      sym (rw (
-        ne-eqb (m .kind) 40 a,
-        ne-eqb (m .kind) 41 b,
-        ne-eqb (m .kind) 42 c,
-        ne-eqb (m .kind) 43 d,
-        ne-eqb (m .kind) 44 e,
-        ne-eqb (m .kind) 45 f,
-      ))
-
--- the first of four tests that holds, then one of two more, or the first of all six
+-- the first of three tests that holds, else of two more, is the first of all five
 first-split : (a b c d e : Bool) →
-    orElse (firstOf (refusal 7 a ∷ refusal 8 b ∷ refusal 9 c ∷ [])) (firstOf (refusal 12 d ∷ refusal 14 e ∷ []))
-    ≡ firstOf (refusal 7 a ∷ refusal 8 b ∷ refusal 9 c ∷ refusal 12 d ∷ refusal 14 e ∷ [])
+    orElse
+    (firstOf (refusal Reason.noStmt a ∷ refusal Reason.notScalar b ∷ refusal Reason.fewArguments c ∷ []))
+    (firstOf (refusal Reason.otherCursor d ∷ refusal Reason.cursorsFull e ∷ []))
+    ≡ firstOf
+    (refusal Reason.noStmt a
+    ∷ refusal Reason.notScalar b
+    ∷ refusal Reason.fewArguments c
+    ∷ refusal Reason.otherCursor d
+    ∷ refusal Reason.cursorsFull e
+    ∷ [])
 first-split true b c d e = refl
 first-split false true c d e = refl
 first-split false false true d e = refl
 first-split false false false d e = refl
 
-pub table-open : (s : Session) (m : Message) → m .kind ≡ 43 → openReason s m ≡ tableReason s m
-unfolding openReason bindingReason tableReason
-table-open s m e =
-    first-split (not (liveStmt s (m .stmt) .live)) (not (eqb (m .args .kind) 0)) (ltb (m .args .count) (liveStmt s (m .stmt) .placeholders))
-    (carrying s m) (full s m)
-    ∙ sym (rw e)
+module _ (s : Session) (o : Open) where
+  abbrev bindingOf : ℕ
+  bindingOf = bindingReason (liveStmt s (o .execute .stmt)) (o .execute .args)
 
--- ---- the look
+  abbrev openingOf : ℕ
+  openingOf = cursorReason (o .cursor) (carried s (o .execute .stmt)) (cursorPlace s (o .cursor))
 
-module _ (s : Session) (m : Message) where
-  abbrev lookFrom : Bool → Bool → ℕ → ℕ
-  lookFrom closed sound next = cond closed 4 (cond sound (m .reason) next)
+  open-split : orElse bindingOf openingOf ≡ requestReason s (Request.Open o)
+  unfolding requestReason bindingReason cursorReason
+  open-split =
+      let t = liveStmt s (o .execute .stmt) in
+      let c = carried s (o .execute .stmt) in
+      first-split
+      (not (isLiveStmt t))
+      (not (eqb (o .execute .args .kind) 0))
+      (ltb (o .execute .args .count) (t .placeholders))
+      (isLiveCursor c && not (eqb (c .id) (o .cursor)))
+      (noPlace (cursorPlace s (o .cursor)))
 
-  pub look-unread : (n : ℕ) → unread m ≡ true → m .reason ≡ n → n ≡ lookReason s m
-  unfolding lookReason
-  look-unread n u e = sym e ∙ yes (m .reason) _ u
+module _ (s : Session) (o : Open) (place : Place) (t : Stmt) (n : ℕ) (p : place ≡ stmtAt s (o .execute .stmt))
+    (e : t ≡ entryAt (s .stmts) place noStmt) (h : n ≡ bindingReason t (o .execute .args)) where
+  open-from : orElse n (openingOf s o) ≡ requestReason s (Request.Open o)
+  open-from = ap (λ (k : ℕ). orElse k (openingOf s o)) (bound s (o .execute) place t n p e h) ∙ open-split s o
 
-  pub look-one : m .reason ≡ 1 → 1 ≡ lookReason s m
-  look-one e = look-unread 1 (rw e) e
+  pub open-bound : (n ≡ Reason.accepted → ⊥) → n ≡ requestReason s (Request.Open o)
+  open-bound r = or-else-first n (openingOf s o) r ∙ open-from
 
-  pub look-two : m .reason ≡ 2 → 2 ≡ lookReason s m
-  look-two e = look-unread 2 (rw e) e
+  -- the cursor that the statement carries, and the place that the new one takes
+  pub open-carried : n ≡ Reason.accepted → (on taken : Place) (c : Cursor) (m : ℕ) →
+      on ≡ cursorOn s (o .execute .stmt) → c ≡ entryAt (s .cursors) on noCursor →
+      taken ≡ cursorPlace s (o .cursor) → m ≡ cursorReason (o .cursor) c taken →
+      m ≡ requestReason s (Request.Open o)
+  open-carried r on taken c m q f g l =
+      l
+      ∙ ap (λ (y : Cursor). cursorReason (o .cursor) y taken)
+      (f ∙ ap (λ (k : Place). entryAt (s .cursors) k noCursor) q)
+      ∙ ap (cursorReason (o .cursor) (carried s (o .execute .stmt))) g
+      ∙ or-else-next n (openingOf s o) r
+      ∙ open-from
 
-  look-read : unread m ≡ false → lookFrom (s .closed) (unsound m) (tableReason s m) ≡ lookReason s m
-  unfolding lookReason tableReason
-  look-read u = without (m .reason) (lookFrom (s .closed) (unsound m) (tableReason s m)) u
-
-  read-on : (m .reason ≡ 1 → ⊥) → (m .reason ≡ 2 → ⊥) → unread m ≡ false
-  read-on a b = rw (ne-eqb (m .reason) 1 a, ne-eqb (m .reason) 2 b)
-
-  module _ (a : m .reason ≡ 1 → ⊥) (b : m .reason ≡ 2 → ⊥) where
-    pub look-closed : s .closed ≡ true → 4 ≡ lookReason s m
-    look-closed c = yes 4 (cond (unsound m) (m .reason) (tableReason s m)) c ∙ look-read (read-on a b)
-
-    pub look-unsound : s .closed ≡ false → (m .reason ≡ 0 → ⊥) → m .reason ≡ lookReason s m
-    look-unsound c u =
-        yes (m .reason) (tableReason s m) (ap not (ne-eqb (m .reason) 0 u))
-        ∙ without 4 (cond (unsound m) (m .reason) (tableReason s m)) c
-        ∙ look-read (read-on a b)
-
-    pub look-tables : s .closed ≡ false → m .reason ≡ 0 → tableReason s m ≡ lookReason s m
-    look-tables c u =
-        without (m .reason) (tableReason s m) (ap not (eq-eqb (m .reason) 0 u))
-        ∙ without 4 (cond (unsound m) (m .reason) (tableReason s m)) c
-        ∙ look-read (read-on a b)
-
--- ---- the report
-
-module _ (m : Message) where
-  pub wants-prepared : m .kind ≡ 40 → 1 ≡ wanted m
-  wants-prepared e = rw e
-
-  pub wants-done : m .kind ≡ 45 → 3 ≡ wanted m
-  wants-done e = rw e
-
-  pub wants-result : (m .kind ≡ 40 → ⊥) → (m .kind ≡ 45 → ⊥) → 2 ≡ wanted m
-  wants-result a b = rw (ne-eqb (m .kind) 40 a, ne-eqb (m .kind) 45 b)
-
-  pub work-prepare : m .kind ≡ 40 → 1 ≡ workOf m
-  work-prepare e = rw e
-
-  pub work-execute : m .kind ≡ 41 → 2 ≡ workOf m
-  work-execute e = rw e
-
-  pub work-open : m .kind ≡ 43 → 3 ≡ workOf m
-  work-open e = rw e
-
-  pub work-fetch : m .kind ≡ 45 → 4 ≡ workOf m
-  work-fetch e = rw e
-
-  pub work-none : (m .kind ≡ 40 → ⊥) → (m .kind ≡ 41 → ⊥) → (m .kind ≡ 43 → ⊥) → (m .kind ≡ 45 → ⊥) → 0 ≡ workOf m
-  work-none a b c d = rw (ne-eqb (m .kind) 40 a, ne-eqb (m .kind) 41 b, ne-eqb (m .kind) 43 c, ne-eqb (m .kind) 45 d)
+-- ---- an engine report
 
 module _ (r : Report) where
-  pub fails-not : (r .kind ≡ 4 → ⊥) → false ≡ fails r
-  fails-not h = rw (ne-eqb (r .kind) 4 h)
+  pub fails-not : (r .kind ≡ failed → ⊥) → false ≡ fails r
+  fails-not h = rw (ne-eqb (r .kind) failed h)
 
-  pub fails-zero : r .kind ≡ 4 → r .a ≡ 0 → false ≡ fails r
+  pub fails-zero : r .kind ≡ failed → r .code ≡ 0 → false ≡ fails r
   fails-zero k h = rw (k, h)
 
-  pub fails-code : r .kind ≡ 4 → (r .a ≡ 0 → ⊥) → leb (r .a) 4294967295 ≡ fails r
-  fails-code k h = rw (k, ne-eqb (r .a) 0 h)
+  pub fails-code : r .kind ≡ failed → (r .code ≡ 0 → ⊥) → leb (r .code) maxNumber ≡ fails r
+  fails-code k h = rw (k, ne-eqb (r .code) 0 h)
 
-  pub within-prepared : r .kind ≡ 1 → leb (r .a) 65535 ≡ within r
-  within-prepared k = rw k
+  pub prepared-not : (r .kind ≡ prepared → ⊥) → false ≡ isPrepared r
+  prepared-not h = rw (ne-eqb (r .kind) prepared h)
 
-  pub within-result : r .kind ≡ 2 → (leb (r .a) 4096 && leb (r .b) 4294967295 && (not (eqb (r .a) 0) || eqb (r .b) 0)) ≡ within r
-  within-result k = rw k
+  pub prepared-limit : r .kind ≡ prepared → leb (r .placeholders) maxPlaceholders ≡ isPrepared r
+  prepared-limit k = rw k
 
-  pub within-other : (r .kind ≡ 1 → ⊥) → (r .kind ≡ 2 → ⊥) → eqb (r .kind) 3 ≡ within r
-  within-other a b = rw (ne-eqb (r .kind) 1 a, ne-eqb (r .kind) 2 b)
+  pub result-not : (r .kind ≡ result → ⊥) → false ≡ isResult r
+  result-not h = rw (ne-eqb (r .kind) result h)
 
-module _ (a b : ℕ) where
-  abbrev limits : Bool
-  limits = leb a 4096 && leb b 4294967295 && (not (eqb a 0) || eqb b 0)
+  module _ (k : r .kind ≡ result) where
+    pub result-wide : maxColumns < r .columns → false ≡ isResult r
+    result-wide h = rw (k, lt-leb (r .columns) maxColumns h)
 
-  pub limits-columns : 4096 < a → false ≡ limits
-  limits-columns h = rw (lt-leb a 4096 h)
+    pub result-long : r .columns ≤ maxColumns → maxNumber < r .rows → false ≡ isResult r
+    result-long h g = rw (k, le-leb (r .columns) maxColumns h, lt-leb (r .rows) maxNumber g)
 
-  pub limits-rows : a ≤ 4096 → 4294967295 < b → false ≡ limits
-  limits-rows h g = rw (le-leb a 4096 h, lt-leb b 4294967295 g)
+    pub result-some : r .columns ≤ maxColumns → r .rows ≤ maxNumber → (r .columns ≡ 0 → ⊥) → true ≡ isResult r
+    result-some h g e =
+        rw (k, le-leb (r .columns) maxColumns h, le-leb (r .rows) maxNumber g, ne-eqb (r .columns) 0 e)
 
-  pub limits-some : a ≤ 4096 → b ≤ 4294967295 → (a ≡ 0 → ⊥) → true ≡ limits
-  limits-some h g k = rw (le-leb a 4096 h, le-leb b 4294967295 g, ne-eqb a 0 k)
+    pub result-none : r .rows ≤ maxNumber → r .columns ≡ 0 → eqb (r .rows) 0 ≡ isResult r
+    result-none g e = rw (k, e, le-leb (r .rows) maxNumber g)
 
-  pub limits-none : b ≤ 4294967295 → a ≡ 0 → eqb b 0 ≡ limits
-  limits-none g k = rw (k, le-leb b 4294967295 g)
+pub report-failed : (suits fails : Bool) → fails ≡ true → Reason.engineFailed ≡ consulted suits fails
+report-failed true fails f = rw f
+report-failed false fails f = rw f
 
-module _ (m : Message) (r : Report) where
-  pub suits-not : (w : ℕ) → w ≡ wanted m → (r .kind ≡ w → ⊥) → false ≡ suits m r
-  suits-not w e h = rw (ne-eqb (r .kind) (wanted m) (λ q. h (q ∙ sym e)))
+pub report-suited : (suits fails : Bool) → fails ≡ false → suits ≡ true → Reason.accepted ≡ consulted suits fails
+report-suited suits fails f g = rw (f, g)
 
-  pub suits-kind : (w : ℕ) → w ≡ wanted m → r .kind ≡ w → within r ≡ suits m r
-  suits-kind w e h = rw (eq-eqb (r .kind) (wanted m) (h ∙ e))
-
-  abbrev reasonFrom : Bool → Bool → Bool → ℕ
-  reasonFrom w a b = firstOf (refusal 15 (w && not (a || b)) ∷ refusal 16 (w && b) ∷ [])
-
-  from-fails : (w a b : Bool) → w ≡ true → b ≡ true → 16 ≡ reasonFrom w a b
-  from-fails w true b e f = rw (e, f)
-  from-fails w false b e f = rw (e, f)
-
-  pub report-none : (w : ℕ) → w ≡ workOf m → w ≡ 0 → 0 ≡ reportReason m r
-  unfolding reportReason
-  report-none w e h = ap (λ (b : Bool). reasonFrom (not b) (suits m r) (fails r)) (sym (eq-eqb (workOf m) 0 (sym e ∙ h)))
-
-  module _ (w : ℕ) (e : w ≡ workOf m) (h : w ≡ 0 → ⊥) where
-    working : works m ≡ true
-    working = ap not (ne-eqb (workOf m) 0 (λ q. h (e ∙ q)))
-
-    pub report-failed : fails r ≡ true → 16 ≡ reportReason m r
-    unfolding reportReason
-    report-failed f = from-fails (works m) (suits m r) (fails r) working f
-
-    pub report-suited : fails r ≡ false → suits m r ≡ true → 0 ≡ reportReason m r
-    unfolding reportReason
-    report-suited f g = go (works m) (suits m r) (fails r) working g f
-      where
-        go : (w a b : Bool) → w ≡ true → a ≡ true → b ≡ false → 0 ≡ reasonFrom w a b
-        go w a b p q o = rw (p, q, o)
-
-    pub report-wrong : fails r ≡ false → suits m r ≡ false → 15 ≡ reportReason m r
-    unfolding reportReason
-    report-wrong f g = go (works m) (suits m r) (fails r) working g f
-      where
-        go : (w a b : Bool) → w ≡ true → a ≡ false → b ≡ false → 15 ≡ reasonFrom w a b
-        go w a b p q o = rw (p, q, o)
-
--- ---- the step
-
--- of a step: what the look refuses, then the report
-pub reason-is : (s : Session) (m : Message) (r : Report) (looked n : ℕ) → looked ≡ lookReason s m →
-    n ≡ cond (eqb looked 0) (reportReason m r) looked → n ≡ stepReason s m r
-reason-is s m r looked n e f = f ∙ ap (λ (x : ℕ). cond (eqb x 0) (reportReason m r) x) e
+pub report-wrong : (suits fails : Bool) → fails ≡ false → suits ≡ false → Reason.badReport ≡ consulted suits fails
+report-wrong suits fails f g = rw (f, g)

@@ -1,132 +1,158 @@
--- A look and a step on a frame, case by case. Assumes nothing.
-use Prim.Native.Nat.{ℕ, _+_, _≤_}
+-- A step on a request that is ready: refused with its Error, or accepted with what it sends and the session after it.
+-- Assumes nothing.
+use Prim.Native.Nat.{ℕ, _≤_}
 use native.Mathlib.Nat.{le-trans}
 use native.Mathlib.Omega.{arith}
-use mathlib.Core.Bool.{Bool, true, false, cond}
-use mathlib.Core.Path.{_≡_, sym, ap, subst, _∙_}
-use mathlib.Core.List.{List, [], _++_}
-use lib.ListN.{length, take, drop}
-use lib.Dec.{eqb, ltb}
-use borrow.Author.Tests.{eq-eqb, ne-eqb, le-leb, ltb-false}
-use Rattle.varint.specs.declared.write.Put.{Put}
-use Rattle.varint.specs.Put.{putAt, written}
-use Rattle.args.proofs.PartLaws.{yes, no as without}
-use Rattle.layout.specs.Table.{fetch}
-use Rattle.message.specs.Frame.{messageOf}
-use Rattle.message.specs.declared.message.Message.{Message}
-use Rattle.session.specs.declared.Session.{Session}
-use Rattle.reply.specs.declared.Reply.{Reply}
+use mathlib.Core.Bool.{Bool, true, false, cond, not}
+use mathlib.Core.Path.{_≡_, refl, sym, ap, subst, _∙_}
+use mathlib.Core.List.{List}
+use lib.ListN.{length}
+use lib.Dec.{eqb, leb}
+use borrow.Author.Tests.{eqb-true, eq-eqb, ne-eqb, lt-leb, leb-true, leb-false, le-ltb}
+use Rattle.protocol.specs.Reason as Reason
+use Rattle.message.specs.declared.request.Request.{Request}
+use Rattle.message.specs.declared.request.Frame.{Frame}
+use Rattle.message.specs.declared.request.Frame.the-variants.{Good}
+use Rattle.session.specs.Session.{Session, isClosed}
+use Rattle.session.specs.Words.{sessionOf}
 use Rattle.reply.specs.Reply.{replyBytes}
+use Rattle.reply.specs.ReplyRules.{minBuffer}
+use Rattle.reply.specs.declared.Reply.{Reply}
+use Rattle.rules.specs.declared.Answer.{Answer}
 use Rattle.rules.specs.declared.Report.{Report}
-use Rattle.rules.specs.declared.Look.{Look}
-use Rattle.rules.specs.declared.Stepped.{Stepped}
-use Rattle.rules.specs.Kind.{isA, workOf}
-use Rattle.rules.specs.Refusal.{lookReason}
-use Rattle.rules.specs.Rows.{firstRow, fetchCount}
-use Rattle.rules.specs.Decision.{sessionAfter, decisionOf, lookBy, lookOf}
-use Rattle.rules.specs.Step.{Step, lookAt, minBuffer, tooShort, stepBy, stepOn, stepOf}
+use Rattle.rules.specs.Refusal.{firstOf, lookReason, reportTests, reportReason, stepReason}
 use Rattle.rules.specs.Read.{Read}
-use Rattle.rules.proofs.ReadLaws.{frames-are-read}
-use Rattle.keeper.specs.declared.decision.Verdict.{Verdict}
-use Rattle.keeper.specs.Rows.{placeBehind}
-use Rattle.keeper.specs.Verdict.{verdict, decidedOn, Decides}
-use Rattle.keeper.proofs.DecisionLaws.{verdict-fits, after-verdict}
+use Rattle.rules.specs.Decision.{Decision, sessionAfter, replyTo, named, namedKind, refusalOf, refusedReply, refused, accepted, decisionOf}
+use Rattle.rules.specs.Step.{Step, stepBy, stepOn}
+use Rattle.rules.proofs.RefusalLaws.{late-read}
+use Rattle.rules.proofs.StepLaws.{error-fits}
+use Rattle.rules.proofs.BufferLaws.{reply-fits}
+use Rattle.keeper.specs.declared.answer.Names.{Names}
+use Rattle.keeper.specs.declared.answer.Sends.{Sends}
+use Rattle.keeper.specs.private.Reasons.{requestReason, orElse}
+use Rattle.keeper.specs.private.Does.{Does, Answers, Readable, Ready, accepting, refusing, withLength, noNames, namesOf, numberOf, kindNamed, errorOf, sendsOf}
 
--- what is read of a frame
-pub is-read : (frame : List ℕ) (m : Message) → m ≡ messageOf frame → Read m
-is-read frame m e = subst Read (sym e) (frames-are-read frame)
+-- ---- with room, whatever the session
 
--- ---- a look
+module _ (s : Session) (used : ℕ) (q : Request) (r : Report) (b : List ℕ) (room : minBuffer ≤ length b) (read : Read q) where
+  abbrev x : Frame
+  x = Good used q
 
-module _ (s : Session) (frame : List ℕ) (m : Message) (e : m ≡ messageOf frame) (n : ℕ) (f : n ≡ lookReason s m) where
-  abbrev refusal : ℕ → Look
-  refusal reason = record { reason = reason; work = 0; first = 0; count = 0 }
+  abbrev reason : ℕ
+  reason = stepReason s x r
 
-  abbrev wanting : ℕ → ℕ → ℕ → Look
-  wanting work first count = record { reason = 0; work = work; first = first; count = count }
+  error-is : (n : ℕ) → Reply.Error (refusalOf x r n) ≡ Reply.Error (errorOf n (namesOf q) r)
+  unfolding named namedKind numberOf kindNamed
+  error-is n = refl
 
-  abbrev count : ℕ
-  count = cond (isA fetch m) (fetchCount s m) 0
+  late : (reason ≡ 0 → ⊥) → Reason.closed ≤ reason
+  late some = go (leb reason Reason.noRoom) refl
+    where
+      go : (t : Bool) → leb reason Reason.noRoom ≡ t → Reason.closed ≤ reason
+      go true e = absurd (some (late-read s x r refl (leb-true reason Reason.noRoom e)))
+      go false e = leb-false reason Reason.noRoom e
 
-  looks : lookBy s m n ≡ lookAt s frame
-  unfolding lookAt lookOf
-  looks = ap (lookBy s m) f ∙ ap (lookOf s) e
+  decided : (d : Decision) → decisionOf s x r ≡ d → stepOn s x r b ≡ stepBy x b d
+  unfolding stepOn
+  decided d e = rw (le-ltb (length b) minBuffer room) (ap (stepBy x b) e)
 
-  pub look-refuses : (n ≡ 0 → ⊥) → refusal n ≡ lookAt s frame
-  look-refuses h = without (wanting (workOf m) (firstRow s m) count) (refusal n) (ne-eqb n 0 h) ∙ looks
+  refusal : (reason ≡ 0 → ⊥) → decisionOf s x r ≡ refused s reason (Reply.Error (errorOf reason (namesOf q) r))
+  unfolding decisionOf refusedReply
+  refusal some =
+      rw (ne-eqb reason 0 some, lt-leb reason Reason.noRoom (late some)) (ap (refused s reason) (error-is reason))
 
-  pub look-wants : (w a k : ℕ) → n ≡ 0 → w ≡ workOf m → a ≡ firstRow s m → k ≡ count → wanting w a k ≡ lookAt s frame
-  look-wants w a k h x y z =
-      ap (λ (t : ℕ). wanting t a k) x
-      ∙ ap (λ (t : ℕ). wanting (workOf m) t k) y
-      ∙ ap (wanting (workOf m) (firstRow s m)) z
-      ∙ yes (wanting (workOf m) (firstRow s m) count) (refusal n) (eq-eqb n 0 h)
-      ∙ looks
+  step-refused : (reason ≡ 0 → ⊥) → stepOn s x r b ≡ stepBy x b (refused s reason (Reply.Error (errorOf reason (namesOf q) r)))
+  step-refused some = decided (refused s reason (Reply.Error (errorOf reason (namesOf q) r))) (refusal some)
 
--- ---- a step
+  acceptance : reason ≡ 0 → decisionOf s x r ≡ accepted s r q
+  unfolding decisionOf
+  acceptance e = rw (eq-eqb reason 0 e)
 
--- the bytes that fit are put, and end behind themselves
-pub put-whole : (buffer bytes : List ℕ) → length bytes ≤ length buffer → placeBehind (putAt buffer 0 bytes) ≡ length bytes
-put-whole buffer bytes h = rw (le-leb (0 + length bytes) (length buffer) (omega arith)) (omega arith)
+  step-accepted : reason ≡ 0 → stepOn s x r b ≡ stepBy x b (accepted s r q)
+  step-accepted e = decided (accepted s r q) (acceptance e)
 
--- no bytes put leave a buffer as it was
-put-none : (buffer : List ℕ) → written buffer 0 [] ≡ buffer
-put-none buffer = sym (yes (take 0 buffer ++ [] ++ drop (0 + 0) buffer) buffer (le-leb (0 + 0) (length buffer) (omega arith)))
+  pub refuse-room : {n : ℕ} {names : Names} → n ≡ reason → names ≡ namesOf q →
+      length (replyBytes (Reply.Error (errorOf n names r))) ≤ length b
+  refuse-room {n} {names} e f =
+      let at : length (replyBytes (Reply.Error (errorOf reason (namesOf q) r))) ≤ length b =
+      le-trans (subst (λ y. length (replyBytes y) ≤ minBuffer) (error-is reason) (error-fits s x r read)) room in
+      subst (λ (k : ℕ). length (replyBytes (Reply.Error (errorOf k names r))) ≤ length b) (sym e)
+      (subst (λ y. length (replyBytes (Reply.Error (errorOf reason y r))) ≤ length b) (sym f) at)
 
-abbrev left-with : Stepped → List ℕ → Step
-left-with back left = record { back = back; buffer = left }
-
-module _ (s : Session) (frame : List ℕ) (r : Report) (buffer : List ℕ) (m : Message) (e : m ≡ messageOf frame)
-    (b : Bool) (t : b ≡ ltb (length buffer) minBuffer) (v : Verdict) (d : Decides b s m r v) where
-  -- a step whose verdict, session after it, bytes used and reply's length are these
-  abbrev stepped : Verdict → Session → ℕ → ℕ → Stepped
-  stepped x after used n =
+  pub refuses : {n : ℕ} {names : Names} {a : Answer} {after : List ℕ} → n ≡ reason → (n ≡ 0 → ⊥) → names ≡ namesOf q →
+      Answers (refusing used n) (Reply.Error (errorOf n names r)) b a after → Does (stepOn s x r b) a s after
+  refuses {n} {names} {a} {after} e some f h =
+      let none : reason ≡ 0 → ⊥ = λ z. some (e ∙ z) in
+      let g = subst (λ (k : ℕ). Answers (refusing used k) (Reply.Error (errorOf k (namesOf q) r)) b a after) e
+      (subst (λ y. Answers (refusing used n) (Reply.Error (errorOf n y r)) b a after) f h) in
+      let is = sym (step-refused none) in
       record {
-        session = after;
-        answer =
-            record { reason = x .reason; used = used; reply = n; columns = x .columns; first = x .first; count = x .count };
+        answered = g .answered ∙ ap (λ y. y .answer) is;
+        kept = ap (λ y. y .session) is;
+        replied = g .stored ∙ ap (λ y. y .buffer) is;
       }
 
-  abbrev stepping : Bool → Step
-  stepping short =
-      let x = decidedOn short s m r in
+  pub accept-room : {sends : Sends} → sends ≡ sendsOf s q r → length (replyBytes (sends .reply)) ≤ length b
+  accept-room {sends} e =
+      subst (λ y. length (replyBytes (y .reply)) ≤ length b) (sym e) (le-trans (reply-fits s q r) room)
+
+  pub accepts : {n : ℕ} {sends : Sends} {s' : Session} {a : Answer} {after : List ℕ} → n ≡ reason → n ≡ 0 → sends ≡ sendsOf s q r →
+      s' ≡ sessionAfter s q r → Answers (accepting used sends) (sends .reply) b a after → Does (stepOn s x r b) a s' after
+  accepts {n} {sends} {s'} {a} {after} e z f k h =
+      let g = subst (λ y. Answers (accepting used y) (y .reply) b a after) f h in
+      let is = sym (step-accepted (sym e ∙ z)) in
       record {
-        back = stepped (verdict x) (x .session) (cond short 0 (m .used)) (length (replyBytes (x .reply)));
-        buffer = written buffer 0 (replyBytes (x .reply));
+        answered = g .answered ∙ ap (λ y. y .answer) is;
+        kept = k ∙ ap (λ y. y .session) is;
+        replied = g .stored ∙ ap (λ y. y .buffer) is;
       }
 
-  steps-by : (short : Bool) → short ≡ ltb (length buffer) minBuffer → stepping short ≡ stepOn s m r buffer
-  unfolding replyBytes
-  steps-by true h =
-      ap (λ (l : List ℕ). left-with (tooShort s buffer .back) l) (put-none buffer)
-      ∙ yes (tooShort s buffer) (stepBy m buffer (decisionOf s m r)) (sym h)
-  steps-by false h = without (tooShort s buffer) (stepBy m buffer (decisionOf s m r)) (sym h)
+-- ---- the reason, in an open session and in a closed one
 
-  steps : stepping b ≡ stepOf s frame r buffer
-  unfolding stepOf
-  steps = steps-by b t ∙ ap (λ (x : Message). stepOn s x r buffer) e
+pub open-reason : (s : Session) (used : ℕ) (q : Request) (r : Report) → isClosed s ≡ false → {look report n : ℕ} → look ≡ requestReason s q →
+    report ≡ firstOf (reportTests q r) → n ≡ orElse look report → n ≡ stepReason s (Good used q) r
+unfolding lookReason reportReason requestReason
+open-reason s used q r e {look} {report} {n} a b c =
+    c ∙ ap (λ (k : ℕ). orElse k report) a ∙ ap (orElse (requestReason s q)) b ∙ sym (rw e)
 
-  answers : v .reply ≡ decidedOn b s m r .reply
-  answers = ap (λ (x : Verdict). x .reply) (d .says)
+-- a request that wants no work
+pub idle-reason : (s : Session) (used : ℕ) (q : Request) (r : Report) → isClosed s ≡ false → firstOf (reportTests q r) ≡ 0 → {n : ℕ} →
+    n ≡ requestReason s q → n ≡ stepReason s (Good used q) r
+idle-reason s used q r e idle {n} a = open-reason s used q r e a (sym idle) (same n)
+  where
+    same : (n : ℕ) → n ≡ orElse n 0
+    same n = go (eqb n 0) refl
+      where
+        go : (b : Bool) → eqb n 0 ≡ b → n ≡ cond b 0 n
+        go true f = eqb-true n 0 f
+        go false f = refl
 
-  -- the reply fits: a short buffer gets none
-  fits-by : (short : Bool) → short ≡ ltb (length buffer) minBuffer → length (replyBytes (decidedOn short s m r .reply)) ≤ length buffer
-  unfolding replyBytes
-  fits-by true h = omega arith
-  fits-by false h = le-trans (verdict-fits s m r (is-read frame m e) false) (ltb-false (length buffer) minBuffer (sym h))
+pub closed-reason : (s : Session) (used : ℕ) (q : Request) (r : Report) → isClosed s ≡ true → Reason.closed ≡ stepReason s (Good used q) r
+unfolding lookReason
+closed-reason s used q r e = sym (rw e)
 
-  pub step-back : (after : Session) (used : ℕ) (p : Put) (n : ℕ) → after ≡ cond (eqb (v .reason) 0) (sessionAfter s m r) s →
-      used ≡ cond b 0 (m .used) → p ≡ putAt buffer 0 (replyBytes (v .reply)) → n ≡ placeBehind p →
-      stepped v after used n ≡ stepOf s frame r buffer .back
-  step-back after used p n a u g h =
-      let bytes = replyBytes (decidedOn b s m r .reply) in
-      let length-is : n ≡ length bytes = h ∙ ap placeBehind (g ∙ ap (λ (x : Reply). putAt buffer 0 (replyBytes x)) answers) ∙ put-whole buffer bytes (fits-by b t) in
-      ap (λ (x : Verdict). stepped x after used n) (d .says)
-      ∙ ap (λ (x : Session). stepped (verdict (decidedOn b s m r)) x used n) (after-verdict s m r b v after d a)
-      ∙ ap (λ (x : ℕ). stepped (verdict (decidedOn b s m r)) (decidedOn b s m r .session) x n) u
-      ∙ ap (stepped (verdict (decidedOn b s m r)) (decidedOn b s m r .session) (cond b 0 (m .used))) length-is
-      ∙ ap (λ (x : Step). x .back) steps
+-- a closed session names nothing
+module _ (s : Session) (used : ℕ) (q : Request) (r : Report) (b : List ℕ) (room : minBuffer ≤ length b) (read : Read q) (closed : isClosed s ≡ true) where
+  nameless : Reply.Error (errorOf Reason.closed noNames r) ≡ Reply.Error (errorOf Reason.closed (namesOf q) r)
+  unfolding numberOf kindNamed
+  nameless = refl
 
-  pub step-buffer : (left : List ℕ) → left ≡ written buffer 0 (replyBytes (v .reply)) → left ≡ stepOf s frame r buffer .buffer
-  step-buffer left g =
-      g ∙ ap (λ (x : Reply). written buffer 0 (replyBytes x)) answers ∙ ap (λ (x : Step). x .buffer) steps
+  pub closed-room : length (replyBytes (Reply.Error (errorOf Reason.closed noNames r))) ≤ length b
+  closed-room =
+      subst (λ x. length (replyBytes x) ≤ length b) (sym nameless)
+      (refuse-room s used q r b room read (closed-reason s used q r closed) refl)
+
+  pub closed-refuses : {a : Answer} {after : List ℕ} → Answers (refusing used Reason.closed) (Reply.Error (errorOf Reason.closed noNames r)) b a after →
+      Does (stepOn s (Good used q) r b) a s after
+  closed-refuses {a} {after} h =
+      refuses s used q r b room read (closed-reason s used q r closed) (λ e. omega arith) refl
+      (subst (λ x. Answers (refusing used Reason.closed) x b a after) nameless h)
+
+-- ---- by the request
+
+pub ready : {w b : List ℕ} {q p : Request} → Readable q b → q ≡ p → isClosed (sessionOf w) ≡ false → Ready w p b
+ready {w} {b} {q} {p} h e f = record { room = h .room; read = subst Read e (h .read); unclosed = f }
+
+pub does-as : (s : Session) (used : ℕ) (r : Report) (b : List ℕ) {q p : Request} {a : Answer} {s' : Session} {after : List ℕ} → q ≡ p →
+    Does (stepOn s (Good used p) r b) a s' after → Does (stepOn s (Good used q) r b) a s' after
+does-as s used r b {q} {p} {a} {s'} {after} e h = subst (λ x. Does (stepOn s (Good used x) r b) a s' after) (sym e) h

@@ -1,4 +1,1 @@
-pub mod Reason
-pub mod Rows
-pub mod Verdict
-pub mod Takes
+pub mod private

@@ -1,177 +1,136 @@
-// The refusals of a look and of an engine report.
+// Why a request or an engine report is refused, by the entries that were looked up. 0 is accepted.
 ghost use mathlib.Core.Path.{_≡_};
-ghost use mathlib.Core.Bool.{cond, not, _&&_, _||_};
-ghost use lib.Dec.{eqb, leb};
+ghost use Rattle.protocol.specs.Reason as Reason;
+ghost use Rattle.message.specs.declared.request.Request.{Request};
+ghost use Rattle.session.specs.Entry.{isLiveStmt, isLiveCursor};
+ghost use Rattle.session.specs.Session.{isClosed};
 ghost use Rattle.session.specs.Tables.{cursorPlace};
-ghost use Rattle.rules.specs.Kind.{fails, suits, wanted, within, workOf};
-ghost use Rattle.rules.specs.Read.{Read};
-ghost use Rattle.rules.specs.Refusal.{lookReason, noPlace, reportReason};
-ghost use Rattle.keeper.specs.Rows.{Names};
-ghost use Rattle.keeper.specs.Takes.{Takes};
-ghost use Rattle.keeper.specs.Reason.{bindingReason, fetchReason, openReason, other, tableReason};
+ghost use Rattle.session.specs.Words.{sessionOf};
+ghost use Rattle.rules.specs.Refusal.{noPlace};
+ghost use Rattle.rules.specs.Report.{fails, isDone, isPrepared, isResult};
+ghost use Rattle.keeper.specs.private.Reasons.{bindingReason, closedOr, consulted, cursorReason, fetchReason, orElse, requestReason, unless};
+ghost use mathlib.Core.Bool.{not};
 use args::arguments::Arguments;
-use message::message::Message;
+use message::request::Execute;
+use message::request::Open;
+use protocol::reason;
 use rules::Report;
 use session::Cursor;
 use session::Place;
-use session::Session;
 use session::Stmt;
+use session::WORDS;
 
-// The work that a message wants of the engine.
-pub(crate) fn work_of(m: Message) -> u64
-    ensures { λ r. ⌜ r ≡ workOf m ⌝ }
+// The first of two refusals.
+pub(crate) fn or_else(first: u64, next: u64) -> u64
+    ensures { λ r. ⌜ r ≡ orElse first next ⌝ }
 {
-    let kind = m.kind;
-    match kind {
-        40 => rules::PREPARE,
-        41 => rules::EXECUTE,
-        43 => rules::OPEN,
-        45 => rules::FETCH,
-        _ => 0,
+    if first != reason::ACCEPTED {
+        return first;
     }
+    next
 }
 
-// The live cursor that a Close or a Fetch names.
-pub(crate) fn named_cursor(session: Session, m: Message) -> Cursor
-    requires { ⌜ Read m ⌝ }
-    ensures { λ r. ⌜ Names session m r ⌝ }
+// 4, or the refusal of a frame by itself.
+pub(crate) fn closed_or(words: &[u32; WORDS], other: u64) -> u64
+    ensures { λ r. ⌜ r ≡ closedOr (isClosed (sessionOf (now (words .entry)))) other ⌝ }
 {
-    if m.kind < 44 {
-        return session::NO_CURSOR;
+    if session::words::is_closed(words) {
+        return reason::CLOSED;
     }
-    session.live_cursor(m.cursor as u32)
+    other
 }
 
-// The place that a Prepare's statement or an Open's cursor takes.
-pub(crate) fn new_place(session: Session, m: Message) -> Place
-    requires { ⌜ Read m ⌝ }
-    ensures { λ r. ⌜ Takes session m r ⌝ }
-{
-    let kind = m.kind;
-    match kind {
-        40 => session.stmt_place(m.stmt as u32),
-        43 => session.cursor_place(m.cursor as u32),
-        _ => Place::Nothing,
-    }
-}
-
-// A table without a place for a new entry is refused by this number.
-fn full_reason(place: Place, reason: u64) -> u64
-    ensures { λ r. ⌜ r ≡ cond (noPlace place) reason 0 ⌝ }
+// A table without a place for a new entry.
+pub(crate) fn full(place: Place, refusal: u64) -> u64
+    ensures { λ r. ⌜ r ≡ unless (not (noPlace place)) refusal ⌝ }
 {
     match place {
-        Place::At(_) => 0,
-        Place::Nothing => reason,
+        Place::At(_) => reason::ACCEPTED,
+        Place::Nothing => refusal,
     }
 }
 
-// 7, 8, 9.
-fn binding_reason(stmt: Stmt, args: Arguments) -> u64
+// A statement that is not live, a cursor that is not live.
+pub(crate) fn dead_stmt(stmt: Stmt) -> u64
+    ensures { λ r. ⌜ r ≡ unless (isLiveStmt stmt) Reason.noStmt ⌝ }
+{
+    if stmt.live == 0 {
+        return reason::NO_STMT;
+    }
+    reason::ACCEPTED
+}
+
+pub(crate) fn dead_cursor(cursor: Cursor) -> u64
+    ensures { λ r. ⌜ r ≡ unless (isLiveCursor cursor) Reason.noCursor ⌝ }
+{
+    if cursor.live == 0 {
+        return reason::NO_CURSOR;
+    }
+    reason::ACCEPTED
+}
+
+// A statement that arguments are bound to.
+fn binding(stmt: Stmt, args: Arguments) -> u64
     ensures { λ r. ⌜ r ≡ bindingReason stmt args ⌝ }
 {
-    if !stmt.live {
-        return 7;
+    if stmt.live == 0 {
+        return reason::NO_STMT;
     }
     if args.kind != 0 {
-        return 8;
+        return reason::NOT_SCALAR;
     }
     if args.count < stmt.placeholders as usize {
-        return 9;
+        return reason::FEW_ARGUMENTS;
     }
-    0
+    reason::ACCEPTED
 }
 
-// The statement's cursor has another id.
-fn is_other(carried: Cursor, id: u32) -> bool
-    ensures { λ r. ⌜ r ≡ other id carried ⌝ }
+pub(crate) fn execute(words: &[u32; WORDS], x: Execute) -> u64
+    ensures { λ r. ⌜ r ≡ requestReason (sessionOf (now (words .entry))) (Request.Execute x) ⌝ }
 {
-    carried.live && carried.id != id
+    let place = session::find::find_stmt(words, x.stmt);
+    let args = x.args;
+    binding(session::words::stmt_at(words, place), args)
 }
 
-fn open_reason(session: Session, m: Message, place: Place) -> u64
-    requires { ⌜ Read m ⌝ }
-    requires { ⌜ place ≡ cursorPlace session (m .cursor) ⌝ }
-    ensures { λ r. ⌜ r ≡ openReason session m ⌝ }
+// A cursor to open: the cursor that its statement carries, and the place that it takes.
+fn opening(id: u32, carried: Cursor, place: Place) -> u64
+    ensures { λ r. ⌜ r ≡ cursorReason id carried place ⌝ }
 {
-    let stmt = m.stmt as u32;
-    let cursor = m.cursor as u32;
-    let args = m.args;
-    let reason = binding_reason(session.live_stmt(stmt), args);
-    if reason != 0 {
-        return reason;
+    if carried.live != 0 {
+        if carried.id != id {
+            return reason::OTHER_CURSOR;
+        }
     }
-    if is_other(session.carried(stmt), cursor) {
-        return 12;
-    }
-    full_reason(place, 14)
+    full(place, reason::CURSORS_FULL)
 }
 
-// 10, 11.
-fn fetch_reason(cursor: Cursor) -> u64
+pub(crate) fn open(words: &[u32; WORDS], o: Open, place: Place) -> u64
+    requires { ⌜ place ≡ cursorPlace (sessionOf (now words)) (o .cursor) ⌝ }
+    ensures { λ r. ⌜ r ≡ requestReason (sessionOf (now (words .entry))) (Request.Open o) ⌝ }
+{
+    let x = o.execute;
+    let args = x.args;
+    let at = session::find::find_stmt(words, x.stmt);
+    let bound = binding(session::words::stmt_at(words, at), args);
+    if bound != reason::ACCEPTED {
+        return bound;
+    }
+    let on = session::find::find_on(words, x.stmt);
+    opening(o.cursor, session::words::cursor_at(words, on), place)
+}
+
+// A cursor that is to send rows.
+pub(crate) fn fetch(cursor: Cursor) -> u64
     ensures { λ r. ⌜ r ≡ fetchReason cursor ⌝ }
 {
-    if !cursor.live {
-        return 10;
+    if cursor.live == 0 {
+        return reason::NO_CURSOR;
     }
     if cursor.rows <= cursor.sent {
-        return 11;
+        return reason::ALL_SENT;
     }
-    0
-}
-
-// A statement or cursor that is not live is refused by this number.
-fn live_reason(live: bool, reason: u64) -> u64
-    ensures { λ r. ⌜ r ≡ cond (not live) reason 0 ⌝ }
-{
-    if live { 0 } else { reason }
-}
-
-// The refusals that depend on the tables. `cursor` is the live cursor that the message names, `place` what its entry takes.
-fn table_reason(session: Session, m: Message, cursor: Cursor, place: Place) -> u64
-    requires { ⌜ Read m ⌝ }
-    requires { ⌜ Names session m cursor ⌝ }
-    requires { ⌜ Takes session m place ⌝ }
-    ensures { λ r. ⌜ r ≡ tableReason session m ⌝ }
-{
-    let kind = m.kind;
-    let stmt = m.stmt as u32;
-    let args = m.args;
-    match kind {
-        40 => full_reason(place, 13),
-        41 => binding_reason(session.live_stmt(stmt), args),
-        42 => live_reason(session.live_stmt(stmt).live, 7),
-        43 => open_reason(session, m, place),
-        44 => live_reason(cursor.live, 10),
-        45 => fetch_reason(cursor),
-        _ => 0,
-    }
-}
-
-// What a look refuses, 0 for nothing.
-pub(crate) fn look_reason(session: Session, m: Message, cursor: Cursor, place: Place) -> u64
-    requires { ⌜ Read m ⌝ }
-    requires { ⌜ Names session m cursor ⌝ }
-    requires { ⌜ Takes session m place ⌝ }
-    ensures { λ r. ⌜ r ≡ lookReason session m ⌝ }
-{
-    let reason = m.reason;
-    if reason == 1 {
-        return 1;
-    }
-    if reason == 2 {
-        return 2;
-    }
-    if session.closed {
-        return 4;
-    }
-    if reason != 0 {
-        return reason;
-    }
-    // A Fetch depends on its cursor alone: this way the session is not copied for it.
-    if m.kind == 45 {
-        return fetch_reason(cursor);
-    }
-    table_reason(session, m, cursor, place)
+    reason::ACCEPTED
 }
 
 // A failure of the engine, with a code of 32 bits that is not 0.
@@ -181,82 +140,55 @@ fn has_failed(r: Report) -> bool
     if r.kind != rules::FAILED {
         return false;
     }
-    if r.a == 0 {
+    if r.code == 0 {
         return false;
     }
-    r.a <= 0xffff_ffff
+    r.code <= rules::MAX_NUMBER
 }
 
-// The columns and rows of a result are within their limits.
-fn is_result(columns: u64, rows: u64) -> bool
-    ensures { λ b. ⌜ b ≡ (leb columns 4096 && leb rows 4294967295 && (not (eqb columns 0) || eqb rows 0)) ⌝ }
+// A report that suits the work or not.
+pub(crate) fn report(suits: bool, r: Report) -> u64
+    ensures { λ n. ⌜ n ≡ consulted suits (fails r) ⌝ }
 {
-    if 4096 < columns {
+    if has_failed(r) {
+        return reason::ENGINE_FAILED;
+    }
+    if suits {
+        return reason::ACCEPTED;
+    }
+    reason::BAD_REPORT
+}
+
+// The reports within their limits.
+pub(crate) fn is_prepared(r: Report) -> bool
+    ensures { λ b. ⌜ b ≡ isPrepared r ⌝ }
+{
+    if r.kind != rules::PREPARED {
         return false;
     }
-    if 0xffff_ffff < rows {
+    r.placeholders <= rules::MAX_PLACEHOLDERS
+}
+
+pub(crate) fn is_result(r: Report) -> bool
+    ensures { λ b. ⌜ b ≡ isResult r ⌝ }
+{
+    if r.kind != rules::RESULT {
         return false;
     }
-    if columns != 0 {
+    if rules::MAX_COLUMNS < r.columns {
+        return false;
+    }
+    if rules::MAX_NUMBER < r.rows {
+        return false;
+    }
+    if r.columns != 0 {
         return true;
     }
-    rows == 0
+    r.rows == 0
 }
 
-fn is_within(r: Report) -> bool
-    ensures { λ b. ⌜ b ≡ within r ⌝ }
+pub(crate) fn is_done(r: Report) -> bool
+    ensures { λ b. ⌜ b ≡ isDone r ⌝ }
 {
-    let kind = r.kind;
-    match kind {
-        rules::PREPARED => r.a <= 65535,
-        rules::RESULT => is_result(r.a, r.b),
-        _ => kind == rules::DONE,
-    }
-}
-
-// The report that a message with work wants.
-fn wanted_kind(m: Message) -> u64
-    ensures { λ r. ⌜ r ≡ wanted m ⌝ }
-{
-    let kind = m.kind;
-    match kind {
-        40 => rules::PREPARED,
-        45 => rules::DONE,
-        _ => rules::RESULT,
-    }
-}
-
-fn is_suited(m: Message, r: Report) -> bool
-    ensures { λ b. ⌜ b ≡ suits m r ⌝ }
-{
-    if r.kind != wanted_kind(m) {
-        return false;
-    }
-    is_within(r)
-}
-
-// 15 and 16.
-fn report_reason(m: Message, report: Report) -> u64
-    ensures { λ r. ⌜ r ≡ reportReason m report ⌝ }
-{
-    if work_of(m) == 0 {
-        return 0;
-    }
-    if has_failed(report) {
-        return 16;
-    }
-    if is_suited(m, report) {
-        return 0;
-    }
-    15
-}
-
-// What a step refuses but 3: what the look refuses, then the report.
-pub(crate) fn step_reason(m: Message, report: Report, looked: u64) -> u64
-    ensures { λ r. ⌜ r ≡ cond (eqb looked 0) (reportReason m report) looked ⌝ }
-{
-    if looked != 0 {
-        return looked;
-    }
-    report_reason(m, report)
+    r.kind == rules::DONE
 }

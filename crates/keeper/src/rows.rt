@@ -1,25 +1,17 @@
-// Which rows and columns an accepted step sends. `cursor` is the live cursor that the message names.
+// Which rows an accepted Open or Fetch sends, and how the reply ends.
 ghost use mathlib.Core.Path.{_≡_};
-ghost use mathlib.Core.Bool.{cond, true};
-ghost use Prim.Native.Nat.{_-_, _^_, _<_, min};
-ghost use Rattle.layout.specs.Table.{fetch, open'};
-ghost use Rattle.rules.specs.Kind.{isA, oneOf};
-ghost use Rattle.rules.specs.Refusal.{reportReason};
-ghost use Rattle.rules.specs.Rows.{fetchCount, firstRow, noneRemain, rowCount, rowsAsked, sendsColumns};
-ghost use Rattle.keeper.specs.Rows.{Finding, Rows, fetchedFrom, markFrom};
-use message::message::Message;
+ghost use Prim.Native.Nat.{_+_, _≤_, min};
+ghost use mathlib.Core.Bool.{cond};
+ghost use Rattle.reply.specs.declared.Reply.{Reply};
+ghost use Rattle.session.specs.Sound.{maxNumber};
+ghost use Rattle.rules.specs.Decision.{endOf};
+ghost use Rattle.rules.specs.Rows.{fetchCount, openCount, remaining};
+ghost use Rattle.keeper.specs.private.Does.{sendsAll, sendsFirst, sendsNext};
+use crate::answer::Sends;
+use message::request::Optional;
+use reply::Reply;
 use rules::Report;
 use session::Cursor;
-
-// What the cursor has still to send.
-fn remaining(cursor: Cursor) -> u64
-    ensures { λ r. ⌜ (r ≡ cursor .rows - cursor .sent) × (r < 2 ^ 32) ⌝ }
-{
-    if cursor.rows <= cursor.sent {
-        return 0;
-    }
-    (cursor.rows - cursor.sent) as u64
-}
 
 fn least(a: u64, b: u64) -> u64
     ensures { λ r. ⌜ r ≡ min a b ⌝ }
@@ -27,104 +19,105 @@ fn least(a: u64, b: u64) -> u64
     if a < b { a } else { b }
 }
 
-// fetch_rows, or what its absence means.
-fn rows_asked(m: Message, absent: u64) -> u64
-    ensures { λ r. ⌜ r ≡ rowsAsked m absent ⌝ }
+// What the cursor has still to send.
+fn remaining(cursor: Cursor) -> u64
+    ensures { λ r. ⌜ (r ≡ remaining cursor) × (r ≤ maxNumber) ⌝ }
 {
-    let rows = m.rows;
-    if rows.present { rows.value } else { absent }
+    if cursor.rows <= cursor.sent {
+        return 0;
+    }
+    (cursor.rows - cursor.sent) as u64
 }
 
-fn fetch_count(cursor: Cursor, m: Message) -> u64
-    ensures { λ r. ⌜ (r ≡ fetchedFrom cursor m) × (r < 2 ^ 32) ⌝ }
+// The rows that a Fetch sends of this cursor; without fetch_rows all that remain.
+pub(crate) fn fetch_count(cursor: Cursor, rows: Optional) -> u64
+    ensures { λ r. ⌜ r ≡ fetchCount cursor rows ⌝ }
 {
     let left = remaining(cursor);
-    least(rows_asked(m, left), left)
+    if rows.present {
+        return least(rows.value, left);
+    }
+    left
 }
 
-pub(crate) fn first_row(cursor: Cursor, m: Message) -> u64
-    ensures { λ r. ⌜ Rows cursor m (λ s. firstRow s m) r ⌝ }
+// The rows that an Open sends of those that were reported; without fetch_rows none.
+pub(crate) fn open_count(rows: Optional, reported: u64) -> u64
+    ensures { λ r. ⌜ r ≡ openCount rows reported ⌝ }
 {
-    if m.kind == 45 {
-        return cursor.sent as u64;
+    if rows.present {
+        return least(rows.value, reported);
     }
     0
 }
 
-// The count that a look gives, of a Fetch alone.
-pub(crate) fn look_count(cursor: Cursor, m: Message) -> u64
-    ensures { λ r. ⌜ Rows cursor m (λ s. cond (isA fetch m) (fetchCount s m) 0) r ⌝ }
+// The rows sent after `count` more.
+pub(crate) fn sent_after(cursor: Cursor, count: u64) -> u32
+    requires { ⌜ cursor .sent + count ≤ cursor .rows ⌝ }
+    ensures { λ r. ⌜ r ≡ cursor .sent + count ⌝ }
 {
-    if m.kind == 45 {
-        return fetch_count(cursor, m);
-    }
-    0
+    let sent = cursor.sent as u64;
+    (sent + count) as u32
 }
 
-// The count under a report that is not refused.
-pub(crate) fn row_count(cursor: Cursor, m: Message, report: Report) -> u64
-    requires { ⌜ reportReason m report ≡ 0 ⌝ }
-    ensures { λ r. ⌜ Rows cursor m (λ s. rowCount s m report) r ⌝ }
+// How a reply ends whose opening has so many rows left.
+fn end_of(left: u64) -> Reply
+    ensures { λ r. ⌜ r ≡ endOf left ⌝ }
 {
-    let kind = m.kind;
-    match kind {
-        41 => report.b,
-        43 => least(rows_asked(m, 0), report.b),
-        45 => fetch_count(cursor, m),
-        _ => 0,
+    if left == 0 {
+        Reply::Done
+    } else {
+        Reply::Suspended
     }
 }
 
-pub(crate) fn sends_columns(m: Message, report: Report) -> bool
-    ensures { λ r. ⌜ r ≡ sendsColumns m report ⌝ }
+// How the reply to an Execute ends, by whether there are columns.
+fn run_end(columns: bool) -> Reply
+    ensures { λ r. ⌜ r ≡ cond columns Reply.Done Reply.Executed ⌝ }
 {
-    let kind = m.kind;
-    match kind {
-        41 => report.a != 0,
-        43 => report.a != 0,
-        _ => false,
+    if columns {
+        Reply::Done
+    } else {
+        Reply::Executed
     }
 }
 
-// All rows of the opening that an Open makes or a Fetch names have been sent, these included.
-pub(crate) fn none_remain(
-    cursor: Cursor,
-    m: Message,
-    report: Report,
-    first: u64,
-    count: u64,
-) -> bool
-    requires { ⌜ Rows cursor m (λ s. firstRow s m) first ⌝ }
-    requires { ⌜ Rows cursor m (λ s. rowCount s m report) count ⌝ }
-    ensures { λ r. ⌜ Finding cursor m (λ s. oneOf open' fetch m ≡ true → r ≡ noneRemain s m report) ⌝ }
+// What an Execute sends: all rows.
+pub(crate) fn all(report: Report) -> Sends
+    ensures { λ r. ⌜ r ≡ sendsAll report ⌝ }
 {
-    let sent = first + count;
-    if m.kind == 43 {
-        return sent == report.b;
-    }
-    sent == cursor.rows as u64
-}
-
-pub(crate) fn mark_of(m: Message, columns: bool, done: bool) -> u64
-    ensures { λ r. ⌜ r ≡ markFrom m columns done ⌝ }
-{
-    let kind = m.kind;
-    match kind {
-        41 => {
-            if columns {
-                reply::DONE
-            } else {
-                reply::EXECUTED
-            }
-        }
-        43 => end_mark(done),
-        45 => end_mark(done),
-        _ => reply::OK,
+    let columns = report.columns != 0;
+    Sends {
+        columns,
+        first: 0,
+        count: report.rows,
+        reply: run_end(columns),
     }
 }
 
-fn end_mark(done: bool) -> u64
-    ensures { λ r. ⌜ r ≡ cond done 3 2 ⌝ }
+// What an Open sends: the first `count` of the rows reported.
+pub(crate) fn opened(report: Report, count: u64) -> Sends
+    requires { ⌜ count ≤ report .rows ⌝ }
+    ensures { λ r. ⌜ r ≡ sendsFirst report count ⌝ }
 {
-    if done { reply::DONE } else { reply::SUSPENDED }
+    Sends {
+        columns: report.columns != 0,
+        first: 0,
+        count,
+        reply: end_of(report.rows - count),
+    }
+}
+
+// What a Fetch sends: the next `count` rows of the cursor.
+pub(crate) fn fetched(cursor: Cursor, count: u64) -> Sends
+    requires { ⌜ cursor .sent + count ≤ cursor .rows ⌝ }
+    ensures { λ r. ⌜ r ≡ sendsNext cursor count ⌝ }
+{
+    let sent = cursor.sent as u64;
+    let rows = cursor.rows as u64;
+    Sends {
+        columns: false,
+        first: sent,
+        count,
+        reply: end_of(rows - (sent + count)),
+    }
 }

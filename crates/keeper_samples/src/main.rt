@@ -6,6 +6,7 @@ use libc::STDOUT_FILENO;
 use rules::Answer;
 use rules::Report;
 use session::Session;
+use session::WORDS;
 
 fn print_number(n: u64) {
     io::print_decimal(STDOUT_FILENO, n);
@@ -23,22 +24,36 @@ fn print_answer(a: Answer, buf: &[u8]) {
     io::write_all(STDOUT_FILENO, b"\n");
 }
 
-fn report(kind: u64, a: u64, b: u64) -> Report {
-    Report { kind, a, b }
+// A report of this kind whose numbers are all 0, and a result.
+fn report(kind: u64) -> Report {
+    Report {
+        kind,
+        placeholders: 0,
+        columns: 0,
+        rows: 0,
+        code: 0,
+    }
+}
+
+fn result(columns: u64, rows: u64) -> Report {
+    Report {
+        kind: rules::RESULT,
+        placeholders: 0,
+        columns,
+        rows,
+        code: 0,
+    }
 }
 
 // A step with a reply buffer of 128 bytes.
-fn step(session: Session, frame: &[u8], r: Report) -> Session {
+fn step(words: &mut [u32; WORDS], frame: &[u8], r: Report) {
     let mut buf = [0u8; 128];
-    let t = keeper::step(session, frame, r, &mut buf);
-    let after = t.session;
-    let answer = t.answer;
+    let answer = keeper::step::step(words, frame, r, &mut buf);
     print_answer(answer, &buf);
-    after
 }
 
-fn look(session: Session, frame: &[u8]) {
-    let l = keeper::look(session, frame);
+fn look(words: &[u32; WORDS], frame: &[u8]) {
+    let l = keeper::look::look(words, frame);
     print_number(l.reason);
     print_number(l.work);
     print_number(l.first);
@@ -47,23 +62,24 @@ fn look(session: Session, frame: &[u8]) {
 }
 
 // Prepare of this id, type 5, with the StmtExecute "S" and no arguments.
-fn prepare(session: Session, id: u8) -> Session {
+fn prepare(words: &mut [u32; WORDS], id: u8) {
     let mut frame = [12, 0, 0, 0, 40, 8, 1, 18, 7, 8, 5, 50, 3, 10, 1, 83];
     frame[6] = id;
-    step(session, &frame, report(rules::PREPARED, 0, 0))
+    step(words, &frame, report(rules::PREPARED));
 }
 
 // A statement prepared anew ends its cursor.
 fn replace_statement() {
     let fetch = b"\x05\x00\x00\x00\x2d\x08\x01\x10\x01";
     let open = b"\x0d\x00\x00\x00\x2b\x08\x01\x22\x06\x08\x00\x12\x02\x08\x01\x28\x02";
-    let mut s = prepare(Session::fresh(), 1);
-    s = step(s, open, report(rules::RESULT, 3, 5));
-    look(s, fetch);
-    s = step(s, fetch, report(rules::DONE, 0, 0));
-    s = prepare(s, 1);
-    look(s, fetch);
-    step(s, fetch, report(rules::DONE, 0, 0));
+    let mut s = Session::fresh();
+    prepare(&mut s.words, 1);
+    step(&mut s.words, open, result(3, 5));
+    look(&s.words, fetch);
+    step(&mut s.words, fetch, report(rules::DONE));
+    prepare(&mut s.words, 1);
+    look(&s.words, fetch);
+    step(&mut s.words, fetch, report(rules::DONE));
 }
 
 // Ids 1 to 64 are prepared; 65 finds no place, 64 keeps its own.
@@ -71,10 +87,16 @@ fn fill_table() {
     let mut s = Session::fresh();
     let mut id = 1;
     while id < 66 {
-        s = prepare(s, id);
+        prepare(&mut s.words, id);
         id += 1;
     }
-    prepare(s, 64);
+    prepare(&mut s.words, 64);
+}
+
+// A frame to a fresh session, with no report.
+fn first(frame: &[u8]) {
+    let mut s = Session::fresh();
+    step(&mut s.words, frame, report(rules::NONE));
 }
 
 // A Reset of this size whose unknown groups start up to `ends` and then end.
@@ -92,7 +114,7 @@ fn nest(size: u8, ends: usize)
     frame[2] = 0;
     frame[3] = 0;
     frame[4] = 6;
-    step(Session::fresh(), &frame, report(rules::NONE, 0, 0));
+    first(&frame);
 }
 
 fn main() {
@@ -100,9 +122,5 @@ fn main() {
     fill_table();
     nest(65, 37);
     nest(67, 38);
-    step(
-        Session::fresh(),
-        b"\x03\x00\x00\x00\x2a\x08\x0c",
-        report(rules::NONE, 0, 0),
-    );
+    first(b"\x03\x00\x00\x00\x2a\x08\x0c");
 }

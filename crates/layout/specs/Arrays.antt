@@ -47,7 +47,8 @@ abbrev pub once : Bool → ℕ
 once seen = cond seen 1 0
 
 abbrev pub fromArrays : Bool → List Bool → List ℕ → List ℕ → Slots
-fromArrays good seen value start = record { good = good; count = map once seen; value = value; start = start; len = value }
+fromArrays good seen value start =
+    record { good = good; count = map once seen; value = value; start = start; len = value }
 
 abbrev pub inArrays : Slots → Slots
 inArrays x = fromArrays (x .good) (seenOf x) (x .value) (x .start)

@@ -1,4 +1,4 @@
--- A message's field list, read by its rows (document 01, "Payload rules"): unknown fields are skipped; of a field that is not
+-- A message's field list, read by its rows (W9, W11, W15, W16): unknown fields are skipped; of a field that is not
 -- repeated the last occurrence counts; what is required must occur.
 use Prim.Native.Nat.{ℕ, zero, suc, _+_}
 use mathlib.Core.Bool.{Bool, true, false, cond, not}

@@ -3,4 +3,3 @@ pub mod Row
 pub mod Slots
 pub mod Fields
 pub mod Arrays
-pub mod Numbers

@@ -32,8 +32,8 @@ unfoldable pub rowFor : List (List ℕ) → ℕ → List ℕ
 rowFor [] number = noRow
 rowFor (r ∷ rs) number = cond (eqb (numberOf r) number) r (rowFor rs number)
 
--- "an enum value not listed counts as an unknown field"; an enum keeps the low 32 bits. The values v stand in the row as the
--- sum of 2 ^ v; a row with none is of no enum
+-- "an enum value not listed counts as an unknown field"; an enum keeps the low 32 bits. The values v stand in the row
+-- as the sum of 2 ^ v; a row with none is of no enum (W14, W3)
 abbrev pub listed : ℕ → ℕ → Bool
 listed values value =
     cond (eqb values 0) true
@@ -43,8 +43,9 @@ listed values value =
 abbrev pub slotCount : ℕ
 slotCount = 10
 
--- "a known number with another wire type is unknown"
+-- "a known number with another wire type is unknown" (W10)
 abbrev pub takes : List ℕ → ℕ → ℕ → ℕ → Bool
 takes row number wire value =
-    cond (ltb number slotCount) (cond (eqb (numberOf row) number) (cond (eqb (wireOf row) wire) (listed (listedOf row) value) false) false)
+    cond (ltb number slotCount)
+    (cond (eqb (numberOf row) number) (cond (eqb (wireOf row) wire) (listed (listedOf row) value) false) false)
     false

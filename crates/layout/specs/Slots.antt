@@ -1,4 +1,5 @@
--- What a field list holds, by field number: how often it occurs, and of the occurrence that counts the value, place and length.
+-- What a field list holds, by field number: how often it occurs, and of the occurrence that counts the value, place and
+-- length.
 use Prim.Native.Nat.{ℕ}
 use mathlib.Core.Bool.{true, false}
 use lib.ListN.{replicate}

@@ -1,46 +1,29 @@
--- The layout table (document 01, "Layouts"): a row for each message and field number.
+-- The layout table (L1): a row for each message and field number.
 use Prim.Native.Nat.{ℕ, _+_, _^_}
 use mathlib.Core.Bool.{cond}
 use mathlib.Core.List.{List, [], _∷_}
 use lib.Dec.{eqb}
+use Rattle.protocol.specs.Client.{prepare, execute, deallocate, open', close, fetch}
 use Rattle.layout.specs.Row.{messageOf}
 
--- the messages: client messages by their type, embedded ones by numbers of our own
-abbrev pub prepare : ℕ
-prepare = 40
-
-abbrev pub execute : ℕ
-execute = 41
-
-abbrev pub deallocate : ℕ
-deallocate = 42
-
-abbrev pub open' : ℕ
-open' = 43
-
-abbrev pub close : ℕ
-close = 44
-
-abbrev pub fetch : ℕ
-fetch = 45
-
+-- the messages: client messages by their type, embedded ones by numbers of our own that no type byte has
 abbrev pub prepareStmt : ℕ
-prepareStmt = 1
+prepareStmt = 256
 
 abbrev pub stmtExecute : ℕ
-stmtExecute = 2
+stmtExecute = 257
 
 abbrev pub openStmt : ℕ
-openStmt = 3
+openStmt = 258
 
 abbrev pub any : ℕ
-any = 4
+any = 259
 
 abbrev pub scalar : ℕ
-scalar = 5
+scalar = 260
 
 abbrev pub bytes : ℕ
-bytes = 6
+bytes = 261
 
 -- wire types
 abbrev pub num : ℕ
@@ -116,7 +99,7 @@ layout =
     ∷ row bytes 1 len must once []  -- the bytes of octets and of string
     ∷ []
 
--- the rows of one message, in the table's order; Reset and Session close have none
+-- the rows of one message, in the table's order; Reset and Session close have none (L2)
 abbrev pub rowsIn : List (List ℕ) → ℕ → List (List ℕ)
 rowsIn [] message = []
 rowsIn (r ∷ rs) message = cond (eqb (messageOf r) message) (r ∷ rowsIn rs message) (rowsIn rs message)

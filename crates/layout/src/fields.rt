@@ -45,7 +45,10 @@ fn list_fields(
     starts: &mut [usize; 10],
 ) -> bool
     requires { ⌜ Noted noSlots (now seen) (now values) (now starts) ⌝ }
-    ensures { λ r. ⌜ Listed (fieldList (now (rows .entry)) (now (s .entry)) from) r (now (seen .exit)) (now (values .exit)) (now (starts .exit)) ⌝ }
+    ensures { λ r. ⌜
+        Listed (fieldList (now (rows .entry)) (now (s .entry)) from) r (now (seen .exit)) (now (values .exit))
+        (now (starts .exit))
+        ⌝ }
 {
     let mut p = from;
     while p < s.len() {
@@ -116,7 +119,10 @@ pub fn fill_fields(
     values: &mut [u64; 10],
     starts: &mut [usize; 10],
 ) -> bool
-    ensures { λ r. ⌜ Holds (fieldsTo (now (rows .entry)) (now (s .entry)) from end) r (now (seen .exit)) (now (values .exit)) (now (starts .exit)) ⌝ }
+    ensures { λ r. ⌜
+        Holds (fieldsTo (now (rows .entry)) (now (s .entry)) from end) r (now (seen .exit)) (now (values .exit))
+        (now (starts .exit))
+        ⌝ }
 {
     clear(seen, values, starts);
     if s.len() < end {

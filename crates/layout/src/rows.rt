@@ -1,20 +1,7 @@
 // Each message's rows, tied to the definitions: a wrong row of the table is refused here.
 ghost use mathlib.Core.Path.{_≡_};
-ghost use Rattle.layout.specs.Table.{
-  any,
-  bytes,
-  close,
-  deallocate,
-  execute,
-  fetch,
-  open',
-  openStmt,
-  prepare,
-  prepareStmt,
-  rowsOf,
-  scalar,
-  stmtExecute,
-};
+ghost use Rattle.protocol.specs.Client.{close, deallocate, execute, fetch, open', prepare};
+ghost use Rattle.layout.specs.Table.{any, bytes, openStmt, prepareStmt, rowsOf, scalar, stmtExecute};
 use crate::table;
 
 pub fn prepare_rows() -> [[u16; 6]; 2]

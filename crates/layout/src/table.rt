@@ -2,7 +2,8 @@
 // message, field number, wire type, required, repeated, and the listed values v of an enum as the sum
 // of 2^v (0: no enum).
 
-// Messages: the client messages by their type, the embedded ones by numbers of our own.
+// Messages: the client messages by their type, the embedded ones by numbers of our own that no
+// type byte has.
 pub const PREPARE: u16 = 40;
 
 pub const EXECUTE: u16 = 41;
@@ -15,17 +16,17 @@ pub const CLOSE: u16 = 44;
 
 pub const FETCH: u16 = 45;
 
-pub const PREPARE_STMT: u16 = 1;
+pub const PREPARE_STMT: u16 = 256;
 
-pub const STMT_EXECUTE: u16 = 2;
+pub const STMT_EXECUTE: u16 = 257;
 
-pub const OPEN_STMT: u16 = 3;
+pub const OPEN_STMT: u16 = 258;
 
-pub const ANY: u16 = 4;
+pub const ANY: u16 = 259;
 
-pub const SCALAR: u16 = 5;
+pub const SCALAR: u16 = 260;
 
-pub const BYTES: u16 = 6;
+pub const BYTES: u16 = 261;
 
 // Wire types.
 const NUM: u16 = 0;

@@ -1,44 +1,49 @@
--- Messages from the arrays that hold them. Assumes nothing.
+-- Frames from the arrays that hold their fields. Assumes nothing.
 use Prim.Native.Nat.{ℕ, _+_}
-use mathlib.Core.Bool.{Bool, true, false, not, cond}
+use mathlib.Core.Bool.{Bool, true, false, not}
 use mathlib.Core.Path.{_≡_, refl, sym, ap, _∙_}
 use mathlib.Core.List.{List}
 use lib.ListN.{length, getD, take}
 use lib.Seq.{length-take-le}
 use lib.Dec.{eqb}
 use borrow.Author.Tests.{eq-eqb, ne-eqb}
+use Rattle.protocol.specs.Client as Client
 use Rattle.varint.proofs.PastLaws.{both}
 use Rattle.layout.specs.Row.{wireOf, rowFor}
-use Rattle.layout.specs.Table.{rowsOf, prepare, prepareStmt, stmtExecute, execute, deallocate, open', openStmt}
-use Rattle.layout.specs.Fields.{useOf, fieldsAt, fieldsTo}
+use Rattle.layout.specs.Table.{rowsOf, prepareStmt, stmtExecute, openStmt}
+use Rattle.layout.specs.Fields.{useOf, fieldsAt}
 use Rattle.layout.specs.Arrays.{Holds}
 use Rattle.layout.specs.declared.slots.Slots.{Slots}
 use Rattle.layout.specs.declared.fields.Use.{Use}
-use Rattle.layout.proofs.ArrayLaws.{holds-whole, held-good, held-value, held-start, held-seen, held-absent, held-present, bytes-long, bytes-long-to}
+use Rattle.layout.proofs.ArrayLaws.{held-good, held-value, held-start, held-seen, held-absent, held-present}
+use Rattle.layout.proofs.ArrayLaws.{bytes-long, bytes-long-to}
 use Rattle.layout.proofs.CountLaws.{good-list}
-use Rattle.args.specs.Part.{embedded, countOf, absent, valueOf, startOf, lenOf, low32}
+use Rattle.args.specs.Part.{embedded, absent, countOf, valueOf, startOf, lenOf, low32}
 use Rattle.args.specs.Arguments.{noArguments}
 use Rattle.args.specs.declared.arguments.Arguments.{Arguments}
 use Rattle.args.proofs.NoneLaws.{no-arguments}
-use Rattle.message.specs.Message.{payload, message, noOptional, noPart, optionalBy, optionalOf, refused, sound, truthOf}
-use Rattle.message.specs.Simple.{deallocateIn, cursorIn}
-use Rattle.message.specs.Execute.{argumentsWithin, badExecute, executeOf, executeIn, openMessage}
-use Rattle.message.specs.Inside.{openMade, openInside}
-use Rattle.message.specs.Prepare.{chosen, bodyIn, prepareFrom, prepareChosen, prepareTyped, prepareMessage}
-use Rattle.message.specs.Inside.{prepareInside}
-use Rattle.message.proofs.MessageLaws.{sound-no, sound-yes, within-there, deallocate-good, cursor-good, execute-bad, execute-worse, execute-good, prepare-absent, prepare-there}
-use Rattle.message.specs.declared.message.Optional.{Optional}
-use Rattle.message.specs.declared.message.Message.{Message}
-use Rattle.message.specs.declared.execute.Execute.{Execute}
+use Rattle.args.proofs.PartLaws.{yes, no as without}
+use Rattle.message.specs.Operation as Operation
+use Rattle.message.specs.Payload.{payload, ifGood, optionalBy, optionalOf, truthOf}
+use Rattle.message.specs.Simple.{fetchIn}
+use Rattle.message.specs.Execute.{argumentsWithin, badExecute, executeIn, openFrom, openInside, openFrame}
+use Rattle.message.specs.Prepare.{bodyIn, prepareFrom, prepareChosen, prepareTyped, prepareInside, prepareFrame}
+use Rattle.message.proofs.MessageLaws.{payload-bad, payload-good, neither, first-only, both-hold, within-there}
+use Rattle.message.proofs.MessageLaws.{execute-bad, execute-worse, execute-good}
+use Rattle.message.specs.declared.request.Optional.{Optional}
+use Rattle.message.specs.declared.request.Execute.{Execute}
+use Rattle.message.specs.declared.request.Request.{Request}
+use Rattle.message.specs.declared.request.Frame.{Frame}
 
 -- an optional field
 optional-held : {x : Slots} {g : Bool} {v : List Bool} {w u : List ℕ} → Holds x g v w u → (k : ℕ) →
     optionalBy (getD v k false) (getD w k 0) ≡ optionalOf x k
 optional-held {x} {g} {v} {w} {u} h k =
-    ap (λ (b : Bool). optionalBy b (getD w k 0)) (held-seen h k) ∙ ap (optionalBy (not (eqb (countOf x k) 0))) (held-value h k)
+    ap (λ (b : Bool). optionalBy b (getD w k 0)) (held-seen h k)
+    ∙ ap (optionalBy (not (eqb (countOf x k) 0))) (held-value h k)
 
 -- each args field is counted, so a message whose arrays show none has no arguments
-pub execute-counts : (v : ℕ) → Use.Counted ≡ useOf (rowsOf execute) 2 2 v
+pub execute-counts : (v : ℕ) → Use.Counted ≡ useOf (rowsOf Client.execute) 2 2 v
 unfolding rowsOf rowFor
 execute-counts v = refl
 
@@ -46,8 +51,10 @@ pub stmt-counts : (v : ℕ) → Use.Counted ≡ useOf (rowsOf stmtExecute) 2 2 v
 unfolding rowsOf rowFor
 stmt-counts v = refl
 
-pub within-none : (rows : List (List ℕ)) → ((k : ℕ) → Use.Counted ≡ useOf rows 2 2 k) → (s : List ℕ) (at n : ℕ) {g : Bool} {v : List Bool}
-    {w u : List ℕ} → Holds (embedded rows s at n) g v w u → g ≡ true → getD v 2 false ≡ false → argumentsWithin s at n ≡ noArguments at (at + n)
+pub within-none : (rows : List (List ℕ)) → ((k : ℕ) → Use.Counted ≡ useOf rows 2 2 k) →
+    (s : List ℕ) (at n : ℕ) {g : Bool} {v : List Bool}
+    {w u : List ℕ} → Holds (embedded rows s at n) g v w u → g ≡ true → getD v 2 false ≡ false →
+    argumentsWithin s at n ≡ noArguments at (at + n)
 within-none rows counts s at n h e f =
     let good = held-good h e in
     let list = good-list rows s at (at + n) good in
@@ -55,26 +62,38 @@ within-none rows counts s at n h e f =
     ∙ sym (no-arguments rows counts (take (at + n) s) at (rw (list .1) at good) (rw (list .1) at (held-absent h 2 f)))
     ∙ ap (noArguments at) (length-take-le (at + n) s (list .0))
 
-module _ (s : List ℕ) {g : Bool} {v : List Bool} {w u : List ℕ} where
-  pub deallocate-held : Holds (fieldsAt (rowsOf deallocate) s payload) g v w u → g ≡ true →
-      message (length s) deallocate (low32 (getD w 1 0)) 0 noOptional noOptional 0 noPart (noArguments 0 0)
-      ≡ deallocateIn s (fieldsAt (rowsOf deallocate) s payload)
-  deallocate-held h e =
-      ap (λ (n : ℕ). message (length s) deallocate (low32 n) 0 noOptional noOptional 0 noPart (noArguments 0 0)) (held-value h 1)
-      ∙ deallocate-good s (fieldsAt (rowsOf deallocate) s payload) (held-good h e)
+-- Deallocate and Close have an id in field 1
+module _ (s : List ℕ) (kind : ℕ) (q : ℕ → Request) {x : Slots} {g : Bool} {v : List Bool} {w u : List ℕ}
+    (h : Holds x g v w u) where
+  pub named-spoiled : g ≡ false → Frame.BadPayload (length s) kind ≡ ifGood s kind (x .good) (q (low32 (valueOf x 1)))
+  named-spoiled e = payload-bad s kind (q (low32 (valueOf x 1))) (held-good h e)
 
-  pub cursor-held : (x : Slots) (kind : ℕ) → Holds x g v w u → g ≡ true →
-      message (length s) kind 0 (low32 (getD w 1 0)) (optionalBy (getD v 2 false) (getD w 2 0)) noOptional 0 noPart (noArguments 0 0)
-      ≡ cursorIn s kind x
-  cursor-held x kind h e =
-      ap (λ (n : ℕ). message (length s) kind 0 (low32 n) (optionalBy (getD v 2 false) (getD w 2 0)) noOptional 0 noPart (noArguments 0 0))
-      (held-value h 1)
-      ∙ ap (λ (o : Optional). message (length s) kind 0 (low32 (valueOf x 1)) o noOptional 0 noPart (noArguments 0 0)) (optional-held h 2)
-      ∙ cursor-good s x kind (held-good h e)
+  pub named-held : g ≡ true →
+      Frame.Good (length s) (q (low32 (getD w 1 0))) ≡ ifGood s kind (x .good) (q (low32 (valueOf x 1)))
+  named-held e =
+      ap (λ (n : ℕ). Frame.Good (length s) (q (low32 n))) (held-value h 1)
+      ∙ payload-good s kind (q (low32 (valueOf x 1))) (held-good h e)
 
-module _ (s : List ℕ) (at n : ℕ) {g : Bool} {v : List Bool} {w u : List ℕ} (h : Holds (embedded (rowsOf execute) s at n) g v w u) where
+-- a Fetch may have fetch_rows in field 2
+module _ (s : List ℕ) {x : Slots} {g : Bool} {v : List Bool} {w u : List ℕ} (h : Holds x g v w u) where
+  abbrev asking : ℕ → Optional → Request
+  asking id rows = Request.Fetch (record { cursor = low32 id; rows = rows })
+
+  pub fetch-spoiled : g ≡ false → Frame.BadPayload (length s) Client.fetch ≡ fetchIn s x
+  fetch-spoiled e = payload-bad s Client.fetch (asking (valueOf x 1) (optionalOf x 2)) (held-good h e)
+
+  pub fetch-held : g ≡ true →
+      Frame.Good (length s) (asking (getD w 1 0) (optionalBy (getD v 2 false) (getD w 2 0))) ≡ fetchIn s x
+  fetch-held e =
+      ap (λ (n : ℕ). Frame.Good (length s) (asking n (optionalBy (getD v 2 false) (getD w 2 0)))) (held-value h 1)
+      ∙ ap (λ (o : Optional). Frame.Good (length s) (asking (valueOf x 1) o)) (optional-held h 2)
+      ∙ payload-good s Client.fetch (asking (valueOf x 1) (optionalOf x 2)) (held-good h e)
+
+-- an Execute
+module _ (s : List ℕ) (at n : ℕ) {g : Bool} {v : List Bool} {w u : List ℕ}
+    (h : Holds (embedded (rowsOf Client.execute) s at n) g v w u) where
   abbrev run : Slots
-  run = embedded (rowsOf execute) s at n
+  run = embedded (rowsOf Client.execute) s at n
 
   pub execute-spoiled : g ≡ false → badExecute ≡ executeIn s at n
   unfolding executeIn
@@ -87,11 +106,10 @@ module _ (s : List ℕ) (at n : ℕ) {g : Bool} {v : List Bool} {w u : List ℕ}
         execute-worse run (argumentsWithin s at n) (held-good h e) (sym (ap (λ (b : Arguments). b .good) is) ∙ f)
 
     abbrev made : ℕ → Optional → Arguments → Execute
-    made stmt compact b = record { good = true; stmt = low32 stmt; compact = truthOf compact; args = b }
+    made stmt compact b = record { stmt = low32 stmt; compact = truthOf compact; args = b }
 
     pub execute-held : a .good ≡ true →
         record {
-          good = true;
           stmt = low32 (getD w 1 0);
           compact = truthOf (optionalBy (getD v 3 false) (getD w 3 0));
           args = a;
@@ -110,116 +128,146 @@ module _ (s : List ℕ) (id : ℕ) (rows : Optional) (at n : ℕ) {g : Bool} {v 
   abbrev stmt : Slots
   stmt = embedded (rowsOf openStmt) s at n
 
-  abbrev opening : Message
-  opening = openMade s id rows (record { start = startOf stmt 2; len = lenOf stmt 2 }) (executeIn s (startOf stmt 2) (lenOf stmt 2))
+  abbrev opening : Frame
+  opening =
+      openFrom s id rows (record { start = startOf stmt 2; len = lenOf stmt 2 })
+      (executeIn s (startOf stmt 2) (lenOf stmt 2))
+
+  abbrev unopened : Frame
+  unopened = Frame.BadPayload (length s) Client.open'
 
   run-long : lenOf stmt 2 ≡ valueOf stmt 2
   unfolding rowsOf rowFor
   run-long = bytes-long-to (rowsOf openStmt) 2 refl s at (at + n)
 
-  pub open-spoiled : g ≡ false → refused 6 (length s) ≡ openInside s id rows at n
-  open-spoiled e = sound-no s (stmt .good) (sound s (not (absent stmt 2)) opening) (held-good h e)
+  pub open-spoiled : g ≡ false → Frame.BadPayload (length s) Client.open' ≡ openInside s id rows at n
+  open-spoiled e = neither opening unopened (not (absent stmt 2)) (held-good h e)
 
-  pub open-without : g ≡ true → getD v 2 false ≡ false → refused 6 (length s) ≡ openInside s id rows at n
+  pub open-without : g ≡ true → getD v 2 false ≡ false →
+      Frame.BadPayload (length s) Client.open' ≡ openInside s id rows at n
   open-without e f =
-      sound-no s (not (absent stmt 2)) opening (ap not (eq-eqb (countOf stmt 2) 0 (held-absent h 2 f)))
-      ∙ sound-yes s (stmt .good) (sound s (not (absent stmt 2)) opening) (held-good h e)
+      first-only opening unopened (held-good h e) (ap not (eq-eqb (countOf stmt 2) 0 (held-absent h 2 f)))
 
-  pub open-held : g ≡ true → getD v 2 false ≡ true → (e : Execute) → e ≡ executeIn s (getD u 2 0) (getD w 2 0) →
-      openMade s id rows (record { start = getD u 2 0; len = getD w 2 0 }) e ≡ openInside s id rows at n
-  open-held t f e is =
-      ap (openMade s id rows (record { start = getD u 2 0; len = getD w 2 0 })) is
-      ∙ ap (λ (p : ℕ). openMade s id rows (record { start = p; len = getD w 2 0 }) (executeIn s p (getD w 2 0))) (held-start h 2)
-      ∙ ap (λ (q : ℕ). openMade s id rows (record { start = startOf stmt 2; len = q }) (executeIn s (startOf stmt 2) q))
+  pub open-held : g ≡ true → getD v 2 false ≡ true → (x : Execute) → x ≡ executeIn s (getD u 2 0) (getD w 2 0) →
+      openFrom s id rows (record { start = getD u 2 0; len = getD w 2 0 }) x ≡ openInside s id rows at n
+  open-held t f x is =
+      ap (openFrom s id rows (record { start = getD u 2 0; len = getD w 2 0 })) is
+      ∙ ap (λ (p : ℕ). openFrom s id rows (record { start = p; len = getD w 2 0 }) (executeIn s p (getD w 2 0)))
+      (held-start h 2)
+      ∙ ap (λ (q : ℕ). openFrom s id rows (record { start = startOf stmt 2; len = q }) (executeIn s (startOf stmt 2) q))
       (held-value h 2 ∙ sym run-long)
-      ∙ sound-yes s (not (absent stmt 2)) opening (ap not (ne-eqb (countOf stmt 2) 0 (held-present h 2 f)))
-      ∙ sound-yes s (stmt .good) (sound s (not (absent stmt 2)) opening) (held-good h t)
+      ∙ both-hold opening unopened (held-good h t) (ap not (ne-eqb (countOf stmt 2) 0 (held-present h 2 f)))
 
-module _ (s : List ℕ) {g : Bool} {v : List Bool} {w u : List ℕ} (h : Holds (fieldsAt (rowsOf open') s payload) g v w u) where
+module _ (s : List ℕ) {g : Bool} {v : List Bool} {w u : List ℕ}
+    (h : Holds (fieldsAt (rowsOf Client.open') s payload) g v w u) where
   abbrev opened : Slots
-  opened = fieldsAt (rowsOf open') s payload
+  opened = fieldsAt (rowsOf Client.open') s payload
 
   opened-long : lenOf opened 4 ≡ valueOf opened 4
   unfolding rowsOf rowFor
-  opened-long = bytes-long (rowsOf open') 4 refl s payload
+  opened-long = bytes-long (rowsOf Client.open') 4 refl s payload
 
-  abbrev inside : Message
+  abbrev inside : Frame
   inside = openInside s (valueOf opened 1) (optionalOf opened 5) (startOf opened 4) (lenOf opened 4)
 
-  pub open-refused : g ≡ false → refused 6 (length s) ≡ openMessage s
-  unfolding openMessage
-  open-refused e = sound-no s (opened .good) inside (held-good h e)
+  pub open-refused : g ≡ false → Frame.BadPayload (length s) Client.open' ≡ openFrame s
+  unfolding openFrame
+  open-refused e = without inside (Frame.BadPayload (length s) Client.open') (held-good h e)
 
   pub open-whole : g ≡ true →
-      openInside s (getD w 1 0) (optionalBy (getD v 5 false) (getD w 5 0)) (getD u 4 0) (getD w 4 0) ≡ openMessage s
-  unfolding openMessage
+      openInside s (getD w 1 0) (optionalBy (getD v 5 false) (getD w 5 0)) (getD u 4 0) (getD w 4 0) ≡ openFrame s
+  unfolding openFrame
   open-whole e =
-      ap (λ (i : ℕ). openInside s i (optionalBy (getD v 5 false) (getD w 5 0)) (getD u 4 0) (getD w 4 0)) (held-value h 1)
+      ap (λ (i : ℕ). openInside s i (optionalBy (getD v 5 false) (getD w 5 0)) (getD u 4 0) (getD w 4 0))
+      (held-value h 1)
       ∙ ap (λ (o : Optional). openInside s (valueOf opened 1) o (getD u 4 0) (getD w 4 0)) (optional-held h 5)
       ∙ ap (λ (p : ℕ). openInside s (valueOf opened 1) (optionalOf opened 5) p (getD w 4 0)) (held-start h 4)
       ∙ ap (openInside s (valueOf opened 1) (optionalOf opened 5) (startOf opened 4)) (held-value h 4 ∙ sym opened-long)
-      ∙ sound-yes s (opened .good) inside (held-good h e)
+      ∙ yes inside (Frame.BadPayload (length s) Client.open') (held-good h e)
 
 -- Prepare, by its statement and whole
-chosen-wire : (t : ℕ) → wireOf (rowFor (rowsOf prepareStmt) (chosen t)) ≡ 2
+chosen-wire : (t : ℕ) → wireOf (rowFor (rowsOf prepareStmt) (Operation.fieldOf t)) ≡ 2
 unfolding rowsOf rowFor
 chosen-wire t =
-    both P (eqb t 0) 2 _ (λ _. refl)
-    (λ _. both P (eqb t 1) 3 _ (λ _. refl) (λ _. both P (eqb t 2) 4 _ (λ _. refl) (λ _. both P (eqb t 4) 5 6 (λ _. refl) (λ _. refl))))
+    both P (eqb t Operation.find) 2 _ (λ _. refl)
+    (λ _. both P (eqb t Operation.insert) 3 _ (λ _. refl)
+    (λ _. both P (eqb t Operation.update) 4 _ (λ _. refl)
+    (λ _. both P (eqb t Operation.delete) 5 6 (λ _. refl) (λ _. refl))))
   where
     P : ℕ → Type 0
     P k = wireOf (rowFor (rowsOf prepareStmt) k) ≡ 2
 
-module _ (s : List ℕ) (id at n : ℕ) {g : Bool} {v : List Bool} {w u : List ℕ} (h : Holds (embedded (rowsOf prepareStmt) s at n) g v w u) where
+module _ (s : List ℕ) (id at n : ℕ) {g : Bool} {v : List Bool} {w u : List ℕ}
+    (h : Holds (embedded (rowsOf prepareStmt) s at n) g v w u) where
   abbrev text : Slots
   text = embedded (rowsOf prepareStmt) s at n
 
-  pub prepare-spoiled : g ≡ false → refused 6 (length s) ≡ prepareInside s id at n
-  prepare-spoiled e = sound-no s (text .good) (prepareTyped s id text (low32 (valueOf text 1))) (held-good h e)
+  abbrev body-at : ℕ → ℕ → Frame
+  body-at t k =
+      prepareFrom s id t (record { start = startOf text k; len = lenOf text k })
+      (bodyIn s t (startOf text k) (lenOf text k))
 
-  module _ (e : g ≡ true) (k : ℕ) (is : k ≡ chosen (low32 (getD w 1 0))) where
+  abbrev unprepared : Frame
+  unprepared = Frame.BadPayload (length s) Client.prepare
+
+  pub prepare-spoiled : g ≡ false → Frame.BadPayload (length s) Client.prepare ≡ prepareInside s id at n
+  prepare-spoiled e =
+      let t = low32 (valueOf text 1) in
+      neither (body-at t (Operation.fieldOf t)) unprepared (not (absent text (Operation.fieldOf t))) (held-good h e)
+
+  module _ (e : g ≡ true) (k : ℕ) (is : k ≡ Operation.fieldOf (low32 (getD w 1 0))) where
     typed : prepareChosen s id text (low32 (getD w 1 0)) k ≡ prepareInside s id at n
     typed =
         ap (prepareChosen s id text (low32 (getD w 1 0))) is
         ∙ ap (λ (i : ℕ). prepareTyped s id text (low32 i)) (held-value h 1)
-        ∙ sound-yes s (text .good) (prepareTyped s id text (low32 (valueOf text 1))) (held-good h e)
 
     body-long : lenOf text k ≡ valueOf text k
-    body-long = bytes-long-to (rowsOf prepareStmt) k (ap (λ (j : ℕ). wireOf (rowFor (rowsOf prepareStmt) j)) is ∙ chosen-wire (low32 (getD w 1 0))) s at (at + n)
+    body-long =
+        bytes-long-to (rowsOf prepareStmt) k
+        (ap (λ (j : ℕ). wireOf (rowFor (rowsOf prepareStmt) j)) is ∙ chosen-wire (low32 (getD w 1 0)))
+        s at (at + n)
 
-    pub prepare-without : getD v k false ≡ false → refused 6 (length s) ≡ prepareInside s id at n
-    prepare-without f = prepare-absent s id (low32 (getD w 1 0)) text k (held-absent h k f) ∙ typed
+    pub prepare-without : getD v k false ≡ false → Frame.BadPayload (length s) Client.prepare ≡ prepareInside s id at n
+    prepare-without f =
+        first-only (body-at (low32 (getD w 1 0)) k) unprepared (held-good h e)
+        (ap not (eq-eqb (countOf text k) 0 (held-absent h k f)))
+        ∙ typed
 
-    pub prepare-held : getD v k false ≡ true → (b : Arguments) → b ≡ bodyIn s (low32 (getD w 1 0)) (getD u k 0) (getD w k 0) →
-        prepareFrom s id (low32 (getD w 1 0)) (record { start = getD u k 0; len = getD w k 0 }) b ≡ prepareInside s id at n
+    pub prepare-held : getD v k false ≡ true → (b : Arguments) →
+        b ≡ bodyIn s (low32 (getD w 1 0)) (getD u k 0) (getD w k 0) →
+        prepareFrom s id (low32 (getD w 1 0)) (record { start = getD u k 0; len = getD w k 0 }) b
+        ≡ prepareInside s id at n
     prepare-held f b bs =
         let t = low32 (getD w 1 0) in
         ap (prepareFrom s id t (record { start = getD u k 0; len = getD w k 0 })) bs
-        ∙ ap (λ (p : ℕ). prepareFrom s id t (record { start = p; len = getD w k 0 }) (bodyIn s t p (getD w k 0))) (held-start h k)
-        ∙ ap (λ (q : ℕ). prepareFrom s id t (record { start = startOf text k; len = q }) (bodyIn s t (startOf text k) q))
+        ∙ ap (λ (p : ℕ). prepareFrom s id t (record { start = p; len = getD w k 0 }) (bodyIn s t p (getD w k 0)))
+        (held-start h k)
+        ∙ ap
+        (λ (q : ℕ). prepareFrom s id t (record { start = startOf text k; len = q }) (bodyIn s t (startOf text k) q))
         (held-value h k ∙ sym body-long)
-        ∙ prepare-there s id t text k (held-present h k f)
+        ∙ both-hold (body-at t k) unprepared (held-good h e) (ap not (ne-eqb (countOf text k) 0 (held-present h k f)))
         ∙ typed
 
-module _ (s : List ℕ) {g : Bool} {v : List Bool} {w u : List ℕ} (h : Holds (fieldsAt (rowsOf prepare) s payload) g v w u) where
+module _ (s : List ℕ) {g : Bool} {v : List Bool} {w u : List ℕ}
+    (h : Holds (fieldsAt (rowsOf Client.prepare) s payload) g v w u) where
   abbrev prepared : Slots
-  prepared = fieldsAt (rowsOf prepare) s payload
+  prepared = fieldsAt (rowsOf Client.prepare) s payload
 
   prepared-long : lenOf prepared 2 ≡ valueOf prepared 2
   unfolding rowsOf rowFor
-  prepared-long = bytes-long (rowsOf prepare) 2 refl s payload
+  prepared-long = bytes-long (rowsOf Client.prepare) 2 refl s payload
 
-  abbrev within : Message
+  abbrev within : Frame
   within = prepareInside s (valueOf prepared 1) (startOf prepared 2) (lenOf prepared 2)
 
-  pub prepare-refused : g ≡ false → refused 6 (length s) ≡ prepareMessage s
-  unfolding prepareMessage
-  prepare-refused e = sound-no s (prepared .good) within (held-good h e)
+  pub prepare-refused : g ≡ false → Frame.BadPayload (length s) Client.prepare ≡ prepareFrame s
+  unfolding prepareFrame
+  prepare-refused e = without within (Frame.BadPayload (length s) Client.prepare) (held-good h e)
 
-  pub prepare-whole : g ≡ true → prepareInside s (getD w 1 0) (getD u 2 0) (getD w 2 0) ≡ prepareMessage s
-  unfolding prepareMessage
+  pub prepare-whole : g ≡ true → prepareInside s (getD w 1 0) (getD u 2 0) (getD w 2 0) ≡ prepareFrame s
+  unfolding prepareFrame
   prepare-whole e =
       ap (λ (i : ℕ). prepareInside s i (getD u 2 0) (getD w 2 0)) (held-value h 1)
       ∙ ap (λ (p : ℕ). prepareInside s (valueOf prepared 1) p (getD w 2 0)) (held-start h 2)
       ∙ ap (prepareInside s (valueOf prepared 1) (startOf prepared 2)) (held-value h 2 ∙ sym prepared-long)
-      ∙ sound-yes s (prepared .good) within (held-good h e)
+      ∙ yes within (Frame.BadPayload (length s) Client.prepare) (held-good h e)

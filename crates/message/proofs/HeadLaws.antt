@@ -6,58 +6,66 @@ use mathlib.Core.Path.{_≡_, refl, sym, ap, _∙_}
 use mathlib.Core.List.{List}
 use lib.ListN.{length, getD}
 use lib.Dec.{leb}
-use borrow.Author.Tests.{lt-ltb, le-ltb, le-leb, lt-leb, eq-eqb, ne-eqb, leb-true, leb-false}
+use borrow.Author.Tests.{lt-ltb, le-ltb, le-leb, eq-eqb, ne-eqb, leb-true}
+use Rattle.protocol.specs.Reason as Reason
 use Rattle.scalar.specs.Fixed.{little, fixedAt}
 use Rattle.scalar.specs.declared.fixed.Fixed.{Fixed}
-use Rattle.message.specs.Head.{maxLength, lengthOf, headOf}
+use Rattle.message.specs.Head.{lengthBytes, maxLength, lengthOf, headOf}
 use Rattle.message.specs.declared.head.Head.{Head}
 
-fixed-cases : (s : List ℕ) (f : Fixed) → f ≡ fixedAt 4 s 0 →
-    (b : Bool) → leb 4 (length s) ≡ b → f ≡ cond b (Fixed.Number (little 4 s 0) 4) Fixed.Bad
-fixed-cases s f e b h = e ∙ ap (λ (x : Bool). cond x (Fixed.Number (little 4 s 0) 4) Fixed.Bad) h
+fixed-cases : (s : List ℕ) (f : Fixed) → f ≡ fixedAt lengthBytes s 0 →
+    (b : Bool) → leb lengthBytes (length s) ≡ b →
+    f ≡ cond b (Fixed.Number (little lengthBytes s 0) lengthBytes) Fixed.Bad
+fixed-cases s f e b h = e ∙ ap (λ (x : Bool). cond x (Fixed.Number (little lengthBytes s 0) lengthBytes) Fixed.Bad) h
 
 -- fewer than four bytes
-pub head-short : (s : List ℕ) → Fixed.Bad ≡ fixedAt 4 s 0 → Head.Refused 1 ≡ headOf s
-head-short s e = go (leb 4 (length s)) refl
+pub head-short : (s : List ℕ) → Fixed.Bad ≡ fixedAt lengthBytes s 0 → Head.Refused Reason.notAllThere ≡ headOf s
+head-short s e = go (leb lengthBytes (length s)) refl
   where
-    go : (b : Bool) → leb 4 (length s) ≡ b → Head.Refused 1 ≡ headOf s
+    go : (b : Bool) → leb lengthBytes (length s) ≡ b → Head.Refused Reason.notAllThere ≡ headOf s
     go true h = absurd (let z = fixed-cases s Fixed.Bad e true h in let y : _≡_ {A = ℕ} 0 1 = cc in omega arith)
     go false h = simp h
 
-module _ (s : List ℕ) {v next : ℕ} (e : Fixed.Number v next ≡ fixedAt 4 s 0) where
-  pub head-there : (4 ≤ length s) × (v ≡ lengthOf s)
-  head-there = go (leb 4 (length s)) refl
+module _ (s : List ℕ) {v next : ℕ} (e : Fixed.Number v next ≡ fixedAt lengthBytes s 0) where
+  pub head-there : (lengthBytes ≤ length s) × (v ≡ lengthOf s)
+  head-there = go (leb lengthBytes (length s)) refl
     where
-      go : (b : Bool) → leb 4 (length s) ≡ b → (4 ≤ length s) × (v ≡ lengthOf s)
-      go true h = (leb-true 4 (length s) h, (let z = fixed-cases s (Fixed.Number v next) e true h in cc))
-      go false h = absurd (let z = fixed-cases s (Fixed.Number v next) e false h in let y : _≡_ {A = ℕ} 0 1 = cc in omega arith)
+      go : (b : Bool) → leb lengthBytes (length s) ≡ b → (lengthBytes ≤ length s) × (v ≡ lengthOf s)
+      go true h = (leb-true lengthBytes (length s) h, (let z = fixed-cases s (Fixed.Number v next) e true h in cc))
+      go false h =
+          absurd (let z = fixed-cases s (Fixed.Number v next) e false h in let y : _≡_ {A = ℕ} 0 1 = cc in omega arith)
 
-  there : leb 4 (length s) ≡ true
-  there = le-leb 4 (length s) (head-there .0)
+  there : leb lengthBytes (length s) ≡ true
+  there = le-leb lengthBytes (length s) (head-there .0)
 
-  pub head-empty : v ≡ 0 → Head.Refused 2 ≡ headOf s
+  pub head-empty : v ≡ 0 → Head.Refused Reason.badLength ≡ headOf s
   head-empty h = simp (there, eq-eqb (lengthOf s) 0 (sym (head-there .1) ∙ h))
 
-  pub head-large : (v ≡ 0 → ⊥) → maxLength < v → Head.Refused 2 ≡ headOf s
+  pub head-large : (v ≡ 0 → ⊥) → maxLength < v → Head.Refused Reason.badLength ≡ headOf s
   head-large h g =
-      simp (there, ne-eqb (lengthOf s) 0 (λ z. h (head-there .1 ∙ z)), lt-ltb maxLength (lengthOf s) (omega (arith, head-there .1)))
+      simp (
+        there,
+        ne-eqb (lengthOf s) 0 (λ z. h (head-there .1 ∙ z)),
+        lt-ltb maxLength (lengthOf s) (omega (arith, head-there .1)),
+      )
 
-  pub head-cut : (v ≡ 0 → ⊥) → v ≤ maxLength → length s < 4 + v → Head.Refused 1 ≡ headOf s
+  pub head-cut : (v ≡ 0 → ⊥) → v ≤ maxLength → length s < lengthBytes + v → Head.Refused Reason.notAllThere ≡ headOf s
   head-cut h g c =
       simp (
         there,
         ne-eqb (lengthOf s) 0 (λ z. h (head-there .1 ∙ z)),
         le-ltb maxLength (lengthOf s) (omega (arith, head-there .1)),
-        lt-ltb (length s) (4 + lengthOf s) (omega (arith, head-there .1)),
+        lt-ltb (length s) (lengthBytes + lengthOf s) (omega (arith, head-there .1)),
       )
 
-  pub head-whole : (v ≡ 0 → ⊥) → v ≤ maxLength → 4 + v ≤ length s → Head.Frame (getD s 4 0) (4 + v) ≡ headOf s
+  pub head-whole : (v ≡ 0 → ⊥) → v ≤ maxLength → lengthBytes + v ≤ length s →
+      Head.Frame (getD s lengthBytes 0) (lengthBytes + v) ≡ headOf s
   head-whole h g c =
-      ap (λ (n : ℕ). Head.Frame (getD s 4 0) (4 + n)) (head-there .1)
+      ap (λ (n : ℕ). Head.Frame (getD s lengthBytes 0) (lengthBytes + n)) (head-there .1)
       ∙ sym
       (simp (
         there,
         ne-eqb (lengthOf s) 0 (λ z. h (head-there .1 ∙ z)),
         le-ltb maxLength (lengthOf s) (omega (arith, head-there .1)),
-        le-ltb (length s) (4 + lengthOf s) (omega (arith, head-there .1)),
+        le-ltb (length s) (lengthBytes + lengthOf s) (omega (arith, head-there .1)),
       ))

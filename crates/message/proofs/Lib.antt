@@ -3,3 +3,4 @@ pub mod MessageLaws
 pub mod WithinLaws
 pub mod ArrayLaws
 pub mod UsedLaws
+pub mod PairedLaws

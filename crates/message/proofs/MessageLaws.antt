@@ -1,35 +1,45 @@
--- Messages, case by case. Assumes nothing.
-use Prim.Native.Nat.{ℕ, _+_, _-_, _≤_, _<_}
-use native.Mathlib.Omega.{arith}
-use mathlib.Core.Bool.{Bool, true, false, not, cond}
-use mathlib.Core.Path.{_≡_, refl, sym, ap, _∙_}
+-- Frames, case by case. Assumes nothing.
+use Prim.Native.Nat.{ℕ, _+_, _≤_, _<_}
+use mathlib.Core.Bool.{Bool, true, false, not, cond, _&&_}
+use mathlib.Core.Path.{_≡_, ap, _∙_}
 use mathlib.Core.List.{List, []}
 use lib.ListN.{length, take}
-use lib.Dec.{leb, eqb}
 use borrow.Author.Tests.{eq-eqb, ne-eqb, le-leb, lt-leb}
-use Rattle.scalar.specs.declared.argument.Argument.the-variants as Va
-use Rattle.args.specs.Arguments.{noArguments, badArguments, argumentsIn, nthArgument}
+use Rattle.protocol.specs.Client as Client
+use Rattle.args.specs.Arguments.{noArguments, badArguments, argumentsIn}
+use Rattle.args.specs.Part.{embedded, valueOf, low32}
 use Rattle.args.specs.declared.arguments.Arguments.{Arguments}
 use Rattle.args.proofs.PartLaws.{yes, no as without}
 use Rattle.layout.specs.declared.slots.Slots.{Slots}
-use Rattle.layout.specs.Table.{rowsOf, prepare, execute, deallocate, open', stmtExecute}
-use Rattle.args.specs.Part.{embedded, countOf, absent, valueOf, startOf, lenOf, low32}
-use Rattle.args.specs.declared.part.Part.{Part}
-use Rattle.message.specs.Message.{message, blank, noOptional, noPart, optionalOf, refused, sound, truthOf}
-use Rattle.message.specs.Simple.{plainIn, deallocateIn, cursorIn}
-use Rattle.message.specs.Execute.{argumentsWithin, badExecute, executeOf, executeIn, executeFrom, openFrom}
-use Rattle.message.specs.Prepare.{chosen, bodyIn, prepareFrom, prepareChosen}
-use Rattle.message.specs.Frame.{messageIn, argumentIn}
-use Rattle.message.specs.declared.message.Message.{Message}
-use Rattle.message.specs.declared.message.Optional.{Optional}
-use Rattle.message.specs.declared.execute.Execute.{Execute}
+use Rattle.layout.specs.Table.{rowsOf, stmtExecute}
+use Rattle.message.specs.Operation as Operation
+use Rattle.message.specs.Payload.{ifGood, optionalOf, truthOf}
+use Rattle.message.specs.Execute.{argumentsWithin, badExecute, executeOf}
+use Rattle.message.specs.Prepare.{bodyIn}
+use Rattle.message.specs.Frame.{frameIn}
+use Rattle.message.specs.declared.request.Optional.{Optional}
+use Rattle.message.specs.declared.request.Execute.{Execute}
+use Rattle.message.specs.declared.request.Request.{Request}
+use Rattle.message.specs.declared.request.Frame.{Frame}
 
-module _ (s : List ℕ) (good : Bool) (m : Message) where
-  pub sound-no : good ≡ false → refused 6 (length s) ≡ sound s good m
-  sound-no e = without m (refused 6 (length s)) e
+-- a payload that is good or not
+module _ (s : List ℕ) (kind : ℕ) (q : Request) {good : Bool} where
+  pub payload-bad : good ≡ false → Frame.BadPayload (length s) kind ≡ ifGood s kind good q
+  payload-bad e = without (Frame.Good (length s) q) (Frame.BadPayload (length s) kind) e
 
-  pub sound-yes : good ≡ true → m ≡ sound s good m
-  sound-yes e = yes m (refused 6 (length s)) e
+  pub payload-good : good ≡ true → Frame.Good (length s) q ≡ ifGood s kind good q
+  payload-good e = yes (Frame.Good (length s) q) (Frame.BadPayload (length s) kind) e
+
+-- two tests
+module _ {A : Type 0} (x y : A) {a : Bool} where
+  pub neither : (b : Bool) → a ≡ false → y ≡ cond (a && b) x y
+  neither b e = without x y (ap (λ (t : Bool). t && b) e)
+
+  pub first-only : {b : Bool} → a ≡ true → b ≡ false → y ≡ cond (a && b) x y
+  first-only {b} e f = without x y (ap (λ (t : Bool). t && b) e ∙ f)
+
+  pub both-hold : {b : Bool} → a ≡ true → b ≡ true → x ≡ cond (a && b) x y
+  both-hold {b} e f = yes x y (ap (λ (t : Bool). t && b) e ∙ f)
 
 pub truth-no : (o : Optional) → o .value ≡ 0 → o ≡ truthOf o
 truth-no o h = rw (eq-eqb (o .value) 0 h) (rw (← h))
@@ -46,35 +56,10 @@ module _ (s : List ℕ) (at n : ℕ) where
   unfolding argumentsWithin
   within-there h = yes (argumentsIn (take (at + n) s) at) badArguments (le-leb (at + n) (length s) h)
 
--- the messages by what was read of them
-module _ (s : List ℕ) (x : Slots) where
-  pub plain-bad : (kind : ℕ) → x .good ≡ false → refused 6 (length s) ≡ plainIn s kind x
-  plain-bad kind e = sound-no s (x .good) (blank (length s) kind) e
-
-  pub plain-good : (kind : ℕ) → x .good ≡ true → blank (length s) kind ≡ plainIn s kind x
-  plain-good kind e = sound-yes s (x .good) (blank (length s) kind) e
-
-  abbrev freeing : Message
-  freeing = message (length s) deallocate (low32 (valueOf x 1)) 0 noOptional noOptional 0 noPart (noArguments 0 0)
-
-  pub deallocate-bad : x .good ≡ false → refused 6 (length s) ≡ deallocateIn s x
-  deallocate-bad e = sound-no s (x .good) freeing e
-
-  pub deallocate-good : x .good ≡ true → freeing ≡ deallocateIn s x
-  deallocate-good e = sound-yes s (x .good) freeing e
-
-  abbrev naming : ℕ → Message
-  naming kind = message (length s) kind 0 (low32 (valueOf x 1)) (optionalOf x 2) noOptional 0 noPart (noArguments 0 0)
-
-  pub cursor-bad : (kind : ℕ) → x .good ≡ false → refused 6 (length s) ≡ cursorIn s kind x
-  cursor-bad kind e = sound-no s (x .good) (naming kind) e
-
-  pub cursor-good : (kind : ℕ) → x .good ≡ true → naming kind ≡ cursorIn s kind x
-  cursor-good kind e = sound-yes s (x .good) (naming kind) e
-
+-- an Execute by what was read of it
 module _ (x : Slots) (a : Arguments) where
   abbrev running : Execute
-  running = record { good = true; stmt = low32 (valueOf x 1); compact = truthOf (optionalOf x 3); args = a }
+  running = record { stmt = low32 (valueOf x 1); compact = truthOf (optionalOf x 3); args = a }
 
   pub execute-bad : x .good ≡ false → badExecute ≡ executeOf x a
   execute-bad e = without (cond (a .good) running badExecute) badExecute e
@@ -85,106 +70,80 @@ module _ (x : Slots) (a : Arguments) where
   pub execute-good : x .good ≡ true → a .good ≡ true → running ≡ executeOf x a
   execute-good e f = yes running badExecute f ∙ yes (cond (a .good) running badExecute) badExecute e
 
-module _ (s : List ℕ) (e : Execute) where
-  abbrev executing : Message
-  executing = message (length s) execute (e .stmt) 0 noOptional (e .compact) 0 noPart (e .args)
-
-  pub from-bad : e .good ≡ false → refused 6 (length s) ≡ executeFrom s e
-  from-bad g = sound-no s (e .good) executing g
-
-  pub from-good : e .good ≡ true → executing ≡ executeFrom s e
-  from-good g = sound-yes s (e .good) executing g
-
-  module _ (x y : Slots) where
-    abbrev opening : Message
-    opening =
-        message (length s) open' (e .stmt) (low32 (valueOf x 1)) (optionalOf x 5) (e .compact) 0
-        (record { start = startOf y 2; len = lenOf y 2 })
-        (e .args)
-
-    pub open-from-good : e .good ≡ true → opening ≡ openFrom s x y e
-    open-from-good g = sound-yes s (e .good) opening g
-
 -- the field that a type chooses
 module _ (t : ℕ) where
-  pub chosen-0 : t ≡ 0 → _≡_ {A = ℕ} 2 (chosen t)
-  chosen-0 h = simp (eq-eqb t 0 h)
+  pub chosen-find : t ≡ Operation.find → _≡_ {A = ℕ} 2 (Operation.fieldOf t)
+  chosen-find h = simp (eq-eqb t Operation.find h)
 
-  pub chosen-1 : (t ≡ 0 → ⊥) → t ≡ 1 → _≡_ {A = ℕ} 3 (chosen t)
-  chosen-1 h g = simp (ne-eqb t 0 h, eq-eqb t 1 g)
+  module _ (a : t ≡ Operation.find → ⊥) where
+    pub chosen-insert : t ≡ Operation.insert → _≡_ {A = ℕ} 3 (Operation.fieldOf t)
+    chosen-insert h = simp (ne-eqb t Operation.find a, eq-eqb t Operation.insert h)
 
-  pub chosen-2 : (t ≡ 0 → ⊥) → (t ≡ 1 → ⊥) → t ≡ 2 → _≡_ {A = ℕ} 4 (chosen t)
-  chosen-2 h g f = simp (ne-eqb t 0 h, ne-eqb t 1 g, eq-eqb t 2 f)
+    module _ (b : t ≡ Operation.insert → ⊥) where
+      pub chosen-update : t ≡ Operation.update → _≡_ {A = ℕ} 4 (Operation.fieldOf t)
+      chosen-update h = simp (ne-eqb t Operation.find a, ne-eqb t Operation.insert b, eq-eqb t Operation.update h)
 
-  pub chosen-4 : (t ≡ 0 → ⊥) → (t ≡ 1 → ⊥) → (t ≡ 2 → ⊥) → t ≡ 4 → _≡_ {A = ℕ} 5 (chosen t)
-  chosen-4 h g f e = simp (ne-eqb t 0 h, ne-eqb t 1 g, ne-eqb t 2 f, eq-eqb t 4 e)
+      module _ (d : t ≡ Operation.update → ⊥) where
+        pub chosen-delete : t ≡ Operation.delete → _≡_ {A = ℕ} 5 (Operation.fieldOf t)
+        chosen-delete h =
+            simp (
+              ne-eqb t Operation.find a,
+              ne-eqb t Operation.insert b,
+              ne-eqb t Operation.update d,
+              eq-eqb t Operation.delete h,
+            )
 
-  pub chosen-5 : (t ≡ 0 → ⊥) → (t ≡ 1 → ⊥) → (t ≡ 2 → ⊥) → (t ≡ 4 → ⊥) → _≡_ {A = ℕ} 6 (chosen t)
-  chosen-5 h g f e = simp (ne-eqb t 0 h, ne-eqb t 1 g, ne-eqb t 2 f, ne-eqb t 4 e)
+        pub chosen-last : (t ≡ Operation.delete → ⊥) → _≡_ {A = ℕ} 6 (Operation.fieldOf t)
+        chosen-last h =
+            simp (
+              ne-eqb t Operation.find a,
+              ne-eqb t Operation.insert b,
+              ne-eqb t Operation.update d,
+              ne-eqb t Operation.delete h,
+            )
 
+-- a body by what was read of it
 module _ (s : List ℕ) (t at n : ℕ) (x : Slots) where
-  -- a body by what was read of it
-  pub body-stmt-bad : t ≡ 5 → x ≡ embedded (rowsOf stmtExecute) s at n → x .good ≡ false → badArguments ≡ bodyIn s t at n
-  unfolding bodyIn
-  body-stmt-bad h e g =
-      without (argumentsWithin s at n) badArguments g
-      ∙ ap (λ (z : Slots). cond (z .good) (argumentsWithin s at n) badArguments) e
-      ∙ yes _ _ (eq-eqb t 5 h)
+  module _ (h : t ≡ Operation.stmtExecute) (e : x ≡ embedded (rowsOf stmtExecute) s at n) where
+    told : cond (x .good) (argumentsWithin s at n) badArguments ≡ bodyIn s t at n
+    unfolding bodyIn
+    told =
+        ap (λ (z : Slots). cond (z .good) (argumentsWithin s at n) badArguments) e
+        ∙ yes _ _ (eq-eqb t Operation.stmtExecute h)
 
-  pub body-stmt : t ≡ 5 → x ≡ embedded (rowsOf stmtExecute) s at n → x .good ≡ true → argumentsWithin s at n ≡ bodyIn s t at n
-  unfolding bodyIn
-  body-stmt h e g =
-      yes (argumentsWithin s at n) badArguments g
-      ∙ ap (λ (z : Slots). cond (z .good) (argumentsWithin s at n) badArguments) e
-      ∙ yes _ _ (eq-eqb t 5 h)
+    pub body-stmt-bad : x .good ≡ false → badArguments ≡ bodyIn s t at n
+    body-stmt-bad g = without (argumentsWithin s at n) badArguments g ∙ told
 
-  pub body-list-bad : (t ≡ 5 → ⊥) → x ≡ embedded [] s at n → x .good ≡ false → badArguments ≡ bodyIn s t at n
-  unfolding bodyIn
-  body-list-bad h e g =
-      without (noArguments 0 0) badArguments g
-      ∙ ap (λ (z : Slots). cond (z .good) (noArguments 0 0) badArguments) e
-      ∙ without _ _ (ne-eqb t 5 h)
+    pub body-stmt : x .good ≡ true → argumentsWithin s at n ≡ bodyIn s t at n
+    body-stmt g = yes (argumentsWithin s at n) badArguments g ∙ told
 
-  pub body-list : (t ≡ 5 → ⊥) → x ≡ embedded [] s at n → x .good ≡ true → noArguments 0 0 ≡ bodyIn s t at n
-  unfolding bodyIn
-  body-list h e g =
-      yes (noArguments 0 0) badArguments g
-      ∙ ap (λ (z : Slots). cond (z .good) (noArguments 0 0) badArguments) e
-      ∙ without _ _ (ne-eqb t 5 h)
+  module _ (h : t ≡ Operation.stmtExecute → ⊥) (e : x ≡ embedded [] s at n) where
+    listed : cond (x .good) (noArguments 0 0) badArguments ≡ bodyIn s t at n
+    unfolding bodyIn
+    listed =
+        ap (λ (z : Slots). cond (z .good) (noArguments 0 0) badArguments) e
+        ∙ without _ _ (ne-eqb t Operation.stmtExecute h)
 
-module _ (s : List ℕ) (id t : ℕ) where
-  abbrev preparing : Part → Arguments → Message
-  preparing body b = message (length s) prepare (low32 id) 0 noOptional noOptional t body b
+    pub body-list-bad : x .good ≡ false → badArguments ≡ bodyIn s t at n
+    body-list-bad g = without (noArguments 0 0) badArguments g ∙ listed
 
-  pub prepare-body-bad : (body : Part) (b : Arguments) → b .good ≡ false → refused 6 (length s) ≡ prepareFrom s id t body b
-  prepare-body-bad body b g = sound-no s (b .good) (preparing body b) g
-
-  pub prepare-body : (body : Part) (b : Arguments) → b .good ≡ true → preparing body b ≡ prepareFrom s id t body b
-  prepare-body body b g = sound-yes s (b .good) (preparing body b) g
-
-  module _ (y : Slots) (k : ℕ) where
-    abbrev body-at : Message
-    body-at = prepareFrom s id t (record { start = startOf y k; len = lenOf y k }) (bodyIn s t (startOf y k) (lenOf y k))
-
-    pub prepare-absent : countOf y k ≡ 0 → refused 6 (length s) ≡ prepareChosen s id y t k
-    prepare-absent h = sound-no s (not (absent y k)) body-at (ap not (eq-eqb (countOf y k) 0 h))
-
-    pub prepare-there : (countOf y k ≡ 0 → ⊥) → body-at ≡ prepareChosen s id y t k
-    prepare-there h = sound-yes s (not (absent y k)) body-at (ap not (ne-eqb (countOf y k) 0 h))
+    pub body-list : x .good ≡ true → noArguments 0 0 ≡ bodyIn s t at n
+    body-list g = yes (noArguments 0 0) badArguments g ∙ listed
 
 -- a type that is none of the eight
-pub kind-unknown : (s : List ℕ) (kind : ℕ) → (kind ≡ 6 → ⊥) → (kind ≡ 7 → ⊥) → (kind ≡ 40 → ⊥) → (kind ≡ 41 → ⊥) → (kind ≡ 42 → ⊥) →
-    (kind ≡ 43 → ⊥) → (kind ≡ 44 → ⊥) → (kind ≡ 45 → ⊥) → refused 5 (length s) ≡ messageIn s kind
-unfolding messageIn
+pub kind-unknown : (s : List ℕ) (kind : ℕ) → (kind ≡ Client.reset → ⊥) → (kind ≡ Client.sessionClose → ⊥) →
+    (kind ≡ Client.prepare → ⊥) → (kind ≡ Client.execute → ⊥) → (kind ≡ Client.deallocate → ⊥) →
+    (kind ≡ Client.open' → ⊥) → (kind ≡ Client.close → ⊥) → (kind ≡ Client.fetch → ⊥) →
+    Frame.UnknownType (length s) ≡ frameIn s kind
+unfolding frameIn
 kind-unknown s kind a b c d e f g h =
-    simp
-    (ne-eqb kind 6 a, ne-eqb kind 7 b, ne-eqb kind 40 c, ne-eqb kind 41 d, ne-eqb kind 42 e, ne-eqb kind 43 f, ne-eqb kind 44 g, ne-eqb kind 45 h)
-
-module _ (s : List ℕ) (index : ℕ) (m : Message) where
-  pub argument-refused : (m .reason ≡ 0 → ⊥) → Va.Refused (m .reason) ≡ argumentIn s index m
-  argument-refused h =
-      without (nthArgument (take (m .args .end) s) (m .args .start) index) (Va.Refused (m .reason)) (ne-eqb (m .reason) 0 h)
-
-  pub argument-asked : m .reason ≡ 0 → nthArgument (take (m .args .end) s) (m .args .start) index ≡ argumentIn s index m
-  argument-asked h =
-      yes (nthArgument (take (m .args .end) s) (m .args .start) index) (Va.Refused (m .reason)) (eq-eqb (m .reason) 0 h)
+    simp (
+      ne-eqb kind Client.reset a,
+      ne-eqb kind Client.sessionClose b,
+      ne-eqb kind Client.prepare c,
+      ne-eqb kind Client.execute d,
+      ne-eqb kind Client.deallocate e,
+      ne-eqb kind Client.open' f,
+      ne-eqb kind Client.close g,
+      ne-eqb kind Client.fetch h,
+    )

@@ -1,43 +1,62 @@
--- The parts of a message lie within its frame. Assumes nothing.
-use Prim.Native.Nat.{ℕ, _+_, _-_, _≤_, _<_, min}
+-- The parts of a request lie within its frame; a law for every frame. Assumes nothing.
+use Prim.Native.Nat.{ℕ, _+_, _-_, _≤_}
 use native.Mathlib.Omega.{arith}
-use mathlib.Core.Bool.{Bool, true, false, not, cond, _&&_}
+use mathlib.Core.Bool.{Bool, true, false, not, _&&_}
 use mathlib.Core.Path.{_≡_, refl, sym, ap, _∙_}
 use mathlib.Core.List.{List, [], _∷_}
 use lib.ListN.{length, take, length-take}
 use lib.Dec.{leb, ltb, eqb}
-use borrow.Author.Tests.{ltb-false, eq-eqb, ne-eqb}
+use borrow.Author.Tests.{ltb-false}
+use Rattle.protocol.specs.Client as Client
+use Rattle.protocol.specs.Reason as Reason
 use Rattle.varint.proofs.PastLaws.{both}
 use Rattle.scalar.specs.declared.argument.Argument.{Argument}
-use Rattle.layout.specs.Table.{rowsOf, prepare, prepareStmt, stmtExecute, execute, deallocate, open', openStmt, close, fetch}
+use Rattle.layout.specs.Table.{rowsOf, prepareStmt, stmtExecute, openStmt}
 use Rattle.layout.specs.Fields.{fieldsAt}
 use Rattle.layout.specs.declared.slots.Slots.{Slots}
 use Rattle.layout.proofs.CountLaws.{good-list}
 use Rattle.args.specs.Part.{embedded, absent, valueOf, startOf, lenOf, low32}
-use Rattle.args.specs.Arguments.{anyTypeOf, noArguments, badArguments, withType, counted, together, argumentsIn, argumentsAt}
+use Rattle.args.specs.Arguments.{anyTypeOf, noArguments, withType, together, argumentsAt}
 use Rattle.args.specs.declared.part.Part.{Part}
 use Rattle.args.specs.declared.arguments.Arguments.{Arguments}
-use Rattle.message.specs.Head.{headOf, lengthOf, maxLength}
-use Rattle.message.specs.Message.{payload, refused, sound}
-use Rattle.message.specs.Simple.{plainMessage, deallocateMessage, closeMessage, fetchMessage}
-use Rattle.message.specs.Execute.{argumentsWithin, badExecute, executeOf, executeIn, executeFrom, executeMessage, openFrom, openOf, openWith, openMessage}
-use Rattle.message.specs.Prepare.{chosen, bodyIn, prepareFrom, prepareChosen, prepareTyped, prepareOf, prepareWith, prepareMessage}
-use Rattle.message.specs.Frame.{reset, sessionClose, messageIn, ofHead, messageOf}
+use Rattle.message.specs.Head.{lengthBytes, headOf, lengthOf, maxLength}
+use Rattle.message.specs.Operation as Operation
+use Rattle.message.specs.Request.{bodyOf, argsOf}
+use Rattle.message.specs.Payload.{payload, ifGood}
+use Rattle.message.specs.Simple.{resetFrame, sessionCloseFrame, deallocateFrame, closeFrame, fetchFrame}
+use Rattle.message.specs.Execute.{argumentsWithin, badExecute, executeOf, executeIn, executeFrame, openFrame}
+use Rattle.message.specs.Prepare.{bodyIn, prepareFrame}
+use Rattle.message.specs.Frame.{frameIn, ofHead, frameOf, partOf}
 use Rattle.message.specs.declared.head.Head.{Head}
-use Rattle.message.specs.declared.execute.Execute.{Execute}
-use Rattle.message.specs.declared.message.Message.{Message}
+use Rattle.message.specs.declared.request.Request.{Request}
+use Rattle.message.specs.declared.request.Frame.{Frame}
 
--- body and arguments end within n bytes
-pub record Within (n : ℕ) (m : Message) : Type 0 where
-  pub body : m .body .start + m .body .len ≤ n
-  pub args : m .args .end ≤ n
+-- a request's body and arguments end within n bytes
+pub record Inside (n : ℕ) (q : Request) : Type 0 where
+  pub body : bodyOf q .start + bodyOf q .len ≤ n
+  pub args : argsOf q .end ≤ n
 
-no-parts : (n reason used : ℕ) → Within n (refused reason used)
-no-parts n reason used = record { body = omega arith; args = omega arith }
+-- so do those of a frame that holds one
+abbrev pub Within : ℕ → Frame → Type 0
+Within n Frame.NotAllThere = Unit {0}
+Within n Frame.BadLength = Unit {0}
+Within n (Frame.UnknownType used) = Unit {0}
+Within n (Frame.BadPayload used kind) = Unit {0}
+Within n (Frame.Good used q) = Inside n q
 
-sound-within : (s : List ℕ) (good : Bool) (m : Message) → (good ≡ true → Within (length s) m) → Within (length s) (sound s good m)
-sound-within s true m h = h refl
-sound-within s false m h = no-parts (length s) 6 (length s)
+part-within : (n : ℕ) (x : Frame) → Within n x → partOf x .start + partOf x .len ≤ n
+part-within n Frame.NotAllThere w = omega arith
+part-within n Frame.BadLength w = omega arith
+part-within n (Frame.UnknownType used) w = omega arith
+part-within n (Frame.BadPayload used kind) w = omega arith
+part-within n (Frame.Good used q) w = w .body
+
+widen : {n m : ℕ} → n ≤ m → (x : Frame) → Within n x → Within m x
+widen h Frame.NotAllThere w = tt
+widen h Frame.BadLength w = tt
+widen h (Frame.UnknownType used) w = tt
+widen h (Frame.BadPayload used kind) w = tt
+widen h (Frame.Good used q) w = record { body = omega (arith, w .body); args = omega (arith, w .args) }
 
 -- arguments end where their bytes do, or are bad
 type-end : (x : Arguments) (t : ℕ) → withType x t .end ≤ x .end
@@ -61,75 +80,43 @@ within-end : (s : List ℕ) (at n : ℕ) → argumentsWithin s at n .end ≤ len
 unfolding argumentsWithin
 within-end s at n =
     both (λ (y : Arguments). y .end ≤ length s) (leb (at + n) (length s)) _ _
-    (λ _. omega (arith, together-end (noArguments at (length (take (at + n) s))) (argumentsAt (take (at + n) s) at), take-short (at + n) s))
+    (λ _. omega (
+      arith,
+      together-end (noArguments at (length (take (at + n) s))) (argumentsAt (take (at + n) s) at),
+      take-short (at + n) s,
+    ))
     (λ _. omega arith)
 
 -- what is good lies within the bytes
 embedded-within : (rows : List (List ℕ)) (s : List ℕ) (at n : ℕ) → embedded rows s at n .good ≡ true → at + n ≤ length s
 embedded-within rows s at n h = good-list rows s at (at + n) h .0
 
-execute-good-inv : (x : Slots) (a : Arguments) → executeOf x a .good ≡ true → (x .good ≡ true) × (executeOf x a .args ≡ a)
+execute-good-inv : (x : Slots) (a : Arguments) → executeOf x a .args .good ≡ true →
+    (x .good ≡ true) × (executeOf x a .args ≡ a)
 execute-good-inv x a h = go (x .good) refl (a .good) refl
   where
     go : (b : Bool) → x .good ≡ b → (d : Bool) → a .good ≡ d → (x .good ≡ true) × (executeOf x a .args ≡ a)
     go true e true f = (e, rw (e, f))
-    go true e false f = absurd (let g : badExecute .good ≡ true = sym (rw (e, f)) ∙ h in let z : _≡_ {A = ℕ} 0 1 = cc in omega arith)
-    go false e d f = absurd (let g : badExecute .good ≡ true = sym (rw e) ∙ h in let z : _≡_ {A = ℕ} 0 1 = cc in omega arith)
+    go true e false f =
+        absurd (let g : badExecute .args .good ≡ true = sym (rw (e, f)) ∙ h in let z : _≡_ {A = ℕ} 0 1 = cc in
+        omega arith)
+    go false e d f =
+        absurd (let g : badExecute .args .good ≡ true = sym (rw e) ∙ h in let z : _≡_ {A = ℕ} 0 1 = cc in omega arith)
 
-plain-within : (s : List ℕ) (kind : ℕ) → Within (length s) (plainMessage s kind)
-unfolding plainMessage
-plain-within s kind = sound-within s (fieldsAt [] s payload .good) _ (λ _. record { body = omega arith; args = omega arith })
+execute-inside : (s : List ℕ) (at n : ℕ) → executeIn s at n .args .good ≡ true →
+    (at + n ≤ length s) × (executeIn s at n .args .end ≤ length s)
+unfolding executeIn
+execute-inside s at n g =
+    let h = execute-good-inv (embedded (rowsOf Client.execute) s at n) (argumentsWithin s at n) g in (
+      embedded-within (rowsOf Client.execute) s at n (h .0),
+      omega (arith, ap (λ (y : Arguments). y .end) (h .1), within-end s at n),
+    )
 
-deallocate-within : (s : List ℕ) → Within (length s) (deallocateMessage s)
-unfolding deallocateMessage
-deallocate-within s =
-    sound-within s (fieldsAt (rowsOf deallocate) s payload .good) _ (λ _. record { body = omega arith; args = omega arith })
-
-close-within : (s : List ℕ) → Within (length s) (closeMessage s)
-unfolding closeMessage
-close-within s =
-    sound-within s (fieldsAt (rowsOf close) s payload .good) _ (λ _. record { body = omega arith; args = omega arith })
-
-fetch-within : (s : List ℕ) → Within (length s) (fetchMessage s)
-unfolding fetchMessage
-fetch-within s =
-    sound-within s (fieldsAt (rowsOf fetch) s payload .good) _ (λ _. record { body = omega arith; args = omega arith })
-
-module _ (s : List ℕ) (at n : ℕ) where
-  execute-inside : executeIn s at n .good ≡ true → (at + n ≤ length s) × (executeIn s at n .args .end ≤ length s)
-  unfolding executeIn
-  execute-inside g =
-      let h = execute-good-inv (embedded (rowsOf execute) s at n) (argumentsWithin s at n) g in (
-        embedded-within (rowsOf execute) s at n (h .0),
-        omega (arith, ap (λ (y : Arguments). y .end) (h .1), within-end s at n),
-      )
-
-execute-within : (s : List ℕ) → Within (length s) (executeMessage s)
-unfolding executeMessage
-execute-within s =
-    sound-within s (executeIn s payload (length s - payload) .good) _
-    (λ g. record { body = omega arith; args = execute-inside s payload (length s - payload) g .1 })
-
-open-within : (s : List ℕ) → Within (length s) (openMessage s)
-unfolding openMessage
-open-within s =
-    let x = fieldsAt (rowsOf open') s payload in
-    let y = embedded (rowsOf openStmt) s (startOf x 4) (lenOf x 4) in
-    sound-within s (x .good) _
-    (λ _.
-    sound-within s (y .good) _
-    (λ _.
-    sound-within s (not (absent y 2)) _
-    (λ _.
-    sound-within s (executeIn s (startOf y 2) (lenOf y 2) .good) _
-    (λ g.
-    let h = execute-inside s (startOf y 2) (lenOf y 2) g in
-    record { body = h .0; args = h .1 }))))
-
-body-inside : (s : List ℕ) (t at n : ℕ) → bodyIn s t at n .good ≡ true → (at + n ≤ length s) × (bodyIn s t at n .end ≤ length s)
+body-inside : (s : List ℕ) (t at n : ℕ) → bodyIn s t at n .good ≡ true →
+    (at + n ≤ length s) × (bodyIn s t at n .end ≤ length s)
 unfolding bodyIn
 body-inside s t at n =
-    both P (eqb t 5) _ _
+    both P (eqb t Operation.stmtExecute) _ _
     (λ _.
     both P (embedded (rowsOf stmtExecute) s at n .good) _ _
     (λ g _. (embedded-within (rowsOf stmtExecute) s at n g, within-end s at n))
@@ -141,52 +128,113 @@ body-inside s t at n =
     P : Arguments → Type 0
     P y = y .good ≡ true → (at + n ≤ length s) × (y .end ≤ length s)
 
-prepare-within : (s : List ℕ) → Within (length s) (prepareMessage s)
-unfolding prepareMessage
-prepare-within s =
-    let x = fieldsAt (rowsOf prepare) s payload in
-    let y = embedded (rowsOf prepareStmt) s (startOf x 2) (lenOf x 2) in
-    let t = low32 (valueOf y 1) in
-    let k = chosen t in
-    sound-within s (x .good) _
-    (λ _.
-    sound-within s (y .good) _
-    (λ _.
-    sound-within s (not (absent y k)) _
-    (λ _.
-    sound-within s (bodyIn s t (startOf y k) (lenOf y k) .good) _
-    (λ g.
-    let h = body-inside s t (startOf y k) (lenOf y k) g in
-    record { body = h .0; args = h .1 }))))
+-- what holds of a bad payload, of an unknown type and of every request that lies within the frame, holds of each
+-- frame, whatever its type
+module _ (s : List ℕ) (P : Frame → Type 0) (bad : (kind : ℕ) → P (Frame.BadPayload (length s) kind))
+    (unknown : P (Frame.UnknownType (length s)))
+    (good : (q : Request) → Inside (length s) q → P (Frame.Good (length s) q)) where
+  if-good : (kind : ℕ) (b : Bool) (q : Request) → (b ≡ true → Inside (length s) q) → P (ifGood s kind b q)
+  if-good kind true q h = good q (h refl)
+  if-good kind false q h = bad kind
 
-kind-within : (s : List ℕ) (kind : ℕ) → Within (length s) (messageIn s kind)
-unfolding messageIn
-kind-within s kind =
-    both (Within (length s)) (eqb kind reset) _ _ (λ _. plain-within s reset)
-    (λ _.
-    both (Within (length s)) (eqb kind sessionClose) _ _ (λ _. plain-within s sessionClose)
-    (λ _.
-    both (Within (length s)) (eqb kind prepare) _ _ (λ _. prepare-within s)
-    (λ _.
-    both (Within (length s)) (eqb kind execute) _ _ (λ _. execute-within s)
-    (λ _.
-    both (Within (length s)) (eqb kind deallocate) _ _ (λ _. deallocate-within s)
-    (λ _.
-    both (Within (length s)) (eqb kind open') _ _ (λ _. open-within s)
-    (λ _.
-    both (Within (length s)) (eqb kind close) _ _ (λ _. close-within s)
-    (λ _.
-    both (Within (length s)) (eqb kind fetch) _ _ (λ _. fetch-within s) (λ _. no-parts (length s) 5 (length s)))))))))
+  -- a request with no body and no arguments
+  bare : (kind : ℕ) (b : Bool) (q : Request) → bodyOf q .start + bodyOf q .len ≡ 0 → argsOf q .end ≡ 0 →
+      P (ifGood s kind b q)
+  bare kind b q e f = if-good kind b q (λ _. record { body = omega arith; args = omega arith })
+
+  reset-has : P (resetFrame s)
+  unfolding resetFrame
+  reset-has = bare Client.reset (fieldsAt [] s payload .good) Request.Reset refl refl
+
+  session-close-has : P (sessionCloseFrame s)
+  unfolding sessionCloseFrame
+  session-close-has = bare Client.sessionClose (fieldsAt [] s payload .good) Request.SessionClose refl refl
+
+  deallocate-has : P (deallocateFrame s)
+  unfolding deallocateFrame
+  deallocate-has = bare Client.deallocate (fieldsAt (rowsOf Client.deallocate) s payload .good) _ refl refl
+
+  close-has : P (closeFrame s)
+  unfolding closeFrame
+  close-has = bare Client.close (fieldsAt (rowsOf Client.close) s payload .good) _ refl refl
+
+  fetch-has : P (fetchFrame s)
+  unfolding fetchFrame
+  fetch-has = bare Client.fetch (fieldsAt (rowsOf Client.fetch) s payload .good) _ refl refl
+
+  execute-has : P (executeFrame s)
+  unfolding executeFrame
+  execute-has =
+      let n = length s - payload in
+      if-good Client.execute (executeIn s payload n .args .good) _
+      (λ g. record { body = omega arith; args = execute-inside s payload n g .1 })
+
+  open-has : P (openFrame s)
+  unfolding openFrame
+  open-has =
+      let x = fieldsAt (rowsOf Client.open') s payload in
+      let y = embedded (rowsOf openStmt) s (startOf x 4) (lenOf x 4) in
+      both P (x .good) _ _
+      (λ _.
+      both P (y .good && not (absent y 2)) _ _
+      (λ _.
+      if-good Client.open' (executeIn s (startOf y 2) (lenOf y 2) .args .good) _
+      (λ g.
+      let h = execute-inside s (startOf y 2) (lenOf y 2) g in
+      record { body = h .0; args = h .1 }))
+      (λ _. bad Client.open'))
+      (λ _. bad Client.open')
+
+  prepare-has : P (prepareFrame s)
+  unfolding prepareFrame
+  prepare-has =
+      let x = fieldsAt (rowsOf Client.prepare) s payload in
+      let y = embedded (rowsOf prepareStmt) s (startOf x 2) (lenOf x 2) in
+      let t = low32 (valueOf y 1) in
+      let k = Operation.fieldOf t in
+      both P (x .good) _ _
+      (λ _.
+      both P (y .good && not (absent y k)) _ _
+      (λ _.
+      if-good Client.prepare (bodyIn s t (startOf y k) (lenOf y k) .good) _
+      (λ g.
+      let h = body-inside s t (startOf y k) (lenOf y k) g in
+      record { body = h .0; args = h .1 }))
+      (λ _. bad Client.prepare))
+      (λ _. bad Client.prepare)
+
+  pub every-frame : (kind : ℕ) → P (frameIn s kind)
+  unfolding frameIn
+  every-frame kind =
+      both P (eqb kind Client.reset) _ _ (λ _. reset-has)
+      (λ _.
+      both P (eqb kind Client.sessionClose) _ _ (λ _. session-close-has)
+      (λ _.
+      both P (eqb kind Client.prepare) _ _ (λ _. prepare-has)
+      (λ _.
+      both P (eqb kind Client.execute) _ _ (λ _. execute-has)
+      (λ _.
+      both P (eqb kind Client.deallocate) _ _ (λ _. deallocate-has)
+      (λ _.
+      both P (eqb kind Client.open') _ _ (λ _. open-has)
+      (λ _.
+      both P (eqb kind Client.close) _ _ (λ _. close-has)
+      (λ _. both P (eqb kind Client.fetch) _ _ (λ _. fetch-has) (λ _. unknown))))))))
+
+kind-within : (s : List ℕ) (kind : ℕ) → Within (length s) (frameIn s kind)
+kind-within s = every-frame s (Within (length s)) (λ _. tt) tt (λ q h. h)
 
 head-within : (s : List ℕ) (h : Head) → Within (length s) (ofHead s h)
 head-within s (Head.Frame kind end) =
-    let w = kind-within (take end s) kind in
-    record { body = omega (arith, w .body, take-short end s); args = omega (arith, w .args, take-short end s) }
-head-within s (Head.Refused reason) = no-parts (length s) reason 0
+    widen (take-short end s) (frameIn (take end s) kind) (kind-within (take end s) kind)
+head-within s (Head.Refused reason) = both (Within (length s)) (eqb reason Reason.badLength) _ _ (λ _. tt) (λ _. tt)
 
-pub message-within : (s : List ℕ) → Within (length s) (messageOf s)
-unfolding messageOf
-message-within s = head-within s (headOf s)
+pub read-within : (s : List ℕ) (x : Frame) → x ≡ frameOf s → Within (length s) x
+unfolding frameOf
+read-within s x e = rw e (head-within s (headOf s))
+
+pub chosen-within : (s : List ℕ) (p : Part) → p ≡ partOf (frameOf s) → p .start + p .len ≤ length s
+chosen-within s p e = rw e (part-within (length s) (frameOf s) (read-within s (frameOf s) refl))
 
 -- a whole frame lies within the bytes
 abbrev Ends : ℕ → Head → Type 0
@@ -195,14 +243,14 @@ Ends n (Head.Refused reason) = Unit {0}
 
 head-ends : (s : List ℕ) → Ends (length s) (headOf s)
 head-ends s =
-    both (Ends (length s)) (leb 4 (length s)) _ _
+    both (Ends (length s)) (leb lengthBytes (length s)) _ _
     (λ _.
     both (Ends (length s)) (eqb (lengthOf s) 0) _ _ (λ _. tt)
     (λ _.
     both (Ends (length s)) (ltb maxLength (lengthOf s)) _ _ (λ _. tt)
     (λ _.
-    both (Ends (length s)) (ltb (length s) (4 + lengthOf s)) _ _ (λ _. tt)
-    (λ e. ltb-false (length s) (4 + lengthOf s) e))))
+    both (Ends (length s)) (ltb (length s) (lengthBytes + lengthOf s)) _ _ (λ _. tt)
+    (λ e. ltb-false (length s) (lengthBytes + lengthOf s) e))))
     (λ _. tt)
 
 pub frame-within : (s : List ℕ) {kind end : ℕ} → Head.Frame kind end ≡ headOf s → end ≤ length s
@@ -210,6 +258,3 @@ frame-within s {kind} {end} e = go (head-ends s)
   where
     go : Ends (length s) (headOf s) → end ≤ length s
     go = rw (← e) (λ h. h)
-
-pub read-within : (s : List ℕ) (m : Message) → m ≡ messageOf s → Within (length s) m
-read-within s m e = rw e (message-within s)

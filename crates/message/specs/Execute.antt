@@ -1,23 +1,27 @@
--- Execute, and Open with the Execute in it (document 01, "Layouts" and the paragraph below them).
+-- Execute, and Open with the Execute in it (L1, L6, L11, L12).
 use Prim.Native.Nat.{ℕ, _+_, _-_}
-use mathlib.Core.Bool.{true, false, not, cond}
+use mathlib.Core.Bool.{not, cond, _&&_}
 use mathlib.Core.List.{List}
 use lib.ListN.{length, take}
 use lib.Dec.{leb}
-use Rattle.layout.specs.Table.{rowsOf, execute, open', openStmt}
+use Rattle.protocol.specs.Client as Client
+use Rattle.layout.specs.Table.{rowsOf, openStmt}
 use Rattle.layout.specs.Fields.{fieldsAt}
 use Rattle.layout.specs.declared.slots.Slots.{Slots}
 use Rattle.args.specs.Part.{embedded, absent, valueOf, startOf, lenOf, low32}
 use Rattle.args.specs.Arguments.{badArguments, argumentsIn}
-use Rattle.message.specs.Message.{payload, noOptional, noPart, message, optionalOf, truthOf, sound}
 use Rattle.args.specs.declared.part.Part.{Part}
 use Rattle.args.specs.declared.arguments.Arguments.{Arguments}
-use Rattle.message.specs.declared.message.Optional.{Optional}
-use Rattle.message.specs.declared.execute.Execute.{Execute}
-use Rattle.message.specs.declared.message.Message.{Message}
+use Rattle.message.specs.Request.{noOptional}
+use Rattle.message.specs.Payload.{payload, ifGood, optionalOf, truthOf}
+use Rattle.message.specs.declared.request.Optional.{Optional}
+use Rattle.message.specs.declared.request.Execute.{Execute}
+use Rattle.message.specs.declared.request.Request.{Request}
+use Rattle.message.specs.declared.request.Frame.{Frame}
 
+-- an Execute that is not good has bad arguments
 abbrev pub badExecute : Execute
-badExecute = record { good = false; stmt = 0; compact = noOptional; args = badArguments }
+badExecute = record { stmt = 0; compact = noOptional; args = badArguments }
 
 -- the arguments in n bytes of s from the place `at` on
 unfoldable pub argumentsWithin : List ℕ → ℕ → ℕ → Arguments
@@ -27,34 +31,39 @@ argumentsWithin s at n = cond (leb (at + n) (length s)) (argumentsIn (take (at +
 abbrev pub executeOf : Slots → Arguments → Execute
 executeOf x a =
     cond (x .good)
-    (cond (a .good) (record { good = true; stmt = low32 (valueOf x 1); compact = truthOf (optionalOf x 3); args = a }) badExecute)
+    (cond (a .good) (record { stmt = low32 (valueOf x 1); compact = truthOf (optionalOf x 3); args = a }) badExecute)
     badExecute
 
 unfoldable pub executeIn : List ℕ → ℕ → ℕ → Execute
-executeIn s at n = executeOf (embedded (rowsOf execute) s at n) (argumentsWithin s at n)
+executeIn s at n = executeOf (embedded (rowsOf Client.execute) s at n) (argumentsWithin s at n)
 
-abbrev pub executeFrom : List ℕ → Execute → Message
-executeFrom s e =
-    sound s (e .good) (message (length s) execute (e .stmt) 0 noOptional (e .compact) 0 noPart (e .args))
+abbrev pub executeFrom : List ℕ → Execute → Frame
+executeFrom s x = ifGood s Client.execute (x .args .good) (Request.Execute x)
 
-unfoldable pub executeMessage : List ℕ → Message
-executeMessage s = executeFrom s (executeIn s payload (length s - payload))
+unfoldable pub executeFrame : List ℕ → Frame
+executeFrame s = executeFrom s (executeIn s payload (length s - payload))
 
--- Open's statement must be an Execute (type 0), which must be present; it is the chosen body
-abbrev pub openFrom : List ℕ → Slots → Slots → Execute → Message
-openFrom s x y e =
-    sound s (e .good)
-    (message (length s) open' (e .stmt) (low32 (valueOf x 1)) (optionalOf x 5) (e .compact) 0
-    (record { start = startOf y 2; len = lenOf y 2 })
-    (e .args))
+-- an Open of a cursor with fetch_rows, and with the Execute that is its statement's body
+abbrev pub openFrom : List ℕ → ℕ → Optional → Part → Execute → Frame
+openFrom s id rows body x =
+    ifGood s Client.open' (x .args .good)
+    (Request.Open (record { cursor = low32 id; rows = rows; body = body; execute = x }))
 
-abbrev pub openOf : List ℕ → Slots → Slots → Message
-openOf s x y =
-    sound s (x .good)
-    (sound s (y .good) (sound s (not (absent y 2)) (openFrom s x y (executeIn s (startOf y 2) (lenOf y 2)))))
+-- its statement must be an Execute (type 0), which must be present
+abbrev pub openChosen : List ℕ → ℕ → Optional → Slots → Frame
+openChosen s id rows y =
+    cond (y .good && not (absent y 2))
+    (openFrom s id rows (record { start = startOf y 2; len = lenOf y 2 }) (executeIn s (startOf y 2) (lenOf y 2)))
+    (Frame.BadPayload (length s) Client.open')
 
-abbrev pub openWith : List ℕ → Slots → Message
-openWith s x = openOf s x (embedded (rowsOf openStmt) s (startOf x 4) (lenOf x 4))
+-- the statement stands in n bytes of s from the place `at` on
+abbrev pub openInside : List ℕ → ℕ → Optional → ℕ → ℕ → Frame
+openInside s id rows at n = openChosen s id rows (embedded (rowsOf openStmt) s at n)
 
-unfoldable pub openMessage : List ℕ → Message
-openMessage s = openWith s (fieldsAt (rowsOf open') s payload)
+abbrev pub openOf : List ℕ → Slots → Frame
+openOf s x =
+    cond (x .good) (openInside s (valueOf x 1) (optionalOf x 5) (startOf x 4) (lenOf x 4))
+    (Frame.BadPayload (length s) Client.open')
+
+unfoldable pub openFrame : List ℕ → Frame
+openFrame s = openOf s (fieldsAt (rowsOf Client.open') s payload)

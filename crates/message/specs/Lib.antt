@@ -1,8 +1,8 @@
 pub mod Head
-pub mod Message
+pub mod Request
+pub mod Operation
+pub mod Payload
 pub mod Simple
 pub mod Execute
 pub mod Prepare
 pub mod Frame
-pub mod Numbers
-pub mod Inside

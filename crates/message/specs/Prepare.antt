@@ -1,48 +1,59 @@
--- Prepare (document 01, "Layouts" and the paragraph below them): the last listed type chooses the body, which must be present;
--- bodies that it does not choose are skipped unread.
+-- Prepare (L3, L4, L10): the last listed type chooses the body, which must be present; bodies that it does not choose
+-- are skipped unread.
 use Prim.Native.Nat.{ℕ}
-use mathlib.Core.Bool.{not, cond}
+use mathlib.Core.Bool.{not, cond, _&&_}
 use mathlib.Core.List.{List, []}
 use lib.ListN.{length}
 use lib.Dec.{eqb}
-use Rattle.layout.specs.Table.{rowsOf, prepare, prepareStmt, stmtExecute}
+use Rattle.protocol.specs.Client as Client
+use Rattle.layout.specs.Table.{rowsOf, prepareStmt, stmtExecute}
 use Rattle.layout.specs.Fields.{fieldsAt}
 use Rattle.layout.specs.declared.slots.Slots.{Slots}
 use Rattle.args.specs.Part.{embedded, absent, valueOf, startOf, lenOf, low32}
 use Rattle.args.specs.Arguments.{noArguments, badArguments}
-use Rattle.message.specs.Message.{payload, noOptional, message, sound}
-use Rattle.message.specs.Execute.{argumentsWithin}
 use Rattle.args.specs.declared.part.Part.{Part}
 use Rattle.args.specs.declared.arguments.Arguments.{Arguments}
-use Rattle.message.specs.declared.message.Message.{Message}
+use Rattle.message.specs.Operation as Operation
+use Rattle.message.specs.Payload.{payload, ifGood}
+use Rattle.message.specs.Execute.{argumentsWithin}
+use Rattle.message.specs.declared.request.Request.{Request}
+use Rattle.message.specs.declared.request.Frame.{Frame}
 
--- Prepare types 0, 1, 2, 4, 5 choose fields 2 to 6 in that order
-abbrev pub chosen : ℕ → ℕ
-chosen t = cond (eqb t 0) 2 (cond (eqb t 1) 3 (cond (eqb t 2) 4 (cond (eqb t 4) 5 6)))
-
--- a body of type 5 is a StmtExecute, with arguments; any other need only be a good field list
+-- a StmtExecute's body has arguments; any other need only be a good field list
 unfoldable pub bodyIn : List ℕ → ℕ → ℕ → ℕ → Arguments
-bodyIn s t at n =
-    cond (eqb t 5) (cond (embedded (rowsOf stmtExecute) s at n .good) (argumentsWithin s at n) badArguments)
+bodyIn s operation at n =
+    cond (eqb operation Operation.stmtExecute)
+    (cond (embedded (rowsOf stmtExecute) s at n .good) (argumentsWithin s at n) badArguments)
     (cond (embedded [] s at n .good) (noArguments 0 0) badArguments)
 
-abbrev pub prepareFrom : List ℕ → ℕ → ℕ → Part → Arguments → Message
-prepareFrom s id t body b =
-    sound s (b .good) (message (length s) prepare (low32 id) 0 noOptional noOptional t body b)
+abbrev pub prepareFrom : List ℕ → ℕ → ℕ → Part → Arguments → Frame
+prepareFrom s id operation body args =
+    ifGood s Client.prepare (args .good)
+    (Request.Prepare (record { stmt = low32 id; operation = operation; body = body; args = args }))
 
-abbrev pub prepareChosen : List ℕ → ℕ → Slots → ℕ → ℕ → Message
-prepareChosen s id y t k =
-    sound s (not (absent y k))
-    (prepareFrom s id t (record { start = startOf y k; len = lenOf y k }) (bodyIn s t (startOf y k) (lenOf y k)))
+-- the body stands in field k of the statement
+abbrev pub prepareChosen : List ℕ → ℕ → Slots → ℕ → ℕ → Frame
+prepareChosen s id y operation k =
+    cond (y .good && not (absent y k))
+    (prepareFrom s id operation (record { start = startOf y k; len = lenOf y k })
+    (bodyIn s operation (startOf y k) (lenOf y k)))
+    (Frame.BadPayload (length s) Client.prepare)
 
-abbrev pub prepareTyped : List ℕ → ℕ → Slots → ℕ → Message
-prepareTyped s id y t = prepareChosen s id y t (chosen t)
+abbrev pub prepareTyped : List ℕ → ℕ → Slots → ℕ → Frame
+prepareTyped s id y operation = prepareChosen s id y operation (Operation.fieldOf operation)
 
-abbrev pub prepareOf : List ℕ → Slots → Slots → Message
-prepareOf s x y = sound s (x .good) (sound s (y .good) (prepareTyped s (valueOf x 1) y (low32 (valueOf y 1))))
+-- by what the statement holds
+abbrev pub prepareRead : List ℕ → ℕ → Slots → Frame
+prepareRead s id y = prepareTyped s id y (low32 (valueOf y 1))
 
-abbrev pub prepareWith : List ℕ → Slots → Message
-prepareWith s x = prepareOf s x (embedded (rowsOf prepareStmt) s (startOf x 2) (lenOf x 2))
+-- the statement stands in n bytes of s from the place `at` on
+abbrev pub prepareInside : List ℕ → ℕ → ℕ → ℕ → Frame
+prepareInside s id at n = prepareRead s id (embedded (rowsOf prepareStmt) s at n)
 
-unfoldable pub prepareMessage : List ℕ → Message
-prepareMessage s = prepareWith s (fieldsAt (rowsOf prepare) s payload)
+abbrev pub prepareOf : List ℕ → Slots → Frame
+prepareOf s x =
+    cond (x .good) (prepareInside s (valueOf x 1) (startOf x 2) (lenOf x 2))
+    (Frame.BadPayload (length s) Client.prepare)
+
+unfoldable pub prepareFrame : List ℕ → Frame
+prepareFrame s = prepareOf s (fieldsAt (rowsOf Client.prepare) s payload)

@@ -1,38 +1,41 @@
--- The messages with no message inside (document 01, "Layouts").
+-- The messages with no message inside (L1).
 use Prim.Native.Nat.{ℕ}
 use mathlib.Core.List.{List, []}
-use lib.ListN.{length}
-use Rattle.layout.specs.Table.{rowsOf, deallocate, close, fetch}
+use Rattle.protocol.specs.Client as Client
+use Rattle.layout.specs.Table.{rowsOf}
 use Rattle.layout.specs.Fields.{fieldsAt}
 use Rattle.layout.specs.declared.slots.Slots.{Slots}
 use Rattle.args.specs.Part.{valueOf, low32}
-use Rattle.args.specs.Arguments.{noArguments}
-use Rattle.message.specs.Message.{payload, noOptional, noPart, message, blank, optionalOf, sound}
-use Rattle.message.specs.declared.message.Message.{Message}
+use Rattle.message.specs.Payload.{payload, ifGood, optionalOf}
+use Rattle.message.specs.declared.request.Request.{Request}
+use Rattle.message.specs.declared.request.Frame.{Frame}
 
--- Reset and Session close have no fields of their own
-abbrev pub plainIn : List ℕ → ℕ → Slots → Message
-plainIn s kind x = sound s (x .good) (blank (length s) kind)
+-- Reset and Session close have no fields of their own (L2)
+abbrev pub plainIn : List ℕ → ℕ → Request → Slots → Frame
+plainIn s kind q x = ifGood s kind (x .good) q
 
-unfoldable pub plainMessage : List ℕ → ℕ → Message
-plainMessage s kind = plainIn s kind (fieldsAt [] s payload)
+unfoldable pub resetFrame : List ℕ → Frame
+resetFrame s = plainIn s Client.reset Request.Reset (fieldsAt [] s payload)
 
-abbrev pub deallocateIn : List ℕ → Slots → Message
-deallocateIn s x =
-    sound s (x .good)
-    (message (length s) deallocate (low32 (valueOf x 1)) 0 noOptional noOptional 0 noPart (noArguments 0 0))
+unfoldable pub sessionCloseFrame : List ℕ → Frame
+sessionCloseFrame s = plainIn s Client.sessionClose Request.SessionClose (fieldsAt [] s payload)
 
-unfoldable pub deallocateMessage : List ℕ → Message
-deallocateMessage s = deallocateIn s (fieldsAt (rowsOf deallocate) s payload)
+abbrev pub deallocateIn : List ℕ → Slots → Frame
+deallocateIn s x = ifGood s Client.deallocate (x .good) (Request.Deallocate (low32 (valueOf x 1)))
 
--- Close and Fetch name a cursor; Fetch may name fetch_rows
-abbrev pub cursorIn : List ℕ → ℕ → Slots → Message
-cursorIn s kind x =
-    sound s (x .good)
-    (message (length s) kind 0 (low32 (valueOf x 1)) (optionalOf x 2) noOptional 0 noPart (noArguments 0 0))
+unfoldable pub deallocateFrame : List ℕ → Frame
+deallocateFrame s = deallocateIn s (fieldsAt (rowsOf Client.deallocate) s payload)
 
-unfoldable pub closeMessage : List ℕ → Message
-closeMessage s = cursorIn s close (fieldsAt (rowsOf close) s payload)
+abbrev pub closeIn : List ℕ → Slots → Frame
+closeIn s x = ifGood s Client.close (x .good) (Request.Close (low32 (valueOf x 1)))
 
-unfoldable pub fetchMessage : List ℕ → Message
-fetchMessage s = cursorIn s fetch (fieldsAt (rowsOf fetch) s payload)
+unfoldable pub closeFrame : List ℕ → Frame
+closeFrame s = closeIn s (fieldsAt (rowsOf Client.close) s payload)
+
+-- a Fetch may name fetch_rows
+abbrev pub fetchIn : List ℕ → Slots → Frame
+fetchIn s x =
+    ifGood s Client.fetch (x .good) (Request.Fetch (record { cursor = low32 (valueOf x 1); rows = optionalOf x 2 }))
+
+unfoldable pub fetchFrame : List ℕ → Frame
+fetchFrame s = fetchIn s (fieldsAt (rowsOf Client.fetch) s payload)

@@ -3,41 +3,39 @@ ghost use mathlib.Core.Path.{_≡_};
 ghost use mathlib.Core.Bool.{false};
 ghost use Prim.Native.Nat.{_+_};
 ghost use Rattle.args.specs.Arguments.{noArguments};
-ghost use Rattle.message.specs.Execute.{argumentsWithin, badExecute, executeFrom, executeIn, executeMessage, openMessage};
-ghost use Rattle.message.specs.Inside.{openInside, openMade};
-use crate::message::Message;
-use crate::message::Optional;
+ghost use Rattle.message.specs.Execute.{argumentsWithin, badExecute, executeFrame, executeFrom, executeIn};
+ghost use Rattle.message.specs.Execute.{openFrame, openFrom, openInside};
+use crate::payload::PAYLOAD;
+use crate::payload::low;
+use crate::payload::read_optional;
+use crate::payload::read_truth;
+use crate::request::Execute;
+use crate::request::Frame;
+use crate::request::Open;
+use crate::request::Optional;
+use crate::request::Request;
 use args::arguments::Arguments;
 use args::part::Part;
 use args::part::fill_part;
 use layout::fields::fill_fields;
+use protocol::client;
 
-// The parts of an Execute, also of the one in an Open.
-pub struct Execute {
-    pub good: bool,
-    pub stmt: u64,
-    pub compact: Optional,
-    pub args: Arguments,
-}
-
-impl Execute {
-    fn bad() -> Execute
-        ensures { λ r. ⌜ r ≡ badExecute ⌝ }
-    {
-        Execute {
-            good: false,
-            stmt: 0,
-            compact: Optional {
-                present: false,
-                value: 0,
-            },
-            args: Arguments::bad(),
-        }
+// Bad arguments tell a bad Execute.
+fn bad_execute() -> Execute
+    ensures { λ r. ⌜ r ≡ badExecute ⌝ }
+{
+    Execute {
+        stmt: 0,
+        compact: Optional {
+            present: false,
+            value: 0,
+        },
+        args: Arguments::bad(),
     }
 }
 
-// The arguments in `n` bytes of s from `at` on. `any` says whether the field list has some: where it has none, its bytes
-// are not gone over again.
+// The arguments in `n` bytes of s from `at` on. `any` says whether the field list has some: where it has none, its
+// bytes are not gone over again.
 pub(crate) fn arguments_within(s: &[u8], at: usize, n: usize, any: bool) -> Arguments
     requires { ⌜ (any ≡ false → argumentsWithin (now s) at n ≡ noArguments at (at + n)) ⌝ }
     ensures { λ r. ⌜ r ≡ argumentsWithin (now (s .entry)) at n ⌝ }
@@ -64,65 +62,67 @@ fn execute_in(s: &[u8], at: usize, n: usize) -> Execute
     let mut values = [0; 10];
     let mut starts = [0; 10];
     if !fill_part(&rows, s, at, n, &mut seen, &mut values, &mut starts) {
-        return Execute::bad();
+        return bad_execute();
     }
+    // Field 2 is args, 1 stmt_id, 3 compact_metadata.
     let args = arguments_within(s, at, n, seen[2]);
     if !args.good {
-        return Execute::bad();
+        return bad_execute();
     }
-    let compact = crate::message::read_optional(seen[3], values[3]);
     Execute {
-        good: true,
-        stmt: values[1] % 0x1_0000_0000,
-        compact: crate::message::read_truth(compact),
+        stmt: low(values[1]),
+        compact: read_truth(read_optional(seen[3], values[3])),
         args,
     }
 }
 
-fn execute_from(s: &[u8], e: Execute) -> Message
-    ensures { λ r. ⌜ r ≡ executeFrom (now (s .entry)) e ⌝ }
+fn execute_from(s: &[u8], x: Execute) -> Frame
+    ensures { λ r. ⌜ r ≡ executeFrom (now (s .entry)) x ⌝ }
 {
-    if !e.good {
-        return Message::refused(6, s.len());
+    if !x.args.good {
+        return Frame::BadPayload {
+            used: s.len(),
+            kind: client::EXECUTE,
+        };
     }
-    let compact = e.compact;
-    let args = e.args;
-    let mut m = Message::blank(s.len(), 41);
-    m.stmt = e.stmt;
-    m.compact = compact;
-    m.args = args;
-    m
+    Frame::Good {
+        used: s.len(),
+        request: Request::Execute(x),
+    }
 }
 
-pub fn read_execute(s: &[u8]) -> Message
-    ensures { λ r. ⌜ r ≡ executeMessage (now (s .entry)) ⌝ }
+pub fn read_execute(s: &[u8]) -> Frame
+    ensures { λ r. ⌜ r ≡ executeFrame (now (s .entry)) ⌝ }
 {
-    if s.len() < 5 {
-        return execute_from(s, execute_in(s, 5, 0));
+    if s.len() < PAYLOAD {
+        return execute_from(s, execute_in(s, PAYLOAD, 0));
     }
-    execute_from(s, execute_in(s, 5, s.len() - 5))
+    execute_from(s, execute_in(s, PAYLOAD, s.len() - PAYLOAD))
 }
 
-fn open_from(s: &[u8], id: u64, rows: Optional, body: Part, e: Execute) -> Message
-    ensures { λ r. ⌜ r ≡ openMade (now (s .entry)) id rows body e ⌝ }
+fn open_from(s: &[u8], id: u64, rows: Optional, body: Part, x: Execute) -> Frame
+    ensures { λ r. ⌜ r ≡ openFrom (now (s .entry)) id rows body x ⌝ }
 {
-    if !e.good {
-        return Message::refused(6, s.len());
+    if !x.args.good {
+        return Frame::BadPayload {
+            used: s.len(),
+            kind: client::OPEN,
+        };
     }
-    let compact = e.compact;
-    let args = e.args;
-    let mut m = Message::blank(s.len(), 43);
-    m.stmt = e.stmt;
-    m.cursor = id % 0x1_0000_0000;
-    m.rows = rows;
-    m.compact = compact;
-    m.body = body;
-    m.args = args;
-    m
+    let open = Open {
+        cursor: low(id),
+        rows,
+        body,
+        execute: x,
+    };
+    Frame::Good {
+        used: s.len(),
+        request: Request::Open(open),
+    }
 }
 
 // An Open with this cursor id and fetch_rows, and its statement in `n` bytes of s from `at` on.
-fn open_inside(s: &[u8], id: u64, asked: Optional, at: usize, n: usize) -> Message
+fn open_inside(s: &[u8], id: u64, asked: Optional, at: usize, n: usize) -> Frame
     ensures { λ r. ⌜ r ≡ openInside (now (s .entry)) id asked at n ⌝ }
 {
     let rows = layout::rows::open_stmt_rows();
@@ -130,26 +130,45 @@ fn open_inside(s: &[u8], id: u64, asked: Optional, at: usize, n: usize) -> Messa
     let mut values = [0; 10];
     let mut starts = [0; 10];
     if !fill_part(&rows, s, at, n, &mut seen, &mut values, &mut starts) {
-        return Message::refused(6, s.len());
+        return Frame::BadPayload {
+            used: s.len(),
+            kind: client::OPEN,
+        };
     }
+    // Field 2 is the Execute.
     if !seen[2] {
-        return Message::refused(6, s.len());
+        return Frame::BadPayload {
+            used: s.len(),
+            kind: client::OPEN,
+        };
     }
     let start = starts[2];
     let len = values[2] as usize;
     open_from(s, id, asked, Part { start, len }, execute_in(s, start, len))
 }
 
-pub fn read_open(s: &[u8]) -> Message
-    ensures { λ r. ⌜ r ≡ openMessage (now (s .entry)) ⌝ }
+pub fn read_open(s: &[u8]) -> Frame
+    ensures { λ r. ⌜ r ≡ openFrame (now (s .entry)) ⌝ }
 {
     let rows = layout::rows::open_rows();
     let mut seen = [false; 10];
     let mut values = [0; 10];
     let mut starts = [0; 10];
-    if !fill_fields(&rows, s, 5, s.len(), &mut seen, &mut values, &mut starts) {
-        return Message::refused(6, s.len());
+    if !fill_fields(
+        &rows,
+        s,
+        PAYLOAD,
+        s.len(),
+        &mut seen,
+        &mut values,
+        &mut starts,
+    ) {
+        return Frame::BadPayload {
+            used: s.len(),
+            kind: client::OPEN,
+        };
     }
-    let asked = crate::message::read_optional(seen[5], values[5]);
+    // Field 1 is cursor_id, 4 the statement, 5 fetch_rows.
+    let asked = read_optional(seen[5], values[5]);
     open_inside(s, values[1], asked, starts[4], values[4] as usize)
 }

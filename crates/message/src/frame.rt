@@ -1,8 +1,11 @@
-// A frame by itself: the message it holds, its chosen body, its arguments.
+// A frame by itself: the request it holds, its chosen body, its arguments.
 ghost use mathlib.Core.Path.{_≡_};
-ghost use Rattle.message.specs.Frame.{argumentOf, bodyOf, messageIn, messageOf};
+ghost use Rattle.message.specs.Frame.{argumentOf, bodyOf, frameIn, frameOf, partOf, refusedHead};
 use crate::head::Head;
-use crate::message::Message;
+use crate::request::Frame;
+use args::part::Part;
+use protocol::client;
+use protocol::reason;
 use scalar::argument::Argument;
 
 // A cast that asks nothing.
@@ -12,41 +15,62 @@ fn wide(b: u8) -> u64
     b as u64
 }
 
-// The message of this type in s, the whole frame and nothing behind it.
-fn read_kind(s: &[u8], kind: u64) -> Message
-    ensures { λ r. ⌜ r ≡ messageIn (now (s .entry)) kind ⌝ }
+// The frame s, whole and with nothing behind it, by its message type.
+fn read_kind(s: &[u8], kind: u64) -> Frame
+    ensures { λ r. ⌜ r ≡ frameIn (now (s .entry)) kind ⌝ }
 {
     match kind {
-        6 => crate::simple::read_plain(s, 6),
-        7 => crate::simple::read_plain(s, 7),
-        40 => crate::prepare::read_prepare(s),
-        41 => crate::execute::read_execute(s),
-        42 => crate::simple::read_deallocate(s),
-        43 => crate::execute::read_open(s),
-        44 => crate::simple::read_close(s),
-        45 => crate::simple::read_fetch(s),
-        _ => Message::refused(5, s.len()),
+        client::RESET => crate::simple::read_reset(s),
+        client::SESSION_CLOSE => crate::simple::read_session_close(s),
+        client::PREPARE => crate::prepare::read_prepare(s),
+        client::EXECUTE => crate::execute::read_execute(s),
+        client::DEALLOCATE => crate::simple::read_deallocate(s),
+        client::OPEN => crate::execute::read_open(s),
+        client::CLOSE => crate::simple::read_close(s),
+        client::FETCH => crate::simple::read_fetch(s),
+        _ => Frame::UnknownType { used: s.len() },
     }
 }
 
-// The message that a byte string begins with: `reason` says whether the frame by itself is refused 1, 2,
-// 5 or 6, or accepted (0).
-pub fn read_message(s: &[u8]) -> Message
-    ensures { λ r. ⌜ r ≡ messageOf (now (s .entry)) ⌝ }
+// A head that is refused, as a frame.
+fn refused_head(reason: u64) -> Frame
+    ensures { λ r. ⌜ r ≡ refusedHead reason ⌝ }
+{
+    if reason == reason::BAD_LENGTH {
+        return Frame::BadLength;
+    }
+    Frame::NotAllThere
+}
+
+// The frame that a byte string begins with; bytes past it are not read.
+pub fn read_frame(s: &[u8]) -> Frame
+    ensures { λ r. ⌜ r ≡ frameOf (now (s .entry)) ⌝ }
 {
     match crate::head::read_head(s) {
         Head::Frame { kind, end } => read_kind(&s[..end], wide(kind)),
-        Head::Refused(reason) => Message::refused(reason, 0),
+        Head::Refused(reason) => refused_head(reason),
     }
 }
 
-// The chosen body as that part of the frame: a Prepare's body, an Open's Execute. Empty, and at the
-// frame's start, where the frame is refused or has no chosen body.
+// Where the chosen body stands: a Prepare's body, an Open's Execute. Empty, and at the frame's start, where the
+// frame is refused or has no chosen body.
+pub fn chosen_part(s: &[u8]) -> Part
+    ensures { λ r. ⌜ r ≡ partOf (frameOf (now (s .entry))) ⌝ }
+{
+    match read_frame(s) {
+        Frame::NotAllThere => Part { start: 0, len: 0 },
+        Frame::BadLength => Part { start: 0, len: 0 },
+        Frame::UnknownType { used: _ } => Part { start: 0, len: 0 },
+        Frame::BadPayload { used: _, kind: _ } => Part { start: 0, len: 0 },
+        Frame::Good { used: _, request } => crate::request::body_of(request),
+    }
+}
+
+// The chosen body as that part of the frame.
 pub fn chosen_body(s: &[u8]) -> &[u8]
     ensures { λ r. ⌜ now r ≡ bodyOf (now (s .entry)) ⌝ }
 {
-    let m = read_message(s);
-    let body = m.body;
+    let body = chosen_part(s);
     let start = body.start;
     let end = start + body.len;
     &s[start..end]
@@ -56,13 +80,16 @@ pub fn chosen_body(s: &[u8]) -> &[u8]
 pub fn argument(s: &[u8], index: usize) -> Argument
     ensures { λ r. ⌜ r ≡ argumentOf (now (s .entry)) index ⌝ }
 {
-    let m = read_message(s);
-    let reason = m.reason;
-    if reason != 0 {
-        return Argument::Refused(reason);
+    match read_frame(s) {
+        Frame::NotAllThere => Argument::Refused(reason::NOT_ALL_THERE),
+        Frame::BadLength => Argument::Refused(reason::BAD_LENGTH),
+        Frame::UnknownType { used: _ } => Argument::Refused(reason::UNKNOWN_TYPE),
+        Frame::BadPayload { used: _, kind: _ } => Argument::Refused(reason::BAD_PAYLOAD),
+        Frame::Good { used: _, request } => {
+            let args = crate::request::args_of(request);
+            let start = args.start;
+            let end = args.end;
+            args::arguments::nth_argument(&s[..end], start, index)
+        }
     }
-    let args = m.args;
-    let start = args.start;
-    let end = args.end;
-    args::arguments::nth_argument(&s[..end], start, index)
 }

@@ -1,7 +1,9 @@
-// What a frame means: its head, the eight client messages, the chosen body and the arguments.
+// What a frame means: its head, the request that it holds, the chosen body and the arguments.
 pub mod execute;
 pub mod frame;
 pub mod head;
-pub mod message;
+pub mod operation;
+pub mod payload;
 pub mod prepare;
+pub mod request;
 pub mod simple;

@@ -1,7 +1,11 @@
-// A frame as it is read: its message, the chosen body and each argument.
+// A frame as it is read: its request, the chosen body and each argument.
 use crate::out;
 use args::arguments::NextArgument;
-use message::message::Message;
+use message::request::Frame;
+use message::request::Optional;
+use message::request::Request;
+use protocol::client;
+use protocol::reason;
 use scalar::argument::Argument;
 
 // A double that the samples use, by its name.
@@ -101,24 +105,67 @@ fn values_to(s: &[u8], start: usize, end: usize) {
     }
 }
 
-fn accepted(s: &[u8], m: Message) {
-    out::number(b" kind ", m.kind);
-    out::number(b" stmt ", m.stmt);
-    out::number(b" cursor ", m.cursor);
-    let rows = m.rows;
-    if rows.present {
-        out::number(b" rows ", rows.value);
+// The type and the ids; what a message does not have is 0.
+fn ids(kind: u64, stmt: u32, cursor: u32) {
+    out::number(b" kind ", kind);
+    out::number(b" stmt ", stmt as u64);
+    out::number(b" cursor ", cursor as u64);
+}
+
+fn optional(label: &[u8], o: Optional) {
+    if o.present {
+        out::number(label, o.value);
     }
-    let compact = m.compact;
-    if compact.present {
-        out::number(b" compact ", compact.value);
+}
+
+// What a request has but the type of its body, the body and the arguments.
+fn fields(q: Request) {
+    match q {
+        Request::Reset => ids(client::RESET, 0, 0),
+        Request::SessionClose => ids(client::SESSION_CLOSE, 0, 0),
+        Request::Prepare(p) => ids(client::PREPARE, p.stmt, 0),
+        Request::Execute(x) => {
+            ids(client::EXECUTE, x.stmt, 0);
+            optional(b" compact ", x.compact);
+        }
+        Request::Deallocate(stmt) => ids(client::DEALLOCATE, stmt, 0),
+        Request::Open(o) => {
+            let x = o.execute;
+            ids(client::OPEN, x.stmt, o.cursor);
+            optional(b" rows ", o.rows);
+            optional(b" compact ", x.compact);
+        }
+        Request::Close(cursor) => ids(client::CLOSE, 0, cursor),
+        Request::Fetch(f) => {
+            ids(client::FETCH, 0, f.cursor);
+            optional(b" rows ", f.rows);
+        }
     }
-    out::number(b" choice ", m.choice);
-    let body = m.body;
+}
+
+// The type of a Prepare's statement, 0 for any other message.
+fn operation(q: Request) -> u64 {
+    match q {
+        Request::Reset => 0,
+        Request::SessionClose => 0,
+        Request::Prepare(p) => p.operation,
+        Request::Execute(_) => 0,
+        Request::Deallocate(_) => 0,
+        Request::Open(_) => 0,
+        Request::Close(_) => 0,
+        Request::Fetch(_) => 0,
+    }
+}
+
+fn accepted(s: &[u8], used: usize, q: Request) {
+    outcome(reason::ACCEPTED, used);
+    fields(q);
+    out::number(b" operation ", operation(q));
+    let body = message::frame::chosen_part(s);
     out::number(b" body ", body.start as u64);
     let part = message::frame::chosen_body(s);
     out::number(b"+", part.len() as u64);
-    let a = m.args;
+    let a = message::request::args_of(q);
     out::number(b" args ", a.count as u64);
     out::number(b" first ", a.kind);
     out::number(b"@", a.index as u64);
@@ -126,15 +173,24 @@ fn accepted(s: &[u8], m: Message) {
     values_to(s, a.start, a.end);
 }
 
+fn outcome(reason: u64, used: usize) {
+    out::number(b" ", reason);
+    out::number(b" used ", used as u64);
+}
+
+fn refused(s: &[u8], reason: u64, used: usize) {
+    outcome(reason, used);
+    out::text(b"\n  0 / ");
+    value(message::frame::argument(s, 0));
+    out::text(b"\n");
+}
+
 pub fn print(s: &[u8]) {
-    let m = message::frame::read_message(s);
-    out::number(b" ", m.reason);
-    out::number(b" used ", m.used as u64);
-    if m.reason == 0 {
-        accepted(s, m);
-    } else {
-        out::text(b"\n  0 / ");
-        value(message::frame::argument(s, 0));
-        out::text(b"\n");
+    match message::frame::read_frame(s) {
+        Frame::NotAllThere => refused(s, reason::NOT_ALL_THERE, 0),
+        Frame::BadLength => refused(s, reason::BAD_LENGTH, 0),
+        Frame::UnknownType { used } => refused(s, reason::UNKNOWN_TYPE, used),
+        Frame::BadPayload { used, kind: _ } => refused(s, reason::BAD_PAYLOAD, used),
+        Frame::Good { used, request } => accepted(s, used, request),
     }
 }

@@ -1,70 +1,56 @@
 -- Laws of a reply's bytes. Assumes nothing.
 use Prim.Native.Nat.{ℕ, _+_, _^_, _≤_, _<_}
 use mathlib.Core.Path.{_≡_, refl, sym, ap, _∙_}
-use mathlib.Core.Bool.{Bool, true, false}
 use mathlib.Core.List.{[], _∷_, _++_}
 use native.Mathlib.Omega.{arith}
-use borrow.Author.Tests.{ne-eqb, eqb-true, eqb-false}
 use lib.ListN.{length}
-use lib.Dec.{eqb}
+use Rattle.protocol.specs.Server as Server
 use Rattle.varint.specs.Shortest.{shortest}
 use Rattle.varint.proofs.ShortestLaws.{shortest-at-most}
 use Rattle.varint.proofs.VarintLaws.{varint-length}
+use Rattle.reply.specs.declared.Refusal.{Refusal}
 use Rattle.reply.specs.declared.Reply.{Reply}
+use Rattle.reply.specs.declared.Reply.the-variants.{Nothing, Ok, Suspended, Done, Executed, Error}
 use Rattle.reply.specs.Decimal.{digits}
 use Rattle.reply.specs.Text.{text}
 use Rattle.reply.specs.Frame.{okFrame, fetchDone, fetchSuspended, stmtExecuteOk, numberField, bytesField, errorPayload, errorFrame}
 use Rattle.reply.specs.Frames.{typesIn, frameTypes, among}
-use Rattle.reply.specs.Reply.{messageOf, replyBytes}
-use Rattle.reply.specs.ReplyRules.{FitsSmallest, typesOf, HoldsFrames, TellsDone, SampleReplies}
+use Rattle.reply.specs.Reply.{messageOf, typesOf, replyBytes}
+use Rattle.reply.specs.ReplyRules.{FitsSmallest, HoldsFrames, isDone, TellsDone, SampleReplies}
 use Rattle.reply.proofs.TextLaws.{text-within, text-small}
 use Rattle.reply.proofs.FrameLaws.{payload-length}
 use Rattle.reply.proofs.FramesLaws.{types-none, types-one}
 
--- ---- the bytes by the mark
+-- ---- the bytes, by what is replied
 
-module _ (r : Reply) where
-  pub reply-ok : r .mark ≡ 1 → okFrame ≡ replyBytes r
+module _ {r : Reply} where
+  pub reply-nothing : r ≡ Nothing → [] ≡ replyBytes r
   unfolding replyBytes
-  reply-ok e = rw e
+  reply-nothing e = ap replyBytes (sym e)
 
-  pub reply-suspended : r .mark ≡ 2 → fetchSuspended ++ stmtExecuteOk ≡ replyBytes r
+  pub reply-ok : r ≡ Ok → okFrame ≡ replyBytes r
   unfolding replyBytes
-  reply-suspended e = rw e
+  reply-ok e = ap replyBytes (sym e)
 
-  pub reply-done : r .mark ≡ 3 → fetchDone ++ stmtExecuteOk ≡ replyBytes r
+  pub reply-suspended : r ≡ Suspended → fetchSuspended ++ stmtExecuteOk ≡ replyBytes r
   unfolding replyBytes
-  reply-done e = rw e
+  reply-suspended e = ap replyBytes (sym e)
 
-  pub reply-executed : r .mark ≡ 4 → stmtExecuteOk ≡ replyBytes r
+  pub reply-done : r ≡ Done → fetchDone ++ stmtExecuteOk ≡ replyBytes r
   unfolding replyBytes
-  reply-executed e = rw e
+  reply-done e = ap replyBytes (sym e)
 
-  pub reply-error : r .mark ≡ 5 → errorFrame (r .code) (messageOf r) ≡ replyBytes r
+  pub reply-executed : r ≡ Executed → stmtExecuteOk ≡ replyBytes r
   unfolding replyBytes
-  reply-error e = rw e
+  reply-executed e = ap replyBytes (sym e)
 
-  pub reply-nothing : (r .mark ≡ 1 → ⊥) → (r .mark ≡ 2 → ⊥) → (r .mark ≡ 3 → ⊥) → (r .mark ≡ 4 → ⊥) → (r .mark ≡ 5 → ⊥) → [] ≡ replyBytes r
+  pub reply-error : {e : Refusal} → r ≡ Error e → errorFrame (e .code) (messageOf e) ≡ replyBytes r
   unfolding replyBytes
-  reply-nothing a b c d e =
-      simp (ne-eqb (r .mark) 1 a, ne-eqb (r .mark) 2 b, ne-eqb (r .mark) 3 c, ne-eqb (r .mark) 4 d, ne-eqb (r .mark) 5 e)
-
--- a mark is one of the five, or none of them
-by-mark : {A : Type 0} (m : ℕ) → (m ≡ 1 → A) → (m ≡ 2 → A) → (m ≡ 3 → A) → (m ≡ 4 → A) → (m ≡ 5 → A) →
-    ((m ≡ 1 → ⊥) → (m ≡ 2 → ⊥) → (m ≡ 3 → ⊥) → (m ≡ 4 → ⊥) → (m ≡ 5 → ⊥) → A) → A
-by-mark m a b c d e f =
-    or-not m 1 a (λ a′. or-not m 2 b (λ b′. or-not m 3 c (λ c′. or-not m 4 d (λ d′. or-not m 5 e (λ e′. f a′ b′ c′ d′ e′)))))
-  where
-    or-not : {B : Type 0} (i j : ℕ) → (i ≡ j → B) → ((i ≡ j → ⊥) → B) → B
-    or-not {B} i j y n = go (eqb i j) refl
-      where
-        go : (t : Bool) → eqb i j ≡ t → B
-        go true p = y (eqb-true i j p)
-        go false p = n (eqb-false i j p)
+  reply-error e = ap replyBytes (sym e)
 
 -- ---- the length
 
-error-small : (r : Reply) → r .code < 2 ^ 32 → r .number < 2 ^ 32 → length (errorFrame (r .code) (messageOf r)) ≤ 128
+error-small : (r : Refusal) → r .code < 2 ^ 32 → r .number < 2 ^ 32 → length (errorFrame (r .code) (messageOf r)) ≤ 128
 error-small r h k =
     omega (
       arith,
@@ -75,33 +61,35 @@ error-small r h k =
     )
 
 pub fits-smallest : FitsSmallest
-fits-smallest r h k =
-    by-mark (r .mark) (λ e. rw (← reply-ok r e) (omega arith)) (λ e. rw (← reply-suspended r e) (omega arith))
-    (λ e. rw (← reply-done r e) (omega arith)) (λ e. rw (← reply-executed r e) (omega arith))
-    (λ e. rw (← reply-error r e) (error-small r h k))
-    (λ a b c d e. rw (← reply-nothing r a b c d e) (omega arith))
+unfolding replyBytes
+fits-smallest Nothing h = omega arith
+fits-smallest Ok h = omega arith
+fits-smallest Suspended h = omega arith
+fits-smallest Done h = omega arith
+fits-smallest Executed h = omega arith
+fits-smallest (Error e) h = error-small e (h .code) (h .number)
 
 -- ---- the frames
 
-holds-ok : frameTypes okFrame ≡ 0 ∷ []
+holds-ok : frameTypes okFrame ≡ Server.ok ∷ []
 unfolding typesIn
 holds-ok = refl
 
-holds-suspended : frameTypes (fetchSuspended ++ stmtExecuteOk) ≡ 15 ∷ 17 ∷ []
+holds-suspended : frameTypes (fetchSuspended ++ stmtExecuteOk) ≡ Server.fetchSuspended ∷ Server.stmtExecuteOk ∷ []
 unfolding typesIn
 holds-suspended = refl
 
-holds-done : frameTypes (fetchDone ++ stmtExecuteOk) ≡ 14 ∷ 17 ∷ []
+holds-done : frameTypes (fetchDone ++ stmtExecuteOk) ≡ Server.fetchDone ∷ Server.stmtExecuteOk ∷ []
 unfolding typesIn
 holds-done = refl
 
-holds-executed : frameTypes stmtExecuteOk ≡ 17 ∷ []
+holds-executed : frameTypes stmtExecuteOk ≡ Server.stmtExecuteOk ∷ []
 unfolding typesIn
 holds-executed = refl
 
-holds-error : (r : Reply) → frameTypes (errorFrame (r .code) (messageOf r)) ≡ 1 ∷ []
+holds-error : (r : Refusal) → frameTypes (errorFrame (r .code) (messageOf r)) ≡ Server.error ∷ []
 holds-error r =
-    types-one 1 (errorPayload (r .code) (messageOf r))
+    types-one Server.error (errorPayload (r .code) (messageOf r))
     (omega (
       arith,
       payload-length (r .code) (messageOf r),
@@ -111,24 +99,25 @@ holds-error r =
     ))
 
 pub holds-frames : HoldsFrames
-holds-frames r =
-    by-mark (r .mark)
-    (λ e. ap frameTypes (sym (reply-ok r e)) ∙ holds-ok ∙ sym (ap typesOf e))
-    (λ e. ap frameTypes (sym (reply-suspended r e)) ∙ holds-suspended ∙ sym (ap typesOf e))
-    (λ e. ap frameTypes (sym (reply-done r e)) ∙ holds-done ∙ sym (ap typesOf e))
-    (λ e. ap frameTypes (sym (reply-executed r e)) ∙ holds-executed ∙ sym (ap typesOf e))
-    (λ e. ap frameTypes (sym (reply-error r e)) ∙ holds-error r ∙ sym (ap typesOf e))
-    (λ a b c d e. ap frameTypes (sym (reply-nothing r a b c d e)) ∙ types-none 0 ∙
-    simp (ne-eqb (r .mark) 1 a, ne-eqb (r .mark) 2 b, ne-eqb (r .mark) 3 c, ne-eqb (r .mark) 4 d, ne-eqb (r .mark) 5 e))
+unfolding replyBytes
+holds-frames Nothing = types-none 0
+holds-frames Ok = holds-ok
+holds-frames Suspended = holds-suspended
+holds-frames Done = holds-done
+holds-frames Executed = holds-executed
+holds-frames (Error e) = holds-error e
 
-done-among : (m : ℕ) → among 14 (typesOf m) ≡ eqb m 3
+done-among : (r : Reply) → among Server.fetchDone (typesOf r) ≡ isDone r
 unfolding among
-done-among m =
-    by-mark m (λ e. rw e) (λ e. rw e) (λ e. rw e) (λ e. rw e) (λ e. rw e)
-    (λ a b c d e. simp (ne-eqb m 1 a, ne-eqb m 2 b, ne-eqb m 3 c, ne-eqb m 4 d, ne-eqb m 5 e))
+done-among Nothing = refl
+done-among Ok = refl
+done-among Suspended = refl
+done-among Done = refl
+done-among Executed = refl
+done-among (Error e) = refl
 
 pub tells-done : TellsDone
-tells-done r = ap (among 14) (holds-frames r) ∙ done-among (r .mark)
+tells-done r = ap (among Server.fetchDone) (holds-frames r) ∙ done-among r
 
 -- ---- samples
 

@@ -1,4 +1,4 @@
--- A number in text (document 01, "Refusal numbers": ids and indexes as unsigned decimals).
+-- A number in text (P7).
 use Prim.Native.Nat.{ℕ, zero, suc, _+_, _/_, _%_}
 use mathlib.Core.Bool.{cond}
 use mathlib.Core.List.{List, [], _∷_, _++_}

@@ -1,7 +1,8 @@
--- The frames of a reply (document 01, "Framing and message numbers", and below the table of refusals).
+-- The frames of a reply (F1, P1 to P5).
 use Prim.Native.Nat.{ℕ, _+_, _*_, _/_, _%_}
 use mathlib.Core.List.{List, [], _∷_, _++_}
 use lib.ListN.{length}
+use Rattle.protocol.specs.Server as Server
 use Rattle.varint.specs.Shortest.{varintBytes}
 use Rattle.reply.specs.Text.{ascii}
 
@@ -14,16 +15,16 @@ abbrev pub frame : ℕ → List ℕ → List ℕ
 frame kind payload = fourBytes (length payload + 1) ++ (kind ∷ payload)
 
 abbrev pub okFrame : List ℕ
-okFrame = frame 0 []
+okFrame = frame Server.ok []
 
 abbrev pub fetchDone : List ℕ
-fetchDone = frame 14 []
+fetchDone = frame Server.fetchDone []
 
 abbrev pub fetchSuspended : List ℕ
-fetchSuspended = frame 15 []
+fetchSuspended = frame Server.fetchSuspended []
 
 abbrev pub stmtExecuteOk : List ℕ
-stmtExecuteOk = frame 17 []
+stmtExecuteOk = frame Server.stmtExecuteOk []
 
 -- a field with a number: its tag, of wire type 0, and the number
 unfoldable pub numberField : ℕ → ℕ → List ℕ
@@ -33,10 +34,10 @@ numberField num v = varintBytes (num * 8) ++ varintBytes v
 unfoldable pub bytesField : ℕ → List ℕ → List ℕ
 bytesField num bytes = varintBytes (num * 8 + 2) ++ varintBytes (length bytes) ++ bytes
 
--- fields 1 severity (0), 2 code, 3 message, 4 "HY000", in that order
+-- fields 1 severity (0), 2 code, 3 message, 4 "HY000", in that order (P5)
 unfoldable pub errorPayload : ℕ → List ℕ → List ℕ
 errorPayload code message =
     numberField 1 0 ++ numberField 2 code ++ bytesField 3 message ++ bytesField 4 (ascii "HY000")
 
 abbrev pub errorFrame : ℕ → List ℕ → List ℕ
-errorFrame code message = frame 1 (errorPayload code message)
+errorFrame code message = frame Server.error (errorPayload code message)

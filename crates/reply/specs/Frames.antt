@@ -1,9 +1,10 @@
--- The frames that stand one behind the other in a byte string, found by their lengths (document 01, "Framing and message numbers").
+-- The frames that stand one behind the other in a byte string, found by their lengths (F1, T9).
 use Prim.Native.Nat.{ℕ, zero, suc, _+_, _*_}
 use mathlib.Core.Bool.{Bool, false, cond, _&&_, _||_}
 use mathlib.Core.List.{List, [], _∷_}
 use lib.ListN.{length, getD, drop}
 use lib.Dec.{ltb, leb, eqb}
+use Rattle.protocol.specs.Server as Server
 
 -- the length that the first four bytes state, least first
 abbrev pub sizeOf : List ℕ → ℕ
@@ -26,6 +27,6 @@ unfoldable pub among : ℕ → List ℕ → Bool
 among t [] = false
 among t (x ∷ xs) = eqb x t || among t xs
 
--- FetchDone, of type 14, is one of the frames
+-- FetchDone is one of the frames
 abbrev pub holdsDone : List ℕ → Bool
-holdsDone s = among 14 (frameTypes s)
+holdsDone s = among Server.fetchDone (frameTypes s)

@@ -1,12 +1,13 @@
--- What bytes a reply is (document 01, "Steps" and "Refusal numbers").
+-- What bytes a reply is (P8, P9; the codes R4 to R16).
 use Prim.Native.Nat.{ℕ}
-use mathlib.Core.Bool.{cond}
 use mathlib.Core.List.{List, [], _∷_, _++_}
 use lib.ListN.{getD}
-use lib.Dec.{eqb}
+use Rattle.protocol.specs.Server as Server
+use Rattle.reply.specs.declared.Refusal.{Refusal}
 use Rattle.reply.specs.declared.Reply.{Reply}
+use Rattle.reply.specs.declared.Reply.the-variants.{Nothing, Ok, Suspended, Done, Executed, Error}
 use Rattle.reply.specs.Text.{text}
-use Rattle.reply.specs.Frame.{okFrame, fetchDone, fetchSuspended, stmtExecuteOk, errorFrame}
+use Rattle.reply.specs.Frame.{frame, errorFrame}
 
 -- the wire codes of the refusals 0 to 15; 0 to 3 send none, and 16 has the engine's own
 abbrev pub codes : List ℕ
@@ -15,15 +16,29 @@ codes = 0 ∷ 0 ∷ 0 ∷ 0 ∷ 6004 ∷ 6005 ∷ 5000 ∷ 5110 ∷ 6008 ∷ 600
 abbrev pub codeOf : ℕ → ℕ
 codeOf reason = getD codes reason 0
 
--- the message of a reply that is an Error
-abbrev pub messageOf : Reply → List ℕ
-messageOf r = text (r .reason) (r .number) (r .kind)
+-- the message of an Error
+abbrev pub messageOf : Refusal → List ℕ
+messageOf e = text (e .reason) (e .number) (e .kind)
 
--- by the mark: 1 Ok, 2 suspended, 3 done, 4 execute-ok alone, 5 error; any other is nothing
+-- the types of a reply's frames, in order
+abbrev pub typesOf : Reply → List ℕ
+typesOf Nothing = []
+typesOf Ok = Server.ok ∷ []
+typesOf Suspended = Server.fetchSuspended ∷ Server.stmtExecuteOk ∷ []
+typesOf Done = Server.fetchDone ∷ Server.stmtExecuteOk ∷ []
+typesOf Executed = Server.stmtExecuteOk ∷ []
+typesOf (Error e) = Server.error ∷ []
+
+-- frames without payload, one behind the other
+abbrev pub emptyFrames : List ℕ → List ℕ
+emptyFrames [] = []
+emptyFrames (t ∷ ts) = frame t [] ++ emptyFrames ts
+
+-- all but an Error have no payload
 unfoldable pub replyBytes : Reply → List ℕ
-replyBytes r =
-    cond (eqb (r .mark) 1) okFrame
-    (cond (eqb (r .mark) 2) (fetchSuspended ++ stmtExecuteOk)
-    (cond (eqb (r .mark) 3) (fetchDone ++ stmtExecuteOk)
-    (cond (eqb (r .mark) 4) stmtExecuteOk
-    (cond (eqb (r .mark) 5) (errorFrame (r .code) (messageOf r)) []))))
+replyBytes Nothing = emptyFrames (typesOf Nothing)
+replyBytes Ok = emptyFrames (typesOf Ok)
+replyBytes Suspended = emptyFrames (typesOf Suspended)
+replyBytes Done = emptyFrames (typesOf Done)
+replyBytes Executed = emptyFrames (typesOf Executed)
+replyBytes (Error e) = errorFrame (e .code) (messageOf e)

@@ -24,7 +24,9 @@ pub(crate) fn put_decimal(buf: &mut [u8], at: usize, n: u64) -> usize
 
 // The decimal of n put at the place `at`, where it fits; else the buffer stays as it was.
 pub fn write_decimal(buf: &mut [u8], at: usize, n: u64) -> Put
-    ensures { λ r. ⌜ (r ≡ putAt (now (buf .entry)) at (decimal n)) × (now (buf .exit) ≡ written (now (buf .entry)) at (decimal n)) ⌝ }
+    ensures { λ r. ⌜
+        (r ≡ putAt (now (buf .entry)) at (decimal n)) × (now (buf .exit) ≡ written (now (buf .entry)) at (decimal n))
+        ⌝ }
 {
     let mut digits = [0u8; 20];
     let k = put_decimal(&mut digits, 0, n);

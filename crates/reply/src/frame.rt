@@ -6,19 +6,9 @@ ghost use Rattle.reply.specs.Puts.{Puts, PutsIfRoom};
 ghost use Rattle.reply.specs.Frame.{fourBytes, frame, stmtExecuteOk, numberField, bytesField, errorPayload, errorFrame};
 use crate::put::copy_at;
 use crate::put::put_varint;
+use protocol::server;
 use varint::write::Put;
 use varint::write::varint_len;
-
-// The server's message types used here.
-pub(crate) const OK: u8 = 0;
-
-pub(crate) const ERROR: u8 = 1;
-
-pub(crate) const FETCH_DONE: u8 = 14;
-
-pub(crate) const FETCH_SUSPENDED: u8 = 15;
-
-pub(crate) const STMT_EXECUTE_OK: u8 = 17;
 
 // The length of the type byte and the payload in four bytes, least first, and the type byte.
 fn put_head(buf: &mut [u8], size: u64, kind: u8) -> usize
@@ -51,7 +41,7 @@ pub(crate) fn write_end(buf: &mut [u8], kind: u8) -> Put
         return Put::Full;
     }
     let n = put_head(buf, 1, kind);
-    let m = put_head(&mut buf[n..], 1, STMT_EXECUTE_OK);
+    let m = put_head(&mut buf[n..], 1, server::STMT_EXECUTE_OK);
     Put::Next(n + m)
 }
 
@@ -94,6 +84,6 @@ pub(crate) fn write_error(buf: &mut [u8], code: u64, message: &[u8]) -> Put
     if buf.len() < 4 + size {
         return Put::Full;
     }
-    let at = put_head(buf, size as u64, ERROR);
+    let at = put_head(buf, size as u64, server::ERROR);
     Put::Next(put_error(buf, at, code, message))
 }

@@ -4,6 +4,8 @@ ghost use Rattle.varint.specs.Put.{putAt, written};
 ghost use Rattle.reply.specs.Frame.{errorFrame};
 ghost use Rattle.reply.specs.Puts.{PutsIfRoom};
 ghost use Rattle.reply.specs.Reply.{codeOf, messageOf, replyBytes};
+use protocol::reason;
+use protocol::server;
 use varint::write::Put;
 
 pub mod decimal;
@@ -11,32 +13,24 @@ mod frame;
 pub mod put;
 mod text;
 
-// The marks of a reply. Nothing: no frame.
-pub const NOTHING: u64 = 0;
-
-// Ok.
-pub const OK: u64 = 1;
-
-// FetchSuspended, and StmtExecuteOk behind it.
-pub const SUSPENDED: u64 = 2;
-
-// FetchDone, and StmtExecuteOk behind it.
-pub const DONE: u64 = 3;
-
-// StmtExecuteOk alone.
-pub const EXECUTED: u64 = 4;
-
-// Error.
-pub const ERROR: u64 = 5;
-
-// A reply by its mark. For an Error: the refusal's number, its wire code, and what its text names, an
-// id, index or count and, for an argument, its type (2 object, 3 array).
-pub struct Reply {
-    pub mark: u64,
+// The refusal that an Error tells: its number, its wire code, and what its text names: an id, index or count and, for
+// an argument, the type of its Any.
+pub struct Refusal {
     pub reason: u64,
     pub code: u64,
     pub number: u64,
     pub kind: u64,
+}
+
+// What is replied: no frame; Ok; FetchSuspended or FetchDone, and StmtExecuteOk behind it; StmtExecuteOk alone; an
+// Error.
+pub enum Reply {
+    Nothing,
+    Ok,
+    Suspended,
+    Done,
+    Executed,
+    Error(Refusal),
 }
 
 const CODES: [u64; 16] = [
@@ -62,32 +56,36 @@ const CODES: [u64; 16] = [
 pub fn code_of(reason: u64) -> u64
     ensures { λ r. ⌜ r ≡ codeOf reason ⌝ }
 {
-    if 15 < reason {
+    if reason::BAD_REPORT < reason {
         return 0;
     }
     CODES[reason as usize]
 }
 
 // An Error. Its text is made in an array, since the text's length stands before it in the frame.
-fn write_refusal(buf: &mut [u8], reply: Reply) -> Put
-    ensures { λ r. ⌜ PutsIfRoom (now (buf .entry)) 0 (errorFrame (reply .code) (messageOf reply)) r (now (buf .exit)) ⌝ }
+fn write_refusal(buf: &mut [u8], refusal: Refusal) -> Put
+    ensures { λ r. ⌜
+        PutsIfRoom (now (buf .entry)) 0 (errorFrame (refusal .code) (messageOf refusal)) r (now (buf .exit))
+        ⌝ }
 {
     let mut text = [0u8; 128];
-    let n = text::put_text(&mut text, reply.reason, reply.number, reply.kind);
-    frame::write_error(buf, reply.code, &text[..n])
+    let n = text::put_text(&mut text, refusal.reason, refusal.number, refusal.kind);
+    frame::write_error(buf, refusal.code, &text[..n])
 }
 
 // The reply's bytes put at the front of the buffer, where they fit; else the buffer stays as it was.
 pub fn write_reply(buf: &mut [u8], reply: Reply) -> Put
-    ensures { λ r. ⌜ (r ≡ putAt (now (buf .entry)) 0 (replyBytes reply)) × (now (buf .exit) ≡ written (now (buf .entry)) 0 (replyBytes reply)) ⌝ }
+    ensures { λ r. ⌜
+        (r ≡ putAt (now (buf .entry)) 0 (replyBytes reply))
+        × (now (buf .exit) ≡ written (now (buf .entry)) 0 (replyBytes reply))
+        ⌝ }
 {
-    let mark = reply.mark;
-    match mark {
-        OK => frame::write_empty(buf, frame::OK),
-        SUSPENDED => frame::write_end(buf, frame::FETCH_SUSPENDED),
-        DONE => frame::write_end(buf, frame::FETCH_DONE),
-        EXECUTED => frame::write_empty(buf, frame::STMT_EXECUTE_OK),
-        ERROR => write_refusal(buf, reply),
-        _ => Put::Next(0),
+    match reply {
+        Reply::Nothing => Put::Next(0),
+        Reply::Ok => frame::write_empty(buf, server::OK),
+        Reply::Suspended => frame::write_end(buf, server::FETCH_SUSPENDED),
+        Reply::Done => frame::write_end(buf, server::FETCH_DONE),
+        Reply::Executed => frame::write_empty(buf, server::STMT_EXECUTE_OK),
+        Reply::Error(refusal) => write_refusal(buf, refusal),
     }
 }

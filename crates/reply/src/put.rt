@@ -33,7 +33,10 @@ pub(crate) fn put_varint(buf: &mut [u8], at: usize, v: u64) -> usize
 
 // The bytes of `src` put at the place `at`, where they fit; else the buffer stays as it was.
 pub fn write_bytes(buf: &mut [u8], at: usize, src: &[u8]) -> Put
-    ensures { λ r. ⌜ (r ≡ putAt (now (buf .entry)) at (now (src .entry))) × (now (buf .exit) ≡ written (now (buf .entry)) at (now (src .entry))) ⌝ }
+    ensures { λ r. ⌜
+        (r ≡ putAt (now (buf .entry)) at (now (src .entry)))
+        × (now (buf .exit) ≡ written (now (buf .entry)) at (now (src .entry)))
+        ⌝ }
 {
     if buf.len() < at {
         return Put::Full;

@@ -7,11 +7,14 @@ ghost use Rattle.reply.specs.Puts.{Puts};
 ghost use Rattle.reply.specs.Text.{kindName, text, unsupported};
 use crate::decimal::put_decimal;
 use crate::put::copy_at;
+use protocol::reason;
 
 // Text, a number, text.
 fn put_numbered(t: &mut [u8], before: &[u8], n: u64, after: &[u8]) -> usize
     requires { ⌜ length (now before) + length (now after) + 20 ≤ length (now t) ⌝ }
-    ensures { λ r. ⌜ Puts (now (t .entry)) 0 (now (before .entry) ++ decimal n ++ now (after .entry)) r (now (t .exit)) ⌝ }
+    ensures { λ r. ⌜
+        Puts (now (t .entry)) 0 (now (before .entry) ++ decimal n ++ now (after .entry)) r (now (t .exit))
+        ⌝ }
 {
     let at = copy_at(t, 0, before);
     let next = put_decimal(t, at, n);
@@ -46,16 +49,16 @@ pub(crate) fn put_text(t: &mut [u8; 128], reason: u64, number: u64, kind: u64) -
     ensures { λ r. ⌜ Puts (now (t .entry)) 0 (text reason number kind) r (now (t .exit)) ⌝ }
 {
     match reason {
-        7 => put_numbered(t, b"Statement with ID=", number, b" was not prepared."),
-        8 => put_unsupported(t, number, kind),
-        9 => put_numbered(
+        reason::NO_STMT => put_numbered(t, b"Statement with ID=", number, b" was not prepared."),
+        reason::NOT_SCALAR => put_unsupported(t, number, kind),
+        reason::FEW_ARGUMENTS => put_numbered(
             t,
             b"There is no argument for statement placeholder at position: ",
             number,
             b"",
         ),
-        10 => put_numbered(t, b"Cursor with ID=", number, b" was not opened."),
-        11 => put_numbered(t, b"No more data in cursor (cursor id:'", number, b"')"),
+        reason::NO_CURSOR => put_numbered(t, b"Cursor with ID=", number, b" was not opened."),
+        reason::ALL_SENT => put_numbered(t, b"No more data in cursor (cursor id:'", number, b"')"),
         _ => put_numbered(t, b"Refused (", reason, b")."),
     }
 }

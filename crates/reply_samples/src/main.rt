@@ -2,6 +2,8 @@
 // each. The last finds no room in 9 bytes and leaves them as they were.
 use hex_print::print_bytes;
 use libc::STDOUT_FILENO;
+use protocol::reason;
+use reply::Refusal;
 use reply::Reply;
 use varint::write::Put;
 
@@ -23,48 +25,32 @@ fn print_reply(buf: &mut [u8], r: Reply) {
     }
 }
 
-fn print_mark(buf: &mut [u8], mark: u64) {
-    print_reply(
-        buf,
-        Reply {
-            mark,
-            reason: 0,
-            code: 0,
-            number: 0,
-            kind: 0,
-        },
-    );
-}
-
 fn print_error(buf: &mut [u8], reason: u64, number: u64, kind: u64) {
-    print_reply(
-        buf,
-        Reply {
-            mark: reply::ERROR,
-            reason,
-            code: reply::code_of(reason),
-            number,
-            kind,
-        },
-    );
+    let refusal = Refusal {
+        reason,
+        code: reply::code_of(reason),
+        number,
+        kind,
+    };
+    print_reply(buf, Reply::Error(refusal));
 }
 
 fn main() {
     let mut space = [0u8; 128];
     let buf: &mut [u8] = &mut space;
-    print_mark(buf, reply::OK);
-    print_mark(buf, reply::SUSPENDED);
-    print_mark(buf, reply::DONE);
-    print_mark(buf, reply::EXECUTED);
-    print_mark(buf, reply::NOTHING);
-    print_error(buf, 7, 12, 0);
-    print_error(buf, 10, 4294967295, 0);
-    print_error(buf, 8, 65535, 2);
-    print_error(buf, 8, 0, 3);
-    print_error(buf, 9, 10, 0);
-    print_error(buf, 11, 22, 0);
-    print_error(buf, 4, 0, 0);
+    print_reply(buf, Reply::Ok);
+    print_reply(buf, Reply::Suspended);
+    print_reply(buf, Reply::Done);
+    print_reply(buf, Reply::Executed);
+    print_reply(buf, Reply::Nothing);
+    print_error(buf, reason::NO_STMT, 12, 0);
+    print_error(buf, reason::NO_CURSOR, 4294967295, 0);
+    print_error(buf, reason::NOT_SCALAR, 65535, 2);
+    print_error(buf, reason::NOT_SCALAR, 0, 3);
+    print_error(buf, reason::FEW_ARGUMENTS, 10, 0);
+    print_error(buf, reason::ALL_SENT, 22, 0);
+    print_error(buf, reason::CLOSED, 0, 0);
     let mut short = [7u8; 9];
-    print_mark(&mut short, reply::DONE);
+    print_reply(&mut short, Reply::Done);
     print_front(&short, 9);
 }

@@ -1,58 +1,88 @@
--- With 128 bytes every reply fits, and its bytes stand at the front: what a host has of a step is then what was
--- decided, whatever the buffer. Assumes nothing.
+-- With the smallest buffer every reply fits, and its bytes stand at the front: what a host has of a step is then what
+-- was decided, whatever the buffer. Assumes nothing.
 use Prim.Native.Nat.{ℕ, _≤_}
 use native.Mathlib.Nat.{le-trans}
-use native.Mathlib.Omega.{arith}
+use mathlib.Core.Bool.{Bool}
 use mathlib.Core.Path.{_≡_, sym, ap, _∙_}
 use mathlib.Core.List.{List}
 use lib.ListN.{length}
-use lib.Dec.{eqb, ltb}
+use lib.Dec.{eqb, leb}
 use borrow.Author.Tests.{le-ltb}
 use Rattle.varint.proofs.PastLaws.{both}
-use Rattle.message.specs.Frame.{messageOf}
-use Rattle.message.specs.declared.message.Message.{Message}
-use Rattle.session.specs.declared.Session.{Session}
+use Rattle.protocol.specs.Reason as Reason
+use Rattle.message.specs.Frame.{frameOf}
+use Rattle.message.specs.declared.request.Request.{Request}
+use Rattle.message.specs.declared.request.Request.the-variants.{Reset, SessionClose, Prepare, Execute, Deallocate, Open, Close, Fetch}
+use Rattle.message.specs.declared.request.Frame.{Frame}
+use Rattle.message.specs.declared.request.Frame.the-variants.{NotAllThere, BadLength, UnknownType, BadPayload, Good}
+use Rattle.session.specs.Session.{Session}
 use Rattle.reply.specs.declared.Reply.{Reply}
 use Rattle.reply.specs.Reply.{replyBytes}
+use Rattle.reply.specs.ReplyRules.{minBuffer}
 use Rattle.reply.proofs.ReplyLaws.{fits-smallest}
-use Rattle.rules.specs.declared.Decision.{Decision}
 use Rattle.rules.specs.declared.Report.{Report}
+use Rattle.rules.specs.Kind.{onGood}
 use Rattle.rules.specs.Refusal.{stepReason}
-use Rattle.rules.specs.Decision.{markOf, reply, refusedReply, refusedBy, accepted, decisionOf}
-use Rattle.rules.specs.Step.{minBuffer, answerOf, stepOn, stepOf}
-use Rattle.rules.specs.Read.{Read}
+use Rattle.rules.specs.Rows.{sendsColumns, leftAfter}
+use Rattle.rules.specs.Decision.{Decision, endOf, replyTo, refusalOf, refusedReply, refused, accepted, decisionOf}
+use Rattle.rules.specs.Step.{answerOf, stepOn, stepOf}
+use Rattle.rules.specs.Read.{ReadIn}
 use Rattle.rules.specs.StepRules.{Outcome, outcome, BufferMakesNoDifference}
 use Rattle.rules.proofs.ReadLaws.{frames-are-read}
-use Rattle.rules.proofs.StepLaws.{reply-front, errorReply, error-fits}
+use Rattle.rules.proofs.StepLaws.{reply-front, error-fits}
 
 abbrev Fits : Reply → Type 0
 Fits x = length (replyBytes x) ≤ minBuffer
 
-pub mark-fits : (mark : ℕ) → Fits (reply mark)
-mark-fits mark = fits-smallest (reply mark) (omega arith) (omega arith)
+end-fits : (left : ℕ) → Fits (endOf left)
+end-fits left = both Fits (eqb left 0) Reply.Done Reply.Suspended (λ _. fits-smallest Reply.Done tt) (λ _. fits-smallest Reply.Suspended tt)
 
-pub decision-fits : (s : Session) (m : Message) (r : Report) → Read m → Fits (decisionOf s m r .reply)
-unfolding decisionOf refusedReply
-decision-fits s m r read =
-    let n = stepReason s m r in
-    both (λ (d : Decision). Fits (d .reply)) (eqb n 0) (accepted s m r) (refusedBy s n (refusedReply m r n))
-    (λ _. mark-fits (markOf s m r))
-    (λ _. both Fits (ltb n 4) (reply 0) (errorReply m r n) (λ _. mark-fits 0) (λ _. error-fits s m r read))
+-- the reply to an accepted request
+pub reply-fits : (s : Session) (q : Request) (r : Report) → Fits (replyTo s q r)
+unfolding replyTo
+reply-fits s Reset r = fits-smallest Reply.Ok tt
+reply-fits s SessionClose r = fits-smallest Reply.Ok tt
+reply-fits s (Prepare p) r = fits-smallest Reply.Ok tt
+reply-fits s (Execute x) r =
+    both Fits (sendsColumns (Execute x) r) Reply.Done Reply.Executed (λ _. fits-smallest Reply.Done tt) (λ _. fits-smallest Reply.Executed tt)
+reply-fits s (Deallocate stmt) r = fits-smallest Reply.Ok tt
+reply-fits s (Open o) r = end-fits (leftAfter s (Open o) r)
+reply-fits s (Close cursor) r = fits-smallest Reply.Ok tt
+reply-fits s (Fetch f) r = end-fits (leftAfter s (Fetch f) r)
+
+accepted-fits : (s : Session) (x : Frame) (r : Report) → Fits (onGood (refused s (stepReason s x r) Reply.Nothing) (accepted s r) x .reply)
+accepted-fits s NotAllThere r = fits-smallest Reply.Nothing tt
+accepted-fits s BadLength r = fits-smallest Reply.Nothing tt
+accepted-fits s (UnknownType used) r = fits-smallest Reply.Nothing tt
+accepted-fits s (BadPayload used kind) r = fits-smallest Reply.Nothing tt
+accepted-fits s (Good used q) r = reply-fits s q r
+
+pub refused-fits : (s : Session) (x : Frame) (r : Report) → ReadIn x → Fits (refusedReply x r (stepReason s x r))
+unfolding refusedReply
+refused-fits s x r read =
+    let n = stepReason s x r in
+    both Fits (leb n Reason.noRoom) Reply.Nothing (Reply.Error (refusalOf x r n)) (λ _. fits-smallest Reply.Nothing tt) (λ _. error-fits s x r read)
+
+pub decision-fits : (s : Session) (x : Frame) (r : Report) → ReadIn x → Fits (decisionOf s x r .reply)
+unfolding decisionOf
+decision-fits s x r read =
+    let n = stepReason s x r in
+    both (λ (d : Decision). Fits (d .reply)) (eqb n 0) _ (refused s n (refusedReply x r n)) (λ _. accepted-fits s x r) (λ _. refused-fits s x r read)
 
 -- what was decided, with the reply's bytes
-abbrev withReply : Message → Decision → List ℕ → Outcome
-withReply m d bytes = record { answer = answerOf m d; session = d .session; reply = bytes }
+abbrev withReply : Frame → Decision → List ℕ → Outcome
+withReply x d bytes = record { answer = answerOf x d; session = d .session; reply = bytes }
 
-pub step-outcome : (s : Session) (m : Message) (r : Report) (buffer : List ℕ) → Read m → minBuffer ≤ length buffer →
-    outcome (stepOn s m r buffer) ≡ withReply m (decisionOf s m r) (replyBytes (decisionOf s m r .reply))
-step-outcome s m r buffer read room =
-    let d = decisionOf s m r in
+pub step-outcome : (s : Session) (x : Frame) (r : Report) (buffer : List ℕ) → ReadIn x → minBuffer ≤ length buffer →
+    outcome (stepOn s x r buffer) ≡ withReply x (decisionOf s x r) (replyBytes (decisionOf s x r .reply))
+unfolding stepOn
+step-outcome s x r buffer read room =
+    let d = decisionOf s x r in
     rw (le-ltb (length buffer) minBuffer room)
-    (ap (withReply m d) (reply-front buffer (replyBytes (d .reply)) (le-trans (decision-fits s m r read) room)))
+    (ap (withReply x d) (reply-front buffer (replyBytes (d .reply)) (le-trans (decision-fits s x r read) room)))
 
 pub buffer-makes-no-difference : BufferMakesNoDifference
-unfolding stepOf
 buffer-makes-no-difference s frame r buffer other h g =
-    let m = messageOf frame in
+    let x = frameOf frame in
     let read = frames-are-read frame in
-    step-outcome s m r buffer read h ∙ sym (step-outcome s m r other read g)
+    step-outcome s x r buffer read h ∙ sym (step-outcome s x r other read g)

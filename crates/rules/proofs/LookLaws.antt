@@ -1,135 +1,152 @@
 -- A look and a step agree. Assumes nothing.
 use Prim.Native.Nat.{ℕ, _≤_, _<_}
 use native.Mathlib.Omega.{arith}
-use mathlib.Core.Bool.{Bool, true, false, not, cond, true≢false}
+use mathlib.Core.Bool.{Bool, true, false, cond, true≢false}
 use mathlib.Core.Path.{_≡_, refl, sym, ap, _∙_}
-use mathlib.Core.List.{List, [], _∷_}
+use mathlib.Core.List.{List}
 use lib.ListN.{length}
 use lib.Dec.{eqb}
 use borrow.Author.Tests.{eqb-true, ne-eqb, lt-ltb, ltb-true, le-ltb}
-use Rattle.varint.proofs.PastLaws.{both}
-use Rattle.layout.specs.Table.{prepare, execute, open', fetch}
-use Rattle.message.specs.Frame.{messageOf}
-use Rattle.message.specs.declared.message.Message.{Message}
-use Rattle.session.specs.declared.Session.{Session}
+use Rattle.protocol.specs.Reason as Reason
+use Rattle.message.specs.Frame.{frameOf}
+use Rattle.message.specs.declared.request.Request.{Request}
+use Rattle.message.specs.declared.request.Request.the-variants.{Reset, SessionClose, Prepare, Execute, Deallocate, Open, Close, Fetch}
+use Rattle.message.specs.declared.request.Frame.{Frame}
+use Rattle.message.specs.declared.request.Frame.the-variants.{NotAllThere, BadLength, UnknownType, BadPayload, Good}
+use Rattle.session.specs.Session.{Session}
+use Rattle.reply.specs.declared.Reply.{Reply}
 use Rattle.reply.specs.Frames.{among}
+use Rattle.reply.specs.ReplyRules.{minBuffer}
 use Rattle.rules.specs.declared.Report.{Report}
 use Rattle.rules.specs.declared.Look.{Look}
-use Rattle.rules.specs.Kind.{isA, workOf}
+use Rattle.rules.specs.Kind.{onGood}
+use Rattle.rules.specs.Report.{noWork, workOf}
 use Rattle.rules.specs.Refusal.{lookReason, reportReason, stepReason}
-use Rattle.rules.specs.Rows.{firstRow, rowCount, fetchCount, sendsColumns}
-use Rattle.rules.specs.Decision.{sessionAfter, markOf, wireCode, refusedReply, refusedBy, accepted, decidedBy, decisionOf, lookOf}
-use Rattle.rules.specs.Step.{short, minBuffer, stepBy, stepOn, lookAt, stepOf, tooShort}
-use Rattle.rules.specs.StepRules.{answer, RefusesAlike, RefusesFew, ShortFirst, ReportNotConsulted}
-use Rattle.rules.proofs.ReadLaws.{frames-are-read}
-use Rattle.rules.proofs.RefusalLaws.{look-small, not-three, idle, report-few}
+use Rattle.rules.specs.Rows.{rowCount, sendsColumns}
+use Rattle.rules.specs.Decision.{sessionAfter, replyTo, wireCode, refusedReply, refused, accepted, decidedBy, decisionOf, looked, lookRefused, lookBy, lookOf}
+use Rattle.rules.specs.Step.{short, stepBy, stepOn, lookAt, stepOf, tooShort}
+use Rattle.rules.specs.StepRules.{RefusesAlike, RefusesFew, ShortFirst, ReportNotConsulted}
+use Rattle.rules.proofs.RefusalLaws.{took-look, look-small, not-three, idle, few, report-few}
 use Rattle.rules.proofs.StepLaws.{step-has}
 
-look-reason : (s : Session) (m : Message) → lookOf s m .reason ≡ lookReason s m
+-- ---- a look, by cases
+
+look-bad : (s : Session) (x : Frame) → eqb (lookReason s x) 0 ≡ false → lookOf s x ≡ lookRefused (lookReason s x)
 unfolding lookOf
-look-reason s m =
-    both (λ (l : Look). l .reason ≡ lookReason s m) (eqb (lookReason s m) 0)
-    (record { reason = 0; work = workOf m; first = firstRow s m; count = cond (isA fetch m) (fetchCount s m) 0 })
-    (record { reason = lookReason s m; work = 0; first = 0; count = 0 })
-    (λ e. sym (eqb-true (lookReason s m) 0 e)) (λ _. refl)
+look-bad s x e = rw e
+
+pub look-good : (s : Session) (used : ℕ) (q : Request) → eqb (lookReason s (Good used q)) 0 ≡ true → lookOf s (Good used q) ≡ looked s q
+unfolding lookOf
+look-good s used q e = rw e
+
+pub look-reason : (s : Session) (x : Frame) → lookOf s x .reason ≡ lookReason s x
+look-reason s x = go (eqb (lookReason s x) 0) refl
+  where
+    go : (b : Bool) → eqb (lookReason s x) 0 ≡ b → lookOf s x .reason ≡ lookReason s x
+    go true e =
+        let z = eqb-true (lookReason s x) 0 e in
+        let g = took-look s x z in
+        ap (λ y. lookOf s y .reason) (g .2)
+        ∙ ap (λ l. l .reason) (look-good s (g .0) (g .1) (ap (λ y. eqb (lookReason s y) 0) (sym (g .2)) ∙ e)) ∙ sym z
+    go false e = ap (λ l. l .reason) (look-bad s x e)
 
 -- with room for the reply, a step's reason is the deciding one
-pub step-reason : (s : Session) (m : Message) (r : Report) (buffer : List ℕ) → short buffer ≡ false → answer (stepOn s m r buffer) .reason ≡ stepReason s m r
-step-reason s m r buffer room =
-    step-has (λ after. short buffer ≡ false → answer after .reason ≡ stepReason s m r) s m r buffer
-    (λ e f. absurd (true≢false (sym e ∙ f))) (λ _ e _. sym e) (λ _ _ _. refl) room
+pub step-reason : (s : Session) (x : Frame) (r : Report) (buffer : List ℕ) → short buffer ≡ false → stepOn s x r buffer .answer .reason ≡ stepReason s x r
+unfolding stepOn decisionOf
+step-reason s x r buffer room = rw room (go (eqb (stepReason s x r) 0) refl x refl)
+  where
+    go : (b : Bool) → eqb (stepReason s x r) 0 ≡ b → (y : Frame) → x ≡ y →
+        cond b (onGood (refused s (stepReason s x r) Reply.Nothing) (accepted s r) y) (refused s (stepReason s x r) (refusedReply x r (stepReason s x r))) .reason
+        ≡ stepReason s x r
+    go true e NotAllThere g = refl
+    go true e BadLength g = refl
+    go true e (UnknownType used) g = refl
+    go true e (BadPayload used kind) g = refl
+    go true e (Good used q) g = sym (eqb-true (stepReason s x r) 0 e)
+    go false e y g = refl
 
 pub refuses-alike : RefusesAlike
-unfolding stepOf lookAt
+unfolding lookAt
 refuses-alike s frame r buffer some room =
-    let m = messageOf frame in
-    let e = look-reason s m in
-    step-reason s m r buffer (le-ltb (length buffer) minBuffer room)
-    ∙ alike (eqb (lookReason s m) 0) (ne-eqb (lookReason s m) 0 (λ z. some (e ∙ z))) ∙ sym e
+    let x = frameOf frame in
+    let e = look-reason s x in
+    step-reason s x r buffer (le-ltb (length buffer) minBuffer room)
+    ∙ alike (eqb (lookReason s x) 0) (ne-eqb (lookReason s x) 0 (λ z. some (e ∙ z))) ∙ sym e
   where
-    alike : (b : Bool) → b ≡ false → cond b (reportReason (messageOf frame) r) (lookReason s (messageOf frame)) ≡ lookReason s (messageOf frame)
+    alike : (b : Bool) → b ≡ false → cond b (reportReason (frameOf frame) r) (lookReason s (frameOf frame)) ≡ lookReason s (frameOf frame)
     alike b h = rw h
 
 pub refuses-few : RefusesFew
-unfolding stepOf lookAt among
+unfolding lookAt among
 refuses-few s frame r buffer none =
-    let m = messageOf frame in
-    let e : lookReason s m ≡ 0 = sym (look-reason s m) ∙ none in
-    step-has (λ after. among (answer after .reason) (0 ∷ 3 ∷ 15 ∷ 16 ∷ []) ≡ true) s m r buffer
-    (λ _. refl) (λ _ _. refl) (λ _ _. rw e (report-few m r))
+    let x = frameOf frame in
+    let e : lookReason s x ≡ 0 = sym (look-reason s x) ∙ none in
+    step-has (λ after. few (after .answer .reason) ≡ true) s x r buffer (λ _. refl) (λ _ _ _ _. refl) (λ _ _. rw e (report-few x r))
 
 pub short-first : ShortFirst
-unfolding stepOf
 short-first s frame r buffer =
-    let m = messageOf frame in (
+    let x = frameOf frame in (
       λ h.
-          step-has (λ after. short buffer ≡ true → answer after .reason ≡ 3) s m r buffer (λ _ _. refl)
-          (λ f _ e. absurd (true≢false (sym e ∙ f))) (λ f _ e. absurd (true≢false (sym e ∙ f))) (lt-ltb (length buffer) minBuffer h),
-      step-has (λ after. answer after .reason ≡ 3 → length buffer < minBuffer) s m r buffer
-          (λ e _. ltb-true (length buffer) minBuffer e) (λ _ _ e. absurd (omega arith))
-          (λ _ _ e. absurd (not-three s m r (frames-are-read frame) e)),
+          step-has (λ after. short buffer ≡ true → after .answer .reason ≡ Reason.noRoom) s x r buffer (λ _ _. refl)
+          (λ _ _ f _ e. absurd (true≢false (sym e ∙ f))) (λ f _ e. absurd (true≢false (sym e ∙ f))) (lt-ltb (length buffer) minBuffer h),
+      step-has (λ after. after .answer .reason ≡ Reason.noRoom → length buffer < minBuffer) s x r buffer
+          (λ e _. ltb-true (length buffer) minBuffer e) (λ _ _ _ _ e. absurd (omega arith))
+          (λ _ _ e. absurd (not-three s x r e)),
     )
 
 -- ---- the report that is not consulted
 
--- no work, where the message is none of the four
-record Idle (m : Message) : Type 0 where
-  noPrepare : isA prepare m ≡ false
-  noExecute : isA execute m ≡ false
-  noOpen : isA open' m ≡ false
-  noFetch : isA fetch m ≡ false
+accepted-same : (s : Session) (r other : Report) (q : Request) → workOf q ≡ noWork → accepted s r q ≡ accepted s other q
+unfolding sessionAfter sendsColumns rowCount replyTo
+accepted-same s r other Reset e = refl
+accepted-same s r other SessionClose e = refl
+accepted-same s r other (Prepare p) e = absurd (omega arith)
+accepted-same s r other (Execute x) e = absurd (omega arith)
+accepted-same s r other (Deallocate stmt) e = refl
+accepted-same s r other (Open o) e = absurd (omega arith)
+accepted-same s r other (Close cursor) e = refl
+accepted-same s r other (Fetch f) e = absurd (omega arith)
 
-idle-kinds : (m : Message) → workOf m ≡ 0 → Idle m
-idle-kinds m e = go (isA prepare m) refl (isA execute m) refl (isA open' m) refl (isA fetch m) refl e
-  where
-    go : (a : Bool) → isA prepare m ≡ a → (b : Bool) → isA execute m ≡ b → (c : Bool) → isA open' m ≡ c → (d : Bool) → isA fetch m ≡ d →
-        _≡_ {A = ℕ} (cond a 1 (cond b 2 (cond c 3 (cond d 4 0)))) 0 → Idle m
-    go true p b q c u d v z = absurd (omega arith)
-    go false p true q c u d v z = absurd (omega arith)
-    go false p false q true u d v z = absurd (omega arith)
-    go false p false q false u true v z = absurd (omega arith)
-    go false p false q false u false v z = record { noPrepare = p; noExecute = q; noOpen = u; noFetch = v }
-
-module _ (s : Session) (m : Message) (r other : Report) where
-  accepted-same : Idle m → accepted s m r ≡ accepted s m other
-  unfolding sessionAfter sendsColumns rowCount markOf
-  accepted-same i = simp (i .noPrepare, i .noExecute, i .noOpen, i .noFetch)
-
-  refused-same : (n : ℕ) → n ≤ 14 → refusedReply m r n ≡ refusedReply m other n
-  unfolding refusedReply wireCode
-  refused-same n h = rw (ne-eqb n 16 (λ e. omega arith))
+refused-same : (x : Frame) (r other : Report) (n : ℕ) → n ≤ Reason.cursorsFull → refusedReply x r n ≡ refusedReply x other n
+unfolding refusedReply wireCode
+refused-same x r other n h = rw (ne-eqb n Reason.engineFailed (λ e. omega arith))
 
 -- by the look alone
-module _ (s : Session) (m : Message) (r : Report) where
-  decided : (n : ℕ) → stepReason s m r ≡ n → decisionOf s m r ≡ decidedBy s m r n
+module _ (s : Session) (x : Frame) (r : Report) where
+  decided : (n : ℕ) → stepReason s x r ≡ n → decisionOf s x r ≡ decidedBy s x r n
   unfolding decisionOf
-  decided n e = ap (decidedBy s m r) e
+  decided n e = ap (decidedBy s x r) e
 
-  decided-idle : eqb (lookReason s m) 0 ≡ true → workOf m ≡ 0 → decisionOf s m r ≡ accepted s m r
-  decided-idle e w = decided 0 (rw e (idle m r (ap (λ (n : ℕ). not (eqb n 0)) w)))
+  decided-refused : eqb (lookReason s x) 0 ≡ false → decisionOf s x r ≡ refused s (lookReason s x) (refusedReply x r (lookReason s x))
+  decided-refused e = decided (lookReason s x) (rw e) ∙ rw e
 
-  decided-refused : eqb (lookReason s m) 0 ≡ false →
-      decisionOf s m r ≡ refusedBy s (lookReason s m) (refusedReply m r (lookReason s m))
-  decided-refused e = decided (lookReason s m) (rw e) ∙ rw e
+decided-idle : (s : Session) (used : ℕ) (q : Request) (r : Report) → eqb (lookReason s (Good used q)) 0 ≡ true → workOf q ≡ noWork →
+    decisionOf s (Good used q) r ≡ accepted s r q
+decided-idle s used q r e w = decided s (Good used q) r 0 (rw e (idle used q r w))
 
-module _ (s : Session) (m : Message) (r other : Report) where
-  decided-same : (b : Bool) → eqb (lookReason s m) 0 ≡ b → lookReason s m ≤ 14 → _≡_ {A = ℕ} (cond b (workOf m) 0) 0 →
-      decisionOf s m r ≡ decisionOf s m other
-  decided-same true e h w =
-      decided-idle s m r e w ∙ accepted-same s m r other (idle-kinds m w) ∙ sym (decided-idle s m other e w)
-  decided-same false e h w =
-      decided-refused s m r e ∙ ap (refusedBy s (lookReason s m)) (refused-same s m r other (lookReason s m) h)
-      ∙ sym (decided-refused s m other e)
+pub look-work : (s : Session) (used : ℕ) (q : Request) → eqb (lookReason s (Good used q)) 0 ≡ true → lookOf s (Good used q) .work ≡ workOf q
+look-work s used q e = ap (λ l. l .work) (look-good s used q e)
 
-look-work : (s : Session) (m : Message) (b : Bool) → eqb (lookReason s m) 0 ≡ b → lookOf s m .work ≡ cond b (workOf m) 0
-unfolding lookOf
-look-work s m true e = rw e
-look-work s m false e = rw e
+decided-same : (s : Session) (x : Frame) (r other : Report) (b : Bool) → eqb (lookReason s x) 0 ≡ b → lookOf s x .work ≡ noWork →
+    decisionOf s x r ≡ decisionOf s x other
+decided-same s x r other true e w = go x (g .2) e w
+  where
+    g : (used : ℕ) × (q : Request) × (x ≡ Good used q)
+    g = took-look s x (eqb-true (lookReason s x) 0 e)
+
+    go : (y : Frame) → y ≡ Good (g .0) (g .1) → eqb (lookReason s y) 0 ≡ true → lookOf s y .work ≡ noWork →
+        decisionOf s y r ≡ decisionOf s y other
+    go y f h k =
+        let h' = ap (λ z. eqb (lookReason s z) 0) (sym f) ∙ h in
+        let idle' = sym (look-work s (g .0) (g .1) h') ∙ ap (λ z. lookOf s z .work) (sym f) ∙ k in
+        ap (λ z. decisionOf s z r) f ∙ decided-idle s (g .0) (g .1) r h' idle' ∙ accepted-same s r other (g .1) idle'
+        ∙ sym (decided-idle s (g .0) (g .1) other h' idle') ∙ ap (λ z. decisionOf s z other) (sym f)
+decided-same s x r other false e w =
+    decided-refused s x r e ∙ ap (refused s (lookReason s x)) (refused-same x r other (lookReason s x) (look-small s x))
+    ∙ sym (decided-refused s x other e)
 
 pub report-not-consulted : ReportNotConsulted
-unfolding stepOf lookAt
+unfolding stepOn lookAt
 report-not-consulted s frame r other buffer none =
-    let m = messageOf frame in
-    let b = eqb (lookReason s m) 0 in
-    ap (λ d. cond (short buffer) (tooShort s buffer) (stepBy m buffer d))
-    (decided-same s m r other b refl (look-small s m r (frames-are-read frame)) (sym (look-work s m b refl) ∙ none))
+    let x = frameOf frame in
+    ap (λ d. cond (short buffer) (tooShort s buffer) (stepBy x buffer d)) (decided-same s x r other (eqb (lookReason s x) 0) refl none)

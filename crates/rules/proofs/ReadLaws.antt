@@ -1,16 +1,19 @@
--- Every message that a frame gives has numbers of 32 bits, and is good or refused 1, 2, 5 or 6. Assumes nothing.
-use Prim.Native.Nat.{ℕ, zero, suc, _+_, _-_, _^_, _≤_, _<_}
+-- Every request that a frame gives has numbers of 32 bits: ids are cut to them, and a frame has fewer bytes. Assumes
+-- nothing.
+use Prim.Native.Nat.{ℕ, zero, suc, _+_, _-_, _%_, _^_, _≤_, _<_}
 use native.Mathlib.Nat.{mod-lt, le-trans}
 use native.Mathlib.Omega.{arith}
-use mathlib.Core.Bool.{Bool, true, not, false≢true, _||_}
+use mathlib.Core.Bool.{Bool, true, not, _&&_}
 use mathlib.Core.Path.{_≡_, refl}
 use mathlib.Core.List.{List, [], _∷_}
 use lib.ListN.{length, getD, take, length-take}
 use lib.Dec.{eqb, ltb, leb}
 use borrow.Author.Tests.{ltb-false}
 use Rattle.varint.proofs.PastLaws.{both}
+use Rattle.protocol.specs.Client.{reset, sessionClose, prepare, execute, deallocate, open', close, fetch}
+use Rattle.protocol.specs.Reason as Reason
 use Rattle.scalar.specs.declared.argument.Argument.{Argument}
-use Rattle.layout.specs.Table.{rowsOf, prepare, prepareStmt, stmtExecute, execute, deallocate, open', openStmt, close, fetch}
+use Rattle.layout.specs.Table.{rowsOf, prepareStmt, stmtExecute, openStmt}
 use Rattle.layout.specs.Fields.{fieldsAt}
 use Rattle.layout.specs.declared.slots.Slots.{Slots}
 use Rattle.args.specs.Part.{embedded, absent, valueOf, startOf, lenOf, low32}
@@ -18,18 +21,20 @@ use Rattle.args.specs.Arguments.{noArguments, badArguments, counted, withType, 
 use Rattle.args.specs.declared.arguments.Arguments.{Arguments}
 use Rattle.args.specs.declared.arguments.NextArgument.{NextArgument}
 use Rattle.args.specs.declared.part.Part.{Part}
-use Rattle.message.specs.Head.{headOf, lengthOf, maxLength}
-use Rattle.message.specs.Message.{payload, noOptional, noPart, message, refused, optionalOf, truthOf, sound}
-use Rattle.message.specs.Simple.{plainMessage, deallocateMessage, cursorIn, closeMessage, fetchMessage}
-use Rattle.message.specs.Execute.{badExecute, argumentsWithin, executeOf, executeIn, executeFrom, executeMessage, openFrom, openOf, openMessage}
-use Rattle.message.specs.Prepare.{chosen, bodyIn, prepareFrom, prepareChosen, prepareTyped, prepareOf, prepareMessage}
-use Rattle.message.specs.Frame.{reset, sessionClose, messageIn, ofHead, messageOf}
+use Rattle.message.specs.Head.{headOf, lengthOf, maxLength, lengthBytes}
+use Rattle.message.specs.Operation as Operation
+use Rattle.message.specs.Payload.{payload, ifGood, optionalOf, truthOf}
+use Rattle.message.specs.Simple.{resetFrame, sessionCloseFrame, deallocateFrame, closeFrame, fetchFrame}
+use Rattle.message.specs.Execute.{badExecute, argumentsWithin, executeOf, executeIn, executeFrom, executeFrame, openFrom, openChosen, openInside, openOf, openFrame}
+use Rattle.message.specs.Prepare.{bodyIn, prepareFrom, prepareChosen, prepareTyped, prepareInside, prepareOf, prepareFrame}
+use Rattle.message.specs.Frame.{frameIn, ofHead, frameOf}
 use Rattle.message.specs.declared.head.Head.{Head}
-use Rattle.message.specs.declared.execute.Execute.{Execute}
-use Rattle.message.specs.declared.message.Optional.{Optional}
-use Rattle.message.specs.declared.message.Message.{Message}
-use Rattle.rules.specs.Refusal.{unread}
-use Rattle.rules.specs.Read.{Read, FramesAreRead}
+use Rattle.message.specs.declared.request.Optional.{Optional}
+use Rattle.message.specs.declared.request.Execute.{Execute}
+use Rattle.message.specs.declared.request.Request.{Request}
+use Rattle.message.specs.declared.request.Frame.{Frame}
+use Rattle.session.specs.Sound.{maxNumber}
+use Rattle.rules.specs.Read.{Read, ReadIn, FramesAreRead}
 
 -- ---- at most k arguments
 
@@ -85,190 +90,179 @@ within-few n s at k h =
 
 -- ---- the messages, in a frame of at most 2 ^ 32 - 1 bytes
 
-abbrev most : ℕ
-most = 4294967295
+low : (v : ℕ) → low32 v ≤ maxNumber
+low v = let h : v % 2 ^ 32 < 2 ^ 32 = mod-lt v (omega arith) in omega arith
 
-low : (v : ℕ) → low32 v < 2 ^ 32
-low v = mod-lt v (omega arith)
+none-read : Few maxNumber (noArguments 0 0)
+none-read = none-few maxNumber 0 0
 
-pub made : (used kind stmt cursor : ℕ) (rows compact : Optional) (choice : ℕ) (body : Part) (args : Arguments) →
-    stmt < 2 ^ 32 → cursor < 2 ^ 32 → Few most args → Read (message used kind stmt cursor rows compact choice body args)
-made used kind stmt cursor rows compact choice body args h g f =
-    record {
-      known = refl;
-      unused = λ e. absurd (false≢true e);
-      stmtSmall = h;
-      cursorSmall = g;
-      indexSmall = omega (arith, f .index);
-      countSmall = omega (arith, f .count);
-    }
+-- a payload that may be bad
+pub if-good-read : (s : List ℕ) (kind : ℕ) (good : Bool) (q : Request) → Read q → ReadIn (ifGood s kind good q)
+if-good-read s kind good q h = both ReadIn good (Frame.Good (length s) q) (Frame.BadPayload (length s) kind) (λ _. h) (λ _. tt)
 
--- ---- a frame refused by itself
+reset-read : Read Request.Reset
+reset-read = record { stmtSmall = omega arith; cursorSmall = omega arith; indexSmall = omega arith; countSmall = omega arith }
 
-abbrev Known : ℕ → ℕ → Type 0
-Known n used = (unread (refused n used) || eqb n 0 || eqb n 5 || eqb n 6) ≡ true
+session-close-read : Read Request.SessionClose
+session-close-read = record { stmtSmall = omega arith; cursorSmall = omega arith; indexSmall = omega arith; countSmall = omega arith }
 
-spoiled : (n used : ℕ) → Known n used → (unread (refused n used) ≡ true → used ≡ 0) → Read (refused n used)
-spoiled n used h g =
-    record {
-      known = h;
-      unused = g;
-      stmtSmall = omega arith;
-      cursorSmall = omega arith;
-      indexSmall = omega arith;
-      countSmall = omega arith;
-    }
+deallocate-read : (v : ℕ) → Read (Request.Deallocate (low32 v))
+deallocate-read v = record { stmtSmall = low v; cursorSmall = omega arith; indexSmall = omega arith; countSmall = omega arith }
 
-unknown : (used : ℕ) → Read (refused 5 used)
-unknown used = spoiled 5 used refl (λ e. absurd (false≢true e))
+close-read : (v : ℕ) → Read (Request.Close (low32 v))
+close-read v = record { stmtSmall = omega arith; cursorSmall = low v; indexSmall = omega arith; countSmall = omega arith }
 
-pub sound-read : (s : List ℕ) (good : Bool) (m : Message) → (good ≡ true → Read m) → Read (sound s good m)
-sound-read s good m h = both Read good _ _ h (λ _. spoiled 6 (length s) refl (λ e. absurd (false≢true e)))
-
--- ---- each message
-
-simple-read : (s : List ℕ) (good : Bool) (kind stmt cursor : ℕ) (rows : Optional) → stmt < 2 ^ 32 → cursor < 2 ^ 32 →
-    Read (sound s good (message (length s) kind stmt cursor rows noOptional 0 noPart (noArguments 0 0)))
-simple-read s good kind stmt cursor rows h g =
-    sound-read s good (message (length s) kind stmt cursor rows noOptional 0 noPart (noArguments 0 0))
-    (λ _. made (length s) kind stmt cursor rows noOptional 0 noPart (noArguments 0 0) h g (none-few most 0 0))
-
-plain-read : (s : List ℕ) (kind : ℕ) → Read (plainMessage s kind)
-unfolding plainMessage
-plain-read s kind = simple-read s (fieldsAt [] s payload .good) kind 0 0 noOptional (omega arith) (omega arith)
-
-deallocate-read : (s : List ℕ) → Read (deallocateMessage s)
-unfolding deallocateMessage
-deallocate-read s =
-    let x = fieldsAt (rowsOf deallocate) s payload in
-    simple-read s (x .good) deallocate (low32 (valueOf x 1)) 0 noOptional (low (valueOf x 1)) (omega arith)
-
-cursor-read : (s : List ℕ) (kind : ℕ) (x : Slots) → Read (cursorIn s kind x)
-cursor-read s kind x =
-    simple-read s (x .good) kind 0 (low32 (valueOf x 1)) (optionalOf x 2) (omega arith) (low (valueOf x 1))
-
-close-read : (s : List ℕ) → Read (closeMessage s)
-unfolding closeMessage
-close-read s = cursor-read s close (fieldsAt (rowsOf close) s payload)
-
-fetch-read : (s : List ℕ) → Read (fetchMessage s)
-unfolding fetchMessage
-fetch-read s = cursor-read s fetch (fieldsAt (rowsOf fetch) s payload)
+fetch-read : (v : ℕ) (rows : Optional) → Read (Request.Fetch (record { cursor = low32 v; rows = rows }))
+fetch-read v rows = record { stmtSmall = omega arith; cursorSmall = low v; indexSmall = omega arith; countSmall = omega arith }
 
 -- an Execute, also the one in an Open
-record Short (e : Execute) : Type 0 where
-  stmtShort : e .stmt < 2 ^ 32
-  argsFew : Few most (e .args)
+record Short (x : Execute) : Type 0 where
+  stmtShort : x .stmt ≤ maxNumber
+  argsFew : Few maxNumber (x .args)
 
-module _ (s : List ℕ) (long : length s ≤ most) where
+execute-read : (x : Execute) → Short x → Read (Request.Execute x)
+execute-read x h =
+    record {
+      stmtSmall = h .stmtShort;
+      cursorSmall = omega arith;
+      indexSmall = h .argsFew .index;
+      countSmall = h .argsFew .count;
+    }
+
+open-read : (v : ℕ) (rows : Optional) (body : Part) (x : Execute) → Short x →
+    Read (Request.Open (record { cursor = low32 v; rows = rows; body = body; execute = x }))
+open-read v rows body x h =
+    record {
+      stmtSmall = h .stmtShort;
+      cursorSmall = low v;
+      indexSmall = h .argsFew .index;
+      countSmall = h .argsFew .count;
+    }
+
+prepare-read : (v operation : ℕ) (body : Part) (args : Arguments) → Few maxNumber args →
+    Read (Request.Prepare (record { stmt = low32 v; operation = operation; body = body; args = args }))
+prepare-read v operation body args h =
+    record { stmtSmall = low v; cursorSmall = omega arith; indexSmall = h .index; countSmall = h .count }
+
+module _ (s : List ℕ) (long : length s ≤ maxNumber) where
   bad-short : Short badExecute
-  bad-short = record { stmtShort = omega arith; argsFew = bad-few most }
+  bad-short = record { stmtShort = omega arith; argsFew = bad-few maxNumber }
 
-  execute-short : (x : Slots) (a : Arguments) → Few most a → Short (executeOf x a)
+  execute-short : (x : Slots) (a : Arguments) → Few maxNumber a → Short (executeOf x a)
   execute-short x a h =
       both Short (x .good) _ badExecute
-      (λ _. both Short (a .good) (record { good = true; stmt = low32 (valueOf x 1); compact = truthOf (optionalOf x 3); args = a }) badExecute
+      (λ _. both Short (a .good) (record { stmt = low32 (valueOf x 1); compact = truthOf (optionalOf x 3); args = a }) badExecute
       (λ _. record { stmtShort = low (valueOf x 1); argsFew = h }) (λ _. bad-short))
       (λ _. bad-short)
 
   in-short : (at n : ℕ) → Short (executeIn s at n)
   unfolding executeIn
-  in-short at n = execute-short (embedded (rowsOf execute) s at n) (argumentsWithin s at n) (within-few most s at n long)
+  in-short at n =
+      execute-short (embedded (rowsOf execute) s at n) (argumentsWithin s at n) (within-few maxNumber s at n long)
 
-  from-read : (e : Execute) → Short e → Read (executeFrom s e)
-  from-read e h =
-      sound-read s (e .good) (message (length s) execute (e .stmt) 0 noOptional (e .compact) 0 noPart (e .args))
-      (λ _. made (length s) execute (e .stmt) 0 noOptional (e .compact) 0 noPart (e .args) (h .stmtShort) (omega arith) (h .argsFew))
+  execute-frame : ReadIn (executeFrame s)
+  unfolding executeFrame
+  execute-frame =
+      let x = executeIn s payload (length s - payload) in
+      if-good-read s execute (x .args .good) (Request.Execute x) (execute-read x (in-short payload (length s - payload)))
 
-  execute-read : Read (executeMessage s)
-  unfolding executeMessage
-  execute-read = from-read (executeIn s payload (length s - payload)) (in-short payload (length s - payload))
-
-  open-from-read : (x y : Slots) (e : Execute) → Short e → Read (openFrom s x y e)
-  open-from-read x y e h =
+  open-chosen : (id : ℕ) (rows : Optional) (y : Slots) → ReadIn (openChosen s id rows y)
+  open-chosen id rows y =
       let body : Part = record { start = startOf y 2; len = lenOf y 2 } in
-      sound-read s (e .good) (message (length s) open' (e .stmt) (low32 (valueOf x 1)) (optionalOf x 5) (e .compact) 0 body (e .args))
-      (λ _. made (length s) open' (e .stmt) (low32 (valueOf x 1)) (optionalOf x 5) (e .compact) 0 body (e .args) (h .stmtShort) (low (valueOf x 1)) (h .argsFew))
+      let x = executeIn s (startOf y 2) (lenOf y 2) in
+      both ReadIn (y .good && not (absent y 2)) (openFrom s id rows body x) (Frame.BadPayload (length s) open')
+      (λ _. if-good-read s open' (x .args .good) _ (open-read id rows body x (in-short (startOf y 2) (lenOf y 2)))) (λ _. tt)
 
-  open-of-read : (x y : Slots) → Read (openOf s x y)
-  open-of-read x y =
-      let e : Execute = executeIn s (startOf y 2) (lenOf y 2) in
-      sound-read s (x .good) (sound s (y .good) (sound s (not (absent y 2)) (openFrom s x y e)))
-      (λ _. sound-read s (y .good) (sound s (not (absent y 2)) (openFrom s x y e))
-      (λ _. sound-read s (not (absent y 2)) (openFrom s x y e)
-      (λ _. open-from-read x y e (in-short (startOf y 2) (lenOf y 2)))))
-
-  open-read : Read (openMessage s)
-  unfolding openMessage
-  open-read =
+  open-frame : ReadIn (openFrame s)
+  unfolding openFrame
+  open-frame =
       let x = fieldsAt (rowsOf open') s payload in
-      open-of-read x (embedded (rowsOf openStmt) s (startOf x 4) (lenOf x 4))
+      both ReadIn (x .good) (openInside s (valueOf x 1) (optionalOf x 5) (startOf x 4) (lenOf x 4)) (Frame.BadPayload (length s) open')
+      (λ _. open-chosen (valueOf x 1) (optionalOf x 5) (embedded (rowsOf openStmt) s (startOf x 4) (lenOf x 4))) (λ _. tt)
 
-  body-few : (t at n : ℕ) → Few most (bodyIn s t at n)
+  body-few : (t at n : ℕ) → Few maxNumber (bodyIn s t at n)
   unfolding bodyIn
   body-few t at n =
-      both (Few most) (eqb t 5) _ _
-      (λ _. both (Few most) (embedded (rowsOf stmtExecute) s at n .good) (argumentsWithin s at n) badArguments
-      (λ _. within-few most s at n long) (λ _. bad-few most))
-      (λ _. both (Few most) (embedded [] s at n .good) (noArguments 0 0) badArguments (λ _. none-few most 0 0) (λ _. bad-few most))
+      both (Few maxNumber) (eqb t Operation.stmtExecute) _ _
+      (λ _. both (Few maxNumber) (embedded (rowsOf stmtExecute) s at n .good) (argumentsWithin s at n) badArguments
+      (λ _. within-few maxNumber s at n long) (λ _. bad-few maxNumber))
+      (λ _. both (Few maxNumber) (embedded [] s at n .good) (noArguments 0 0) badArguments (λ _. none-read) (λ _. bad-few maxNumber))
 
-  prepare-from-read : (id t : ℕ) (body : Part) (b : Arguments) → Few most b → Read (prepareFrom s id t body b)
-  prepare-from-read id t body b h =
-      sound-read s (b .good) (message (length s) prepare (low32 id) 0 noOptional noOptional t body b)
-      (λ _. made (length s) prepare (low32 id) 0 noOptional noOptional t body b (low id) (omega arith) h)
-
-  prepare-chosen-read : (id : ℕ) (y : Slots) (t k : ℕ) → Read (prepareChosen s id y t k)
-  prepare-chosen-read id y t k =
+  prepare-chosen : (id : ℕ) (y : Slots) (t k : ℕ) → ReadIn (prepareChosen s id y t k)
+  prepare-chosen id y t k =
       let body : Part = record { start = startOf y k; len = lenOf y k } in
-      let b = bodyIn s t (startOf y k) (lenOf y k) in
-      sound-read s (not (absent y k)) (prepareFrom s id t body b)
-      (λ _. prepare-from-read id t body b (body-few t (startOf y k) (lenOf y k)))
+      let args = bodyIn s t (startOf y k) (lenOf y k) in
+      both ReadIn (y .good && not (absent y k)) (prepareFrom s id t body args) (Frame.BadPayload (length s) prepare)
+      (λ _. if-good-read s prepare (args .good) _ (prepare-read id t body args (body-few t (startOf y k) (lenOf y k)))) (λ _. tt)
 
-  prepare-of-read : (x y : Slots) → Read (prepareOf s x y)
-  prepare-of-read x y =
-      let m = prepareTyped s (valueOf x 1) y (low32 (valueOf y 1)) in
-      sound-read s (x .good) (sound s (y .good) m)
-      (λ _. sound-read s (y .good) m
-      (λ _. prepare-chosen-read (valueOf x 1) y (low32 (valueOf y 1)) (chosen (low32 (valueOf y 1)))))
-
-  prepare-read : Read (prepareMessage s)
-  unfolding prepareMessage
-  prepare-read =
+  prepare-frame : ReadIn (prepareFrame s)
+  unfolding prepareFrame
+  prepare-frame =
       let x = fieldsAt (rowsOf prepare) s payload in
-      prepare-of-read x (embedded (rowsOf prepareStmt) s (startOf x 2) (lenOf x 2))
+      let y = embedded (rowsOf prepareStmt) s (startOf x 2) (lenOf x 2) in
+      both ReadIn (x .good) (prepareInside s (valueOf x 1) (startOf x 2) (lenOf x 2)) (Frame.BadPayload (length s) prepare)
+      (λ _. prepare-chosen (valueOf x 1) y (low32 (valueOf y 1)) (Operation.fieldOf (low32 (valueOf y 1)))) (λ _. tt)
 
-  message-read : (kind : ℕ) → Read (messageIn s kind)
-  unfolding messageIn
-  message-read kind =
-      both Read (eqb kind reset) (plainMessage s reset) _ (λ _. plain-read s reset)
-      (λ _. both Read (eqb kind sessionClose) (plainMessage s sessionClose) _ (λ _. plain-read s sessionClose)
-      (λ _. both Read (eqb kind prepare) (prepareMessage s) _ (λ _. prepare-read)
-      (λ _. both Read (eqb kind execute) (executeMessage s) _ (λ _. execute-read)
-      (λ _. both Read (eqb kind deallocate) (deallocateMessage s) _ (λ _. deallocate-read s)
-      (λ _. both Read (eqb kind open') (openMessage s) _ (λ _. open-read)
-      (λ _. both Read (eqb kind close) (closeMessage s) _ (λ _. close-read s)
-      (λ _. both Read (eqb kind fetch) (fetchMessage s) (refused 5 (length s)) (λ _. fetch-read s) (λ _. unknown (length s)))))))))
+  reset-frame : ReadIn (resetFrame s)
+  unfolding resetFrame
+  reset-frame = if-good-read s reset (fieldsAt [] s payload .good) Request.Reset reset-read
+
+  session-close-frame : ReadIn (sessionCloseFrame s)
+  unfolding sessionCloseFrame
+  session-close-frame = if-good-read s sessionClose (fieldsAt [] s payload .good) Request.SessionClose session-close-read
+
+  deallocate-frame : ReadIn (deallocateFrame s)
+  unfolding deallocateFrame
+  deallocate-frame =
+      let x = fieldsAt (rowsOf deallocate) s payload in
+      if-good-read s deallocate (x .good) (Request.Deallocate (low32 (valueOf x 1))) (deallocate-read (valueOf x 1))
+
+  close-frame : ReadIn (closeFrame s)
+  unfolding closeFrame
+  close-frame =
+      let x = fieldsAt (rowsOf close) s payload in
+      if-good-read s close (x .good) (Request.Close (low32 (valueOf x 1))) (close-read (valueOf x 1))
+
+  fetch-frame : ReadIn (fetchFrame s)
+  unfolding fetchFrame
+  fetch-frame =
+      let x = fieldsAt (rowsOf fetch) s payload in
+      if-good-read s fetch (x .good) (Request.Fetch (record { cursor = low32 (valueOf x 1); rows = optionalOf x 2 }))
+      (fetch-read (valueOf x 1) (optionalOf x 2))
+
+  frame-read : (kind : ℕ) → ReadIn (frameIn s kind)
+  unfolding frameIn
+  frame-read kind =
+      both ReadIn (eqb kind reset) (resetFrame s) _ (λ _. reset-frame)
+      (λ _. both ReadIn (eqb kind sessionClose) (sessionCloseFrame s) _ (λ _. session-close-frame)
+      (λ _. both ReadIn (eqb kind prepare) (prepareFrame s) _ (λ _. prepare-frame)
+      (λ _. both ReadIn (eqb kind execute) (executeFrame s) _ (λ _. execute-frame)
+      (λ _. both ReadIn (eqb kind deallocate) (deallocateFrame s) _ (λ _. deallocate-frame)
+      (λ _. both ReadIn (eqb kind open') (openFrame s) _ (λ _. open-frame)
+      (λ _. both ReadIn (eqb kind close) (closeFrame s) _ (λ _. close-frame)
+      (λ _. both ReadIn (eqb kind fetch) (fetchFrame s) (Frame.UnknownType (length s)) (λ _. fetch-frame) (λ _. tt))))))))
 
 -- ---- a frame
 
--- a frame of at most 65,536 bytes, or the refusals 1 and 2
-abbrev Headed : List ℕ → Head → Type 0
-Headed s (Head.Frame kind end) = end ≤ 65536
-Headed s (Head.Refused n) = Known n 0
+-- a frame has at most 65,536 bytes
+abbrev Headed : Head → Type 0
+Headed (Head.Frame kind end) = end ≤ lengthBytes + maxLength
+Headed (Head.Refused n) = Unit {0}
 
-headed : (s : List ℕ) → Headed s (headOf s)
+headed : (s : List ℕ) → Headed (headOf s)
 headed s =
-    both (Headed s) (leb 4 (length s)) _ (Head.Refused 1)
-    (λ _. both (Headed s) (eqb (lengthOf s) 0) (Head.Refused 2) _ (λ _. refl)
-    (λ _. both (Headed s) (ltb maxLength (lengthOf s)) (Head.Refused 2) _ (λ _. refl)
-    (λ e. both (Headed s) (ltb (length s) (4 + lengthOf s)) (Head.Refused 1) (Head.Frame (getD s 4 0) (4 + lengthOf s)) (λ _. refl)
+    both Headed (leb lengthBytes (length s)) _ (Head.Refused Reason.notAllThere)
+    (λ _. both Headed (eqb (lengthOf s) 0) (Head.Refused Reason.badLength) _ (λ _. tt)
+    (λ _. both Headed (ltb maxLength (lengthOf s)) (Head.Refused Reason.badLength) _ (λ _. tt)
+    (λ e. both Headed (ltb (length s) (lengthBytes + lengthOf s)) (Head.Refused Reason.notAllThere)
+    (Head.Frame (getD s lengthBytes 0) (lengthBytes + lengthOf s)) (λ _. tt)
     (λ _. omega (arith, ltb-false maxLength (lengthOf s) e)))))
-    (λ _. refl)
+    (λ _. tt)
 
-of-head-read : (s : List ℕ) (h : Head) → Headed s h → Read (ofHead s h)
-of-head-read s (Head.Frame kind end) h = message-read (take end s) (omega (arith, length-take end s)) kind
-of-head-read s (Head.Refused n) h = spoiled n 0 h (λ _. refl)
+of-head-read : (s : List ℕ) (h : Head) → Headed h → ReadIn (ofHead s h)
+of-head-read s (Head.Frame kind end) h = frame-read (take end s) (omega (arith, length-take end s)) kind
+of-head-read s (Head.Refused n) h = both ReadIn (eqb n Reason.badLength) Frame.BadLength Frame.NotAllThere (λ _. tt) (λ _. tt)
 
 pub frames-are-read : FramesAreRead
-unfolding messageOf
+unfolding frameOf
 frames-are-read s = of-head-read s (headOf s) (headed s)

@@ -1,107 +1,56 @@
 -- What the tests of a step come to: which reasons it gives, and what holds where it gives none. Assumes nothing.
-use Prim.Native.Nat.{ℕ, _^_, _≤_, _<_}
+use Prim.Native.Nat.{ℕ, _≤_, _<_}
 use native.Mathlib.Omega.{arith}
 use mathlib.Core.Bool.{Bool, true, false, not, cond, _&&_, _||_, true≢false, false≢true}
-use mathlib.Core.Path.{_≡_, refl, sym, ap, subst, _∙_}
+use mathlib.Core.Path.{_≡_, refl, sym, ap, _∙_}
 use mathlib.Core.List.{List, [], _∷_}
 use lib.Dec.{eqb, leb}
-use borrow.Author.Tests.{eqb-true, eqb-false, ne-eqb, leb-true, not-true, not-false}
+use borrow.Author.Tests.{eqb-true, eqb-false, leb-true}
 use Rattle.varint.proofs.PastLaws.{both}
-use Rattle.message.specs.declared.message.Message.{Message}
-use Rattle.session.specs.declared.Session.{Session}
+use Rattle.protocol.specs.Reason as Reason
+use Rattle.message.specs.Frame.{usedOf}
+use Rattle.message.specs.declared.request.Request.{Request}
+use Rattle.message.specs.declared.request.Request.the-variants.{Reset, SessionClose, Prepare, Execute, Deallocate, Open, Close, Fetch}
+use Rattle.message.specs.declared.request.Frame.{Frame}
+use Rattle.message.specs.declared.request.Frame.the-variants.{NotAllThere, BadLength, UnknownType, BadPayload, Good}
+use Rattle.session.specs.Session.{Session, isClosed}
+use Rattle.session.specs.Sound.{maxNumber}
 use Rattle.session.proofs.SumLaws.{and-true}
 use Rattle.reply.specs.Frames.{among}
 use Rattle.rules.specs.declared.Report.{Report}
-use Rattle.rules.specs.Kind.{failed, works, suits, fails}
-use Rattle.rules.specs.Refusal.{Test, firstOf, unread, unsound, stmtNotLive, unsupported, fewArguments, cursorNotLive, allSent, otherCursor, stmtsFull, cursorsFull, lookTests, lookReason, reportTests, reportReason, stepReason}
-use Rattle.rules.specs.Read.{Read}
-
--- ---- lists of tests
-
--- what holds of 0 and of the reason of each test that holds, holds of the first one's
-abbrev Each : (ℕ → Type 0) → List Test → Type 0
-Each P [] = P 0
-Each P (t ∷ ts) = (t .holds ≡ true → P (t .reason)) × Each P ts
-
-first-has : (P : ℕ → Type 0) (ts : List Test) → Each P ts → P (firstOf ts)
-first-has P [] h = h
-first-has P (t ∷ ts) h = both P (t .holds) (t .reason) (firstOf ts) (h .0) (λ _. first-has P ts (h .1))
-
--- no test holds
-abbrev Off : List Test → Type 0
-Off [] = Unit {0}
-Off (t ∷ ts) = (t .holds ≡ false) × Off ts
-
-abbrev NotZero : List Test → Type 0
-NotZero [] = Unit {0}
-NotZero (t ∷ ts) = (t .holds ≡ true → t .reason ≡ 0 → ⊥) × NotZero ts
-
-none-holds : (ts : List Test) → NotZero ts → firstOf ts ≡ 0 → Off ts
-none-holds [] h e = tt
-none-holds (t ∷ ts) h e = go (t .holds) refl (λ g. none-holds ts (h .1) g) e
-  where
-    go : (b : Bool) → t .holds ≡ b → (firstOf ts ≡ 0 → Off ts) → cond b (t .reason) (firstOf ts) ≡ 0 →
-        (t .holds ≡ false) × Off ts
-    go true g more f = absurd (h .0 g f)
-    go false g more f = (g, more f)
+use Rattle.rules.specs.Kind.{onGood}
+use Rattle.rules.specs.Report.{noWork, workOf, failed, works, suits, fails}
+use Rattle.rules.specs.Refusal.{Test, refusal, firstOf, isRefused, stmtNotLive, unsupported, fewArguments, cursorNotLive, allSent, otherCursor, stmtsFull, cursorsFull, requestTests, lookTests, lookReason, reportTests, reportReason, stepReason}
+use Rattle.rules.proofs.TestLaws.{allOf, first-passes, accepted-none}
 
 -- ---- the look
 
--- what a look that does not refuse found
-pub record Looked (s : Session) (m : Message) : Type 0 where
-  pub good : m .reason ≡ 0
-  pub unclosed : s .closed ≡ false
-  pub stmtLive : stmtNotLive s m ≡ false
-  pub supported : unsupported m ≡ false
-  pub enough : fewArguments s m ≡ false
-  pub cursorLive : cursorNotLive s m ≡ false
-  pub unsent : allSent s m ≡ false
-  pub sole : otherCursor s m ≡ false
-  pub stmtPlaced : stmtsFull s m ≡ false
-  pub cursorPlaced : cursorsFull s m ≡ false
+-- of a frame that holds a request: closed, then the tests on the request
+abbrev pub goodTests : Session → Request → List Test
+goodTests s q = refusal Reason.closed (isClosed s) ∷ requestTests s q
 
-or-false : (a b : Bool) → (a || b) ≡ true → a ≡ false → b ≡ true
-or-false true b e h = absurd (true≢false h)
-or-false false b e h = e
-
-unread-not : (m : Message) → unread m ≡ true → m .reason ≡ 0 → ⊥
-unread-not m e h =
-    let a : eqb (m .reason) 1 ≡ false = ap (λ (n : ℕ). eqb n 1) h in
-    let b : eqb (m .reason) 2 ≡ false = ap (λ (n : ℕ). eqb n 2) h in
-    false≢true (sym b ∙ or-false (eqb (m .reason) 1) (eqb (m .reason) 2) e a)
-
-unsound-not : (m : Message) → unsound m ≡ true → m .reason ≡ 0 → ⊥
-unsound-not m e h = eqb-false (m .reason) 0 (not-true (eqb (m .reason) 0) e) h
-
-look-not-zero : (s : Session) (m : Message) → NotZero (lookTests s m)
-look-not-zero s m = (
-  unread-not m,
-  (
-    λ _ e. omega arith,
-    (
-      unsound-not m,
-      (
-        λ _ e. omega arith,
-        (
-          λ _ e. omega arith,
-          (
-            λ _ e. omega arith,
-            (λ _ e. omega arith, (λ _ e. omega arith, (λ _ e. omega arith, (λ _ e. omega arith, (λ _ e. omega arith, tt))))),
-          ),
-        ),
-      ),
-    ),
-  ),
-)
-
-pub looked : (s : Session) (m : Message) → lookReason s m ≡ 0 → Looked s m
+pub look-good : (s : Session) (used : ℕ) (q : Request) → lookReason s (Good used q) ≡ firstOf (goodTests s q)
 unfolding lookReason
-looked s m e =
-    let h = none-holds (lookTests s m) (look-not-zero s m) e in
-    let t = h .1 .1 .1 in
+look-good s used q = refl
+
+-- what a look that does not refuse found
+pub record Looked (s : Session) (q : Request) : Type 0 where
+  pub unclosed : isClosed s ≡ false
+  pub stmtLive : stmtNotLive s q ≡ false
+  pub supported : unsupported q ≡ false
+  pub enough : fewArguments s q ≡ false
+  pub cursorLive : cursorNotLive s q ≡ false
+  pub unsent : allSent s q ≡ false
+  pub sole : otherCursor s q ≡ false
+  pub stmtPlaced : stmtsFull s q ≡ false
+  pub cursorPlaced : cursorsFull s q ≡ false
+
+pub looked-at : (s : Session) (used : ℕ) (q : Request) → lookReason s (Good used q) ≡ 0 → Looked s q
+looked-at s used q e =
+    let h = accepted-none 0 (goodTests s q) refl (sym (look-good s used q) ∙ e) in
+    let t = h .1 in
     record {
-      good = eqb-true (m .reason) 0 (not-false (eqb (m .reason) 0) (h .1 .1 .0));
-      unclosed = h .1 .0;
+      unclosed = h .0;
       stmtLive = t .0;
       supported = t .1 .0;
       enough = t .1 .1 .0;
@@ -114,177 +63,201 @@ looked s m e =
 
 -- ---- the report
 
-report-tests : (m : Message) (r : Report) → reportReason m r ≡ 0 → Off (reportTests m r)
+report-same : (used : ℕ) (q : Request) (r : Report) → reportReason (Good used q) r ≡ firstOf (reportTests q r)
 unfolding reportReason
-report-tests m r e = none-holds (reportTests m r) (λ _ e. omega arith, (λ _ e. omega arith, tt)) e
+report-same used q r = refl
 
-pub suited : (m : Message) (r : Report) → works m ≡ true → reportReason m r ≡ 0 → suits m r ≡ true
-suited m r w e = go (works m) (suits m r) (fails r) w (h .0) (h .1 .0)
-  where
-    h : Off (reportTests m r)
-    h = report-tests m r e
+works-suits : (w a b : Bool) → (w && not (a || b)) ≡ false → (w && b) ≡ false → w ≡ true → a ≡ true
+works-suits false a b x y g = absurd (false≢true g)
+works-suits true true b x y g = refl
+works-suits true false true x y g = absurd (true≢false y)
+works-suits true false false x y g = absurd (true≢false x)
 
-    go : (w a b : Bool) → w ≡ true → (w && not (a || b)) ≡ false → (w && b) ≡ false → a ≡ true
-    go false a b g x y = absurd (false≢true g)
-    go true true b g x y = refl
-    go true false true g x y = absurd (true≢false y)
-    go true false false g x y = absurd (true≢false x)
+-- a request that wants no work takes any report
+by-work : (q : Request) (r : Report) → (works q ≡ true → suits q r ≡ true) → suits q r ≡ true
+by-work Reset r h = refl
+by-work SessionClose r h = refl
+by-work (Prepare p) r h = h refl
+by-work (Execute x) r h = h refl
+by-work (Deallocate stmt) r h = refl
+by-work (Open o) r h = h refl
+by-work (Close cursor) r h = refl
+by-work (Fetch f) r h = h refl
+
+pub suited : (used : ℕ) (q : Request) (r : Report) → reportReason (Good used q) r ≡ 0 → suits q r ≡ true
+suited used q r e =
+    let h = accepted-none 0 (reportTests q r) refl (sym (report-same used q r) ∙ e) in
+    by-work q r (works-suits (works q) (suits q r) (fails r) (h .0) (h .1 .0))
 
 -- a report that is not consulted refuses nothing
-pub idle : (m : Message) (r : Report) → works m ≡ false → reportReason m r ≡ 0
+pub idle : (used : ℕ) (q : Request) (r : Report) → workOf q ≡ noWork → reportReason (Good used q) r ≡ 0
 unfolding reportReason
-idle m r e = rw e
-
-pub report-few : (m : Message) (r : Report) → among (reportReason m r) (0 ∷ 3 ∷ 15 ∷ 16 ∷ []) ≡ true
-unfolding reportReason among
-report-few m r =
-    first-has (λ (n : ℕ). among n (0 ∷ 3 ∷ 15 ∷ 16 ∷ []) ≡ true) (reportTests m r) (λ _. refl, (λ _. refl, refl))
+idle used Reset r e = refl
+idle used SessionClose r e = refl
+idle used (Prepare p) r e = absurd (omega arith)
+idle used (Execute x) r e = absurd (omega arith)
+idle used (Deallocate stmt) r e = refl
+idle used (Open o) r e = absurd (omega arith)
+idle used (Close cursor) r e = refl
+idle used (Fetch f) r e = absurd (omega arith)
 
 -- ---- the step
 
-pub record Passed (s : Session) (m : Message) (r : Report) : Type 0 where
-  pub look : lookReason s m ≡ 0
-  pub report : reportReason m r ≡ 0
+-- the request that is accepted, and what was found of it
+pub record Took (s : Session) (x : Frame) (r : Report) (used : ℕ) (q : Request) : Type 0 where
+  pub good : x ≡ Good used q
+  pub passes : lookReason s x ≡ 0
+  pub look : Looked s q
+  pub report : suits q r ≡ true
 
-pub passed : (s : Session) (m : Message) (r : Report) → stepReason s m r ≡ 0 → Passed s m r
-passed s m r e = go (eqb (lookReason s m) 0) refl e
+abbrev pub Taken : Session → Frame → Report → Type 0
+Taken s x r = (used : ℕ) × (q : Request) × Took s x r used q
+
+-- a step that gives no reason gives none for the look and none for the report
+split : (look report : ℕ) → cond (eqb look 0) report look ≡ 0 → (look ≡ 0) × (report ≡ 0)
+split look report e = go (eqb look 0) refl e
   where
-    go : (b : Bool) → eqb (lookReason s m) 0 ≡ b → cond b (reportReason m r) (lookReason s m) ≡ 0 → Passed s m r
-    go true h g = record { look = eqb-true (lookReason s m) 0 h; report = g }
-    go false h g = absurd (eqb-false (lookReason s m) 0 h g)
+    go : (b : Bool) → eqb look 0 ≡ b → cond b report look ≡ 0 → (look ≡ 0) × (report ≡ 0)
+    go true h g = (eqb-true look 0 h, g)
+    go false h g = absurd (eqb-false look 0 h g)
 
-step-has : (P : ℕ → Type 0) (s : Session) (m : Message) (r : Report) → P (lookReason s m) → P (reportReason m r) → P (stepReason s m r)
-step-has P s m r h g = both P (eqb (lookReason s m) 0) (reportReason m r) (lookReason s m) (λ _. g) (λ _. h)
+closed-or : (b : Bool) (n : ℕ) → (n ≡ 0 → ⊥) → _≡_ {A = ℕ} (cond b Reason.closed n) 0 → ⊥
+closed-or true n h e = omega arith
+closed-or false n h e = h e
 
--- the reason of a message that a frame gives is one of these
-abbrev Own : ℕ → Type 0
-Own n = (eqb n 1 || eqb n 2 || eqb n 0 || eqb n 5 || eqb n 6) ≡ true
+-- only a frame that holds a request is not refused
+pub took-look : (s : Session) (x : Frame) → lookReason s x ≡ 0 → (used : ℕ) × (q : Request) × (x ≡ Good used q)
+unfolding lookReason
+took-look s NotAllThere e = absurd (omega arith)
+took-look s BadLength e = absurd (omega arith)
+took-look s (UnknownType used) e = absurd (closed-or (isClosed s) Reason.unknownType (λ z. omega arith) e)
+took-look s (BadPayload used kind) e = absurd (closed-or (isClosed s) Reason.badPayload (λ z. omega arith) e)
+took-look s (Good used q) e = (used, q, refl)
 
-own-small : (n : ℕ) → Own n → n ≤ 6
-own-small n e = go (eqb n 1) refl (eqb n 2) refl (eqb n 0) refl (eqb n 5) refl (eqb n 6) refl e
+pub took : (s : Session) (x : Frame) (r : Report) → stepReason s x r ≡ 0 → Taken s x r
+took s x r e =
+    let h = split (lookReason s x) (reportReason x r) e in
+    let g = took-look s x (h .0) in (
+      g .0,
+      g .1,
+      record {
+        good = g .2;
+        passes = h .0;
+        look = looked-at s (g .0) (g .1) (sym (ap (lookReason s) (g .2)) ∙ h .0);
+        report = suited (g .0) (g .1) r (sym (ap (λ y. reportReason y r) (g .2)) ∙ h .1);
+      },
+    )
+
+pub step-passes : (p : ℕ → Bool) (s : Session) (x : Frame) (r : Report) → p (lookReason s x) ≡ true → p (reportReason x r) ≡ true → p (stepReason s x r) ≡ true
+step-passes p s x r h g = both (λ (n : ℕ). p n ≡ true) (eqb (lookReason s x) 0) (reportReason x r) (lookReason s x) (λ _. g) (λ _. h)
+
+-- ---- which reasons are given
+
+-- of a report
+pub report-passes : (p : ℕ → Bool) → p 0 ≡ true → p Reason.badReport ≡ true → p Reason.engineFailed ≡ true → (x : Frame) (r : Report) → p (reportReason x r) ≡ true
+unfolding reportReason
+report-passes p z a b NotAllThere r = z
+report-passes p z a b BadLength r = z
+report-passes p z a b (UnknownType used) r = z
+report-passes p z a b (BadPayload used kind) r = z
+report-passes p z a b (Good used q) r =
+    first-passes p z (reportTests q r) (rw (a, b))
+
+-- of a look: by itself, closed, or of the request
+pub look-passes : (p : ℕ → Bool) → p Reason.notAllThere ≡ true → p Reason.badLength ≡ true → p Reason.unknownType ≡ true → p Reason.badPayload ≡ true →
+    p 0 ≡ true → ((s : Session) (q : Request) → allOf p (goodTests s q) ≡ true) → (s : Session) (x : Frame) → p (lookReason s x) ≡ true
+unfolding lookReason
+look-passes p a b c d z h s NotAllThere = a
+look-passes p a b c d z h s BadLength = b
+look-passes p a b c d z h s (UnknownType used) = both (λ (n : ℕ). p n ≡ true) (isClosed s) Reason.closed Reason.unknownType (λ _. closed s) (λ _. c)
   where
-    go : (a : Bool) → eqb n 1 ≡ a → (b : Bool) → eqb n 2 ≡ b → (c : Bool) → eqb n 0 ≡ c → (d : Bool) → eqb n 5 ≡ d →
-        (f : Bool) → eqb n 6 ≡ f → (a || b || c || d || f) ≡ true → n ≤ 6
-    go true h b _ c _ d _ f _ g = omega (arith, eqb-true n 1 h)
-    go false _ true h c _ d _ f _ g = omega (arith, eqb-true n 2 h)
-    go false _ false _ true h d _ f _ g = omega (arith, eqb-true n 0 h)
-    go false _ false _ false _ true h f _ g = omega (arith, eqb-true n 5 h)
-    go false _ false _ false _ false _ true h g = omega (arith, eqb-true n 6 h)
-    go false _ false _ false _ false _ false _ g = absurd (false≢true g)
+    closed : (s : Session) → p Reason.closed ≡ true
+    closed s = and-true (p Reason.closed) (allOf p (requestTests s Reset)) (h s Reset) .0
+look-passes p a b c d z h s (BadPayload used kind) = both (λ (n : ℕ). p n ≡ true) (isClosed s) Reason.closed Reason.badPayload (λ _. closed s) (λ _. d)
+  where
+    closed : (s : Session) → p Reason.closed ≡ true
+    closed s = and-true (p Reason.closed) (allOf p (requestTests s Reset)) (h s Reset) .0
+look-passes p a b c d z h s (Good used q) = first-passes p z (goodTests s q) (h s q)
 
-or-off : (a b : Bool) → (a || b) ≡ true → b ≡ false → a ≡ true
-or-off true b e h = refl
-or-off false b e h = absurd (true≢false (sym e ∙ h))
+-- a look gives none of the report's reasons
+pub look-small : (s : Session) (x : Frame) → lookReason s x ≤ Reason.cursorsFull
+look-small s x =
+    leb-true (lookReason s x) Reason.cursorsFull
+    (look-passes (λ n. leb n Reason.cursorsFull) refl refl refl refl refl (λ s q. refl) s x)
 
-own-low : (n : ℕ) → Own n → n < 4 → (n ≡ 0 → ⊥) → (eqb n 1 || eqb n 2) ≡ true
-own-low n e l z =
-    let low = eqb n 1 || eqb n 2 in
-    let six = or-off (low || eqb n 0 || eqb n 5) (eqb n 6) e (ne-eqb n 6 (λ f. omega arith)) in
-    let five = or-off (low || eqb n 0) (eqb n 5) six (ne-eqb n 5 (λ f. omega arith)) in
-    or-off low (eqb n 0) five (ne-eqb n 0 z)
+pub not-three : (s : Session) (x : Frame) (r : Report) → stepReason s x r ≡ Reason.noRoom → ⊥
+not-three s x r e =
+    let p : ℕ → Bool = λ n. not (eqb n Reason.noRoom) in
+    let h = step-passes p s x r (look-passes p refl refl refl refl refl (λ s q. refl) s x) (report-passes p refl refl refl x r) in
+    false≢true (sym (ap p e) ∙ h)
 
-module _ (s : Session) (m : Message) (r : Report) (read : Read m) where
-  -- 16 is given for a failure code of 32 bits alone
-  abbrev CodeSmall : ℕ → Type 0
-  CodeSmall n = n ≡ 16 → r .a < 2 ^ 32
+abbrev pub few : ℕ → Bool
+few n = among n (Reason.accepted ∷ Reason.noRoom ∷ Reason.badReport ∷ Reason.engineFailed ∷ [])
 
-  fails-small : (w : Bool) → (w && fails r) ≡ true → r .a < 2 ^ 32
-  fails-small w e =
-      let h = and-true w (fails r) e .1 in
-      omega (arith, leb-true (r .a) 4294967295 (and-true (eqb (r .kind) failed && not (eqb (r .a) 0)) (leb (r .a) 4294967295) h .1))
+pub report-few : (x : Frame) (r : Report) → few (reportReason x r) ≡ true
+unfolding among
+report-few x r = report-passes few refl refl refl x r
 
-  pub look-small : lookReason s m ≤ 14
-  unfolding lookReason
-  look-small =
-      first-has (λ (n : ℕ). n ≤ 14) (lookTests s m) (
-        λ _. omega (arith, own-small (m .reason) (read .known)),
-        (
-          λ _. omega arith,
-          (
-            λ _. omega (arith, own-small (m .reason) (read .known)),
-            (
-              λ _. omega arith,
-              (
-                λ _. omega arith,
-                (
-                  λ _. omega arith,
-                  (λ _. omega arith, (λ _. omega arith, (λ _. omega arith, (λ _. omega arith, (λ _. omega arith, omega arith))))),
-                ),
-              ),
-            ),
-          ),
-        ),
-      )
+-- 16 is given for a failure code of 32 bits alone
+fails-small : (w : Bool) (r : Report) → (w && fails r) ≡ true → r .code ≤ maxNumber
+fails-small w r e =
+    let h = and-true w (fails r) e .1 in
+    leb-true (r .code) maxNumber (and-true (eqb (r .kind) failed && not (eqb (r .code) 0)) (leb (r .code) maxNumber) h .1)
 
-  pub code-small : CodeSmall (stepReason s m r)
-  unfolding reportReason
-  code-small =
-      step-has CodeSmall s m r (λ e. absurd (omega (arith, look-small)))
-      (first-has CodeSmall (reportTests m r) (λ _ e. absurd (omega arith), (λ h _. fails-small (works m) h, λ e. absurd (omega arith))))
+abbrev CodeSmall : Report → ℕ → Type 0
+CodeSmall r n = n ≡ Reason.engineFailed → r .code ≤ maxNumber
 
-  -- below 4 stand 1 and 2, of a frame that was not read
-  abbrev Low : ℕ → Type 0
-  Low n = n < 4 → (n ≡ 0 → ⊥) → unread m ≡ true
+report-code : (x : Frame) (r : Report) → CodeSmall r (reportReason x r)
+unfolding reportReason
+report-code NotAllThere r = λ e. absurd (omega arith)
+report-code BadLength r = λ e. absurd (omega arith)
+report-code (UnknownType used) r = λ e. absurd (omega arith)
+report-code (BadPayload used kind) r = λ e. absurd (omega arith)
+report-code (Good used q) r =
+    both (CodeSmall r) (works q && not (suits q r || fails r)) Reason.badReport _ (λ _ e. absurd (omega arith))
+    (λ _. both (CodeSmall r) (works q && fails r) Reason.engineFailed Reason.accepted (λ h _. fails-small (works q) r h) (λ _ e. absurd (omega arith)))
 
-  pub low-unread : Low (stepReason s m r)
-  unfolding lookReason reportReason
-  low-unread =
-      step-has Low s m r
-      (first-has Low (lookTests s m) (
-        λ h _ _. h,
-        (
-          λ _ l _. absurd (omega arith),
-          (
-            λ _ l z. own-low (m .reason) (read .known) l z,
-            (
-              λ _ l _. absurd (omega arith),
-              (
-                λ _ l _. absurd (omega arith),
-                (
-                  λ _ l _. absurd (omega arith),
-                  (
-                    λ _ l _. absurd (omega arith),
-                    (
-                      λ _ l _. absurd (omega arith),
-                      (λ _ l _. absurd (omega arith), (λ _ l _. absurd (omega arith), (λ _ l _. absurd (omega arith), λ _ z. absurd (z refl)))),
-                    ),
-                  ),
-                ),
-              ),
-            ),
-          ),
-        ),
-      ))
-      (first-has Low (reportTests m r) (λ _ l _. absurd (omega arith), (λ _ l _. absurd (omega arith), λ _ z. absurd (z refl))))
+pub code-small : (s : Session) (x : Frame) (r : Report) → CodeSmall r (stepReason s x r)
+code-small s x r =
+    both (CodeSmall r) (eqb (lookReason s x) 0) (reportReason x r) (lookReason s x) (λ _. report-code x r)
+    (λ _ e. absurd (omega (arith, look-small s x)))
 
-  -- 3 is no refusal of a message or a report
-  abbrev NotThree : ℕ → Type 0
-  NotThree n = n ≡ 3 → ⊥
+-- ---- reasons 1 to 3
 
-  own-not-three : NotThree (m .reason)
-  own-not-three e = false≢true (subst Own e (read .known))
+late : (n : ℕ) → (eqb n 0 || leb Reason.closed n) ≡ true → n ≤ Reason.noRoom → n ≡ 0
+late n e h = go (eqb n 0) refl e
+  where
+    go : (b : Bool) → eqb n 0 ≡ b → (b || leb Reason.closed n) ≡ true → n ≡ 0
+    go true f g = eqb-true n 0 f
+    go false f g = absurd (omega (arith, leb-true Reason.closed n g))
 
-  pub not-three : NotThree (stepReason s m r)
-  unfolding lookReason reportReason
-  not-three =
-      step-has NotThree s m r
-      (first-has NotThree (lookTests s m) (
-        λ _. own-not-three,
-        (
-          λ _ e. omega arith,
-          (
-            λ _. own-not-three,
-            (
-              λ _ e. omega arith,
-              (
-                λ _ e. omega arith,
-                (
-                  λ _ e. omega arith,
-                  (λ _ e. omega arith, (λ _ e. omega arith, (λ _ e. omega arith, (λ _ e. omega arith, (λ _ e. omega arith, λ e. omega arith))))),
-                ),
-              ),
-            ),
-          ),
-        ),
-      ))
-      (first-has NotThree (reportTests m r) (λ _ e. omega arith, (λ _ e. omega arith, λ e. omega arith)))
+-- of a frame that is all there and of a good length only reasons from 4 on are given
+pub late-read : (s : Session) (x : Frame) (r : Report) → (isRefused Reason.notAllThere x || isRefused Reason.badLength x) ≡ false →
+    stepReason s x r ≤ Reason.noRoom → stepReason s x r ≡ 0
+unfolding lookReason reportReason
+late-read s NotAllThere r e h = absurd (true≢false e)
+late-read s BadLength r e h = absurd (true≢false e)
+late-read s (UnknownType used) r e h = absurd (no (isClosed s) h)
+  where
+    no : (b : Bool) → cond (eqb (cond b Reason.closed Reason.unknownType) 0) 0 (cond b Reason.closed Reason.unknownType) ≤ Reason.noRoom → ⊥
+    no true e = omega arith
+    no false e = omega arith
+late-read s (BadPayload used kind) r e h = absurd (no (isClosed s) h)
+  where
+    no : (b : Bool) → cond (eqb (cond b Reason.closed Reason.badPayload) 0) 0 (cond b Reason.closed Reason.badPayload) ≤ Reason.noRoom → ⊥
+    no true e = omega arith
+    no false e = omega arith
+late-read s (Good used q) r e h =
+    late (stepReason s (Good used q) r)
+    (step-passes p s (Good used q) r (first-passes p refl (goodTests s q) refl) (report-passes p refl refl refl (Good used q) r)) h
+  where
+    p : ℕ → Bool
+    p n = eqb n 0 || leb Reason.closed n
+
+-- below 4 stand 1 and 2, of a frame that uses no byte
+pub low-used : (s : Session) (x : Frame) (r : Report) → stepReason s x r ≤ Reason.noRoom → (stepReason s x r ≡ 0 → ⊥) → usedOf x ≡ 0
+low-used s NotAllThere r h z = refl
+low-used s BadLength r h z = refl
+low-used s (UnknownType used) r h z = absurd (z (late-read s (UnknownType used) r refl h))
+low-used s (BadPayload used kind) r h z = absurd (z (late-read s (BadPayload used kind) r refl h))
+low-used s (Good used q) r h z = absurd (z (late-read s (Good used q) r refl h))

@@ -1,53 +1,74 @@
 -- Every step keeps a session sound. Assumes nothing.
-use Prim.Native.Nat.{ℕ}
+use Prim.Native.Nat.{ℕ, _≤_, min}
 use native.Mathlib.Omega.{arith}
-use mathlib.Core.Bool.{Bool, true, false, not, _&&_, true≢false}
-use mathlib.Core.Path.{_≡_, refl, sym}
-use lib.Dec.{eqb}
-use borrow.Author.Tests.{eqb-true, not-false}
-use Rattle.message.specs.declared.message.Message.{Message}
-use Rattle.message.specs.Frame.{messageOf}
-use Rattle.session.specs.declared.Session.{Session}
+use mathlib.Core.Bool.{Bool, true, false, not, _&&_, _||_, true≢false}
+use mathlib.Core.Path.{_≡_, refl, sym, subst}
+use lib.Dec.{eqb, leb}
+use borrow.Author.Tests.{eqb-true, not-false, leb-true}
+use Rattle.message.specs.Frame.{frameOf}
+use Rattle.message.specs.declared.request.Request.{Request}
+use Rattle.message.specs.declared.request.Request.the-variants.{Reset, SessionClose, Prepare, Execute, Deallocate, Open, Close, Fetch}
+use Rattle.session.specs.Session.{Session}
+use Rattle.session.specs.Entry.{isLiveStmt, isLiveCursor}
 use Rattle.session.specs.Tables.{liveStmt, carried}
-use Rattle.session.specs.Sound.{Sound, Openable}
+use Rattle.session.specs.Sound.{maxNumber, maxPlaceholders, Sound, Openable}
+use Rattle.session.proofs.SumLaws.{and-true}
 use Rattle.session.proofs.TableLaws.{prepared-sound, endedOn-sound, freed-sound, opened-sound, fetched-sound, ended-sound, reset-sound, closedNow-sound}
 use Rattle.rules.specs.declared.Report.{Report}
+use Rattle.rules.specs.Report.{prepared, result, maxColumns, isPrepared, isResult, suits}
 use Rattle.rules.specs.Rows.{openCount, rowCount}
 use Rattle.rules.specs.Decision.{sessionAfter}
-use Rattle.rules.specs.Step.{stepOf}
+use Rattle.rules.specs.Read.{Read, ReadIn}
 use Rattle.rules.specs.StepRules.{KeepsSound}
-use Rattle.rules.proofs.KindLaws.{by-kind}
-use Rattle.rules.proofs.RefusalLaws.{Looked, looked, passed}
+use Rattle.rules.proofs.ReadLaws.{frames-are-read}
+use Rattle.rules.proofs.RefusalLaws.{Looked, Took}
 use Rattle.rules.proofs.StepLaws.{step-has}
 
+-- ---- the numbers of a report that suits
+
+pub placeholders-fit : (r : Report) → isPrepared r ≡ true → r .placeholders ≤ maxPlaceholders
+placeholders-fit r e =
+    leb-true (r .placeholders) maxPlaceholders (and-true (eqb (r .kind) prepared) (leb (r .placeholders) maxPlaceholders) e .1)
+
+pub rows-fit : (r : Report) → isResult r ≡ true → r .rows ≤ maxNumber
+rows-fit r e =
+    let some = not (eqb (r .columns) 0) || eqb (r .rows) 0 in
+    let kind = eqb (r .kind) result && leb (r .columns) maxColumns in
+    leb-true (r .rows) maxNumber (and-true kind (leb (r .rows) maxNumber) (and-true (kind && leb (r .rows) maxNumber) some e .0) .1)
+
+-- ---- the session after an accepted request
+
 -- a cursor of this id may be opened, where the statement is live and carries no other
-openable : (s : Session) (id stmt : ℕ) → not (liveStmt s stmt .live) ≡ false →
-    (carried s stmt .live && not (eqb (carried s stmt .id) id)) ≡ false → Openable s id stmt
+openable : (s : Session) (id stmt : ℕ) → not (isLiveStmt (liveStmt s stmt)) ≡ false →
+    (isLiveCursor (carried s stmt) && not (eqb (carried s stmt .id) id)) ≡ false → Openable s id stmt
 openable s id stmt h g =
-    record { live = not-false (liveStmt s stmt .live) h; sole = λ e. own (carried s stmt .live) (eqb (carried s stmt .id) id) refl e g }
+    record {
+      live = not-false (isLiveStmt (liveStmt s stmt)) h;
+      sole = λ e. own (isLiveCursor (carried s stmt)) (eqb (carried s stmt .id) id) refl e g;
+    }
   where
     own : (a b : Bool) → eqb (carried s stmt .id) id ≡ b → a ≡ true → (a && not b) ≡ false → carried s stmt .id ≡ id
     own a true f e z = eqb-true (carried s stmt .id) id f
     own true false f e z = absurd (true≢false z)
     own false false f e z = absurd (true≢false (sym e))
 
-pub after-sound : (s : Session) (m : Message) (r : Report) → Sound s → Looked s m → Sound (sessionAfter s m r)
+pub after-sound : (s : Session) (q : Request) (r : Report) → Sound s → Read q → Looked s q → suits q r ≡ true → Sound (sessionAfter s q r)
 unfolding sessionAfter rowCount
-after-sound s m r sound =
-    by-kind (λ m. Looked s m → Sound (sessionAfter s m r)) m
-    (λ l. prepared-sound sound (m .stmt) (r .a) (l .unclosed))
-    (λ l. endedOn-sound sound (m .stmt))
-    (λ l. freed-sound sound (m .stmt))
-    (λ l. opened-sound sound (m .cursor) (m .stmt) (r .b) (openCount m r) (openable s (m .cursor) (m .stmt) (l .stmtLive) (l .sole)) (omega arith))
-    (λ l. fetched-sound sound (m .cursor) _)
-    (λ l. ended-sound sound (m .cursor))
-    (λ l. reset-sound sound)
-    (λ l. closedNow-sound sound)
-    (λ o l. simp (o .noPrepare, o .noExecute, o .noDeallocate, o .noOpen, o .noFetch, o .noClose, o .noReset, o .noSessionClose) sound)
+after-sound s Reset r sound read l e = reset-sound sound
+after-sound s SessionClose r sound read l e = closedNow-sound sound
+after-sound s (Prepare p) r sound read l e =
+    prepared-sound sound (p .stmt) (r .placeholders) (l .unclosed) (placeholders-fit r e) (read .stmtSmall)
+after-sound s (Execute x) r sound read l e = endedOn-sound sound (x .stmt)
+after-sound s (Deallocate stmt) r sound read l e = freed-sound sound stmt
+after-sound s (Open o) r sound read l e =
+    opened-sound sound (o .cursor) (o .execute .stmt) (r .rows) (openCount (o .rows) (r .rows))
+    (openable s (o .cursor) (o .execute .stmt) (l .stmtLive) (l .sole)) (omega arith)
+    (record { idSmall = read .cursorSmall; stmtSmall = read .stmtSmall; rowsSmall = rows-fit r e })
+after-sound s (Close cursor) r sound read l e = ended-sound sound cursor
+after-sound s (Fetch f) r sound read l e = fetched-sound sound (f .cursor) _
 
 pub keeps-sound : KeepsSound
-unfolding stepOf
 keeps-sound s frame r buffer sound =
-    let m = messageOf frame in
-    step-has (λ after. Sound (after .back .session)) s m r buffer (λ _. sound)
-    (λ _ e. after-sound s m r sound (looked s m (passed s m r e .look))) (λ _ _. sound)
+    let x = frameOf frame in
+    step-has (λ after. Sound (after .session)) s x r buffer (λ _. sound)
+    (λ used q _ t. after-sound s q r sound (subst ReadIn (t .good) (frames-are-read frame)) (t .look) (t .report)) (λ _ _. sound)

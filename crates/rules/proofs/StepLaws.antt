@@ -1,45 +1,61 @@
--- The rules of specs/StepRules.antt hold. Assumes nothing.
+-- The rules of specs/StepRules.antt hold: a refused step changes nothing and writes its Error or nothing. Assumes nothing.
 use Prim.Native.Nat.{ℕ, zero, suc, _+_, _^_, _≤_, _<_}
 use native.Mathlib.Nat.{le-trans, zero-add}
 use native.Mathlib.Omega.{arith}
-use mathlib.Core.Bool.{Bool, true, false, _&&_, _||_}
-use mathlib.Core.Path.{_≡_, refl, sym, ap, _∙_}
+use mathlib.Core.Bool.{Bool, true, false, cond, _&&_, _||_}
+use mathlib.Core.Path.{_≡_, refl, sym, ap, subst, _∙_}
 use mathlib.Core.List.{List, [], _∷_, _++_}
 use lib.ListN.{length, getD, take, drop}
 use lib.Seq.{take-at}
 use lib.Dec.{eqb, leb}
-use borrow.Author.Tests.{eqb-true, eqb-false, lt-ltb, le-ltb, ltb-false, le-leb, leb-true}
+use borrow.Author.Tests.{eqb-true, eqb-false, ltb-false, le-leb, lt-leb, leb-true}
 use Rattle.varint.specs.Put.{written}
 use Rattle.varint.proofs.PastLaws.{both}
-use Rattle.message.specs.Frame.{messageOf}
-use Rattle.message.specs.declared.message.Message.{Message}
-use Rattle.session.specs.declared.Session.{Session}
+use Rattle.protocol.specs.Reason as Reason
+use Rattle.message.specs.Request.{stmtOf, cursorOf, argsOf}
+use Rattle.message.specs.Frame.{usedOf, frameOf}
+use Rattle.message.specs.declared.request.Request.{Request}
+use Rattle.message.specs.declared.request.Frame.{Frame}
+use Rattle.message.specs.declared.request.Frame.the-variants.{NotAllThere, BadLength, UnknownType, BadPayload, Good}
+use Rattle.session.specs.Session.{Session}
+use Rattle.session.specs.Sound.{maxNumber}
 use Rattle.session.proofs.SumLaws.{and-true}
+use Rattle.reply.specs.declared.Refusal.{Refusal}
 use Rattle.reply.specs.declared.Reply.{Reply}
 use Rattle.reply.specs.Reply.{codes, codeOf, replyBytes}
+use Rattle.reply.specs.ReplyRules.{minBuffer}
 use Rattle.reply.proofs.ReplyLaws.{reply-error, fits-smallest}
 use Rattle.rules.specs.declared.Report.{Report}
+use Rattle.rules.specs.Kind.{onGood}
 use Rattle.rules.specs.Refusal.{stepReason}
-use Rattle.rules.specs.Decision.{reply, named, wireCode, refusedReply, refusedBy, accepted, decisionOf}
-use Rattle.rules.specs.Step.{Step, short, minBuffer, tooShort, stepBy, stepOn, stepOf}
-use Rattle.rules.specs.Read.{Read}
-use Rattle.rules.specs.StepRules.{answer, Unchanged, Silent, Replies, errorBytes, Refused, RefusedChangesNothing}
+use Rattle.rules.specs.Decision.{Decision, named, wireCode, refusalOf, refusedReply, refused, accepted, decisionOf}
+use Rattle.rules.specs.Step.{Step, short, tooShort, stepBy, stepOn, stepOf}
+use Rattle.rules.specs.Read.{Read, ReadIn}
+use Rattle.rules.specs.StepRules.{Unchanged, Silent, Replies, errorBytes, Refused, RefusedChangesNothing}
 use Rattle.rules.proofs.ReadLaws.{frames-are-read}
-use Rattle.rules.proofs.RefusalLaws.{code-small, low-unread}
+use Rattle.rules.proofs.RefusalLaws.{Took, took, code-small, low-used}
 
--- ---- by cases: the buffer is short, or the step is refused, or accepted
+-- ---- by cases: the buffer is short, or the step is refused, or a request is accepted
 
-pub step-has : (P : Step → Type 0) (s : Session) (m : Message) (r : Report) (buffer : List ℕ) →
+abbrev pub refusedStep : Session → Frame → Report → List ℕ → Step
+refusedStep s x r buffer = stepBy x buffer (refused s (stepReason s x r) (refusedReply x r (stepReason s x r)))
+
+pub step-has : (P : Step → Type 0) (s : Session) (x : Frame) (r : Report) (buffer : List ℕ) →
     (short buffer ≡ true → P (tooShort s buffer)) →
-    (short buffer ≡ false → stepReason s m r ≡ 0 → P (stepBy m buffer (accepted s m r))) →
-    (short buffer ≡ false → (stepReason s m r ≡ 0 → ⊥) → P (stepBy m buffer (refusedBy s (stepReason s m r) (refusedReply m r (stepReason s m r))))) →
-    P (stepOn s m r buffer)
-unfolding decisionOf
-step-has P s m r buffer three took left =
-    both P (short buffer) (tooShort s buffer) (stepBy m buffer (decisionOf s m r)) three
-    (λ h. both (λ d. P (stepBy m buffer d)) (eqb (stepReason s m r) 0) (accepted s m r)
-    (refusedBy s (stepReason s m r) (refusedReply m r (stepReason s m r)))
-    (λ e. took h (eqb-true (stepReason s m r) 0 e)) (λ e. left h (eqb-false (stepReason s m r) 0 e)))
+    ((used : ℕ) (q : Request) → short buffer ≡ false → Took s x r used q → P (stepBy (Good used q) buffer (accepted s r q))) →
+    (short buffer ≡ false → (stepReason s x r ≡ 0 → ⊥) → P (refusedStep s x r buffer)) → P (stepOn s x r buffer)
+unfolding stepOn decisionOf
+step-has P s x r buffer three accepts refuses =
+    both P (short buffer) (tooShort s buffer) (stepBy x buffer (decisionOf s x r)) three
+    (λ room. both (λ d. P (stepBy x buffer d)) (eqb (stepReason s x r) 0) _ (refused s (stepReason s x r) (refusedReply x r (stepReason s x r)))
+    (λ e. takes room (took s x r (eqb-true (stepReason s x r) 0 e)))
+    (λ e. refuses room (eqb-false (stepReason s x r) 0 e)))
+  where
+    takes : short buffer ≡ false → (t : (used : ℕ) × (q : Request) × Took s x r used q) →
+        P (stepBy x buffer (onGood (refused s (stepReason s x r) Reply.Nothing) (accepted s r) x))
+    takes room t =
+        subst (λ y. P (stepBy y buffer (onGood (refused s (stepReason s x r) Reply.Nothing) (accepted s r) y))) (sym (t .2 .good))
+        (accepts (t .0) (t .1) room (t .2))
 
 -- ---- a refused step
 
@@ -59,20 +75,28 @@ within-at k (x ∷ xs) e (suc n) = within-at k xs (and-true (leb x k) (allWithin
 code-within : (n : ℕ) → codeOf n ≤ 6015
 code-within n = within-at 6015 codes refl n
 
-pub wire-small : (r : Report) (n : ℕ) → (n ≡ 16 → r .a < 2 ^ 32) → wireCode r n < 2 ^ 32
+wire-small : (r : Report) (n : ℕ) → (n ≡ Reason.engineFailed → r .code ≤ maxNumber) → wireCode r n < 2 ^ 32
 unfolding wireCode
 wire-small r n h =
-    both (λ (c : ℕ). c < 2 ^ 32) (eqb n 16) (r .a) (codeOf n) (λ e. h (eqb-true n 16 e)) (λ _. omega (arith, code-within n))
+    both Small (eqb n Reason.engineFailed) (r .code) (codeOf n) (λ e. omega (arith, h (eqb-true n Reason.engineFailed e)))
+    (λ _. omega (arith, code-within n))
 
-pub named-small : (m : Message) → Read m → (n : ℕ) → named m n < 2 ^ 32
+named-small : (q : Request) → Read q → (n : ℕ) → named n q < 2 ^ 32
 unfolding named
-named-small m h n =
-    both Small (eqb n 7) (m .stmt) _ (λ _. h .stmtSmall)
-    (λ _. both Small (eqb n 8) (m .args .index) _ (λ _. h .indexSmall)
-    (λ _. both Small (eqb n 9) (m .args .count) _ (λ _. h .countSmall)
-    (λ _. both Small (eqb n 10 || eqb n 11) (m .cursor) 0 (λ _. h .cursorSmall) (λ _. omega arith))))
+named-small q h n =
+    both Small (eqb n Reason.noStmt) (stmtOf q) _ (λ _. omega (arith, h .stmtSmall))
+    (λ _. both Small (eqb n Reason.notScalar) (argsOf q .index) _ (λ _. omega (arith, h .indexSmall))
+    (λ _. both Small (eqb n Reason.fewArguments) (argsOf q .count) _ (λ _. omega (arith, h .countSmall))
+    (λ _. both Small (eqb n Reason.noCursor || eqb n Reason.allSent) (cursorOf q) 0 (λ _. omega (arith, h .cursorSmall)) (λ _. omega arith))))
 
-written-none : (b : List ℕ) → written b 0 [] ≡ b
+named-in : (x : Frame) → ReadIn x → (n : ℕ) → onGood 0 (named n) x < 2 ^ 32
+named-in NotAllThere h n = omega arith
+named-in BadLength h n = omega arith
+named-in (UnknownType used) h n = omega arith
+named-in (BadPayload used kind) h n = omega arith
+named-in (Good used q) h n = named-small q h n
+
+pub written-none : (b : List ℕ) → written b 0 [] ≡ b
 written-none b = rw (le-leb (0 + 0) (length b) (omega arith))
 
 pub written-front : (b bs : List ℕ) → length bs ≤ length b → written b 0 bs ≡ bs ++ drop (length bs) b
@@ -82,59 +106,56 @@ written-front b bs h = rw (zero-add, le-leb (length bs) (length b) h)
 pub reply-front : (b bs : List ℕ) → length bs ≤ length b → take (length bs) (written b 0 bs) ≡ bs
 reply-front b bs h = ap (take (length bs)) (written-front b bs h) ∙ take-at bs (drop (length bs) b) (length bs) refl
 
-abbrev pub errorReply : Message → Report → ℕ → Reply
-errorReply m r reason =
-    record { mark = 5; reason = reason; code = wireCode r reason; number = named m reason; kind = m .args .kind }
+pub error-fits : (s : Session) (x : Frame) (r : Report) → ReadIn x → length (replyBytes (Reply.Error (refusalOf x r (stepReason s x r)))) ≤ minBuffer
+error-fits s x r read =
+    let n = stepReason s x r in
+    fits-smallest (Reply.Error (refusalOf x r n)) (record { code = wire-small r n (code-small s x r); number = named-in x read n })
 
-pub error-fits : (s : Session) (m : Message) (r : Report) → Read m → length (replyBytes (errorReply m r (stepReason s m r))) ≤ minBuffer
-error-fits s m r read =
-    let n = stepReason s m r in
-    fits-smallest (errorReply m r n) (wire-small r n (code-small s m r read)) (named-small m read n)
+unchanged : (s : Session) (x : Frame) (buffer : List ℕ) (n : ℕ) (reply : Reply) → Unchanged s (stepBy x buffer (refused s n reply))
+unchanged s x buffer n reply = record { session = refl; columns = refl; first = refl; count = refl }
 
-unchanged : (s : Session) (m : Message) (buffer : List ℕ) (n : ℕ) (error : Reply) → Unchanged s (stepBy m buffer (refusedBy s n error))
-unchanged s m buffer n error = record { session = refl; columns = refl; first = refl; count = refl }
+-- up to a reason nothing is written
+below : (P : Reply → Type 0) (n : ℕ) {last : ℕ} (y : Reply) → n ≤ last → P Reply.Nothing → P (cond (leb n last) Reply.Nothing y)
+below P n {last} y h p = rw (le-leb n last h) p
 
-module _ (s : Session) (m : Message) (r : Report) (buffer : List ℕ) (read : Read m) (room : short buffer ≡ false) where
+module _ (s : Session) (x : Frame) (r : Report) (buffer : List ℕ) (read : ReadIn x) (room : short buffer ≡ false) where
   abbrev reason : ℕ
-  reason = stepReason s m r
+  reason = stepReason s x r
 
-  abbrev refusedStep : Step
-  refusedStep = stepBy m buffer (refusedBy s reason (refusedReply m r reason))
-
-  silent : (reason ≡ 0 → ⊥) → reason < 4 → Silent buffer refusedStep
+  silent : (reason ≡ 0 → ⊥) → reason ≤ Reason.noRoom → Silent buffer (refusedStep s x r buffer)
   unfolding refusedReply replyBytes
   silent some h =
-      rw (lt-ltb reason 4 h)
-      (record { used = read .unused (low-unread s m r read h some); reply = refl; kept = written-none buffer })
+      below (λ reply. Silent buffer (stepBy x buffer (refused s reason reply))) reason _ h
+      (record { used = low-used s x r h some; reply = refl; kept = written-none buffer })
 
   abbrev error : Reply
-  error = errorReply m r reason
+  error = Reply.Error (refusalOf x r reason)
 
   fits : length (replyBytes error) ≤ length buffer
-  fits = le-trans (error-fits s m r read) (ltb-false (length buffer) minBuffer room)
+  fits = le-trans (error-fits s x r read) (ltb-false (length buffer) minBuffer room)
 
-  replies : (bytes : List ℕ) → bytes ≡ replyBytes error → Replies bytes buffer (stepBy m buffer (refusedBy s reason error))
+  replies : (bytes : List ℕ) → bytes ≡ replyBytes error → Replies bytes buffer (stepBy x buffer (refused s reason error))
   replies bytes e =
       record {
         reply = ap length (sym e);
         written = written-front buffer (replyBytes error) fits ∙ ap (λ bs. bs ++ drop (length bs) buffer) (sym e);
       }
 
-  errs : 4 ≤ reason → Replies (errorBytes m r reason) buffer refusedStep
+  errs : Reason.closed ≤ reason → Replies (errorBytes x r reason) buffer (refusedStep s x r buffer)
   unfolding refusedReply
-  errs h = rw (le-ltb reason 4 h) (replies (errorBytes m r reason) (reply-error error refl))
+  errs h = rw (lt-leb reason Reason.noRoom (omega arith)) (replies (errorBytes x r reason) (reply-error refl))
 
-  refused-step : (reason ≡ 0 → ⊥) → Refused s m r buffer refusedStep
+  refused-step : (reason ≡ 0 → ⊥) → Refused s x r buffer (refusedStep s x r buffer)
   refused-step some =
       record {
-        unchanged = unchanged s m buffer reason (refusedReply m r reason);
+        unchanged = unchanged s x buffer reason (refusedReply x r reason);
         silent = silent some;
         error = errs;
         used = λ _. refl;
       }
 
-refused-short : (s : Session) (m : Message) (r : Report) (buffer : List ℕ) → Refused s m r buffer (tooShort s buffer)
-refused-short s m r buffer =
+refused-short : (s : Session) (x : Frame) (r : Report) (buffer : List ℕ) → Refused s x r buffer (tooShort s buffer)
+refused-short s x r buffer =
     record {
       unchanged = record { session = refl; columns = refl; first = refl; count = refl };
       silent = λ _. record { used = refl; reply = refl; kept = refl };
@@ -143,10 +164,9 @@ refused-short s m r buffer =
     }
 
 pub refused-changes-nothing : RefusedChangesNothing
-unfolding stepOf
 refused-changes-nothing s frame r buffer =
-    let m = messageOf frame in
-    step-has (λ after. (answer after .reason ≡ 0 → ⊥) → Refused s m r buffer after) s m r buffer
-    (λ _ _. refused-short s m r buffer)
-    (λ _ _ some. absurd (some refl))
-    (λ room some _. refused-step s m r buffer (frames-are-read frame) room some)
+    let x = frameOf frame in
+    step-has (λ after. (after .answer .reason ≡ 0 → ⊥) → Refused s x r buffer after) s x r buffer
+    (λ _ _. refused-short s x r buffer)
+    (λ _ _ _ _ some. absurd (some refl))
+    (λ room some _. refused-step s x r buffer (frames-are-read frame) room some)

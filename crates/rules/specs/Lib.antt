@@ -1,4 +1,5 @@
 pub mod Kind
+pub mod Report
 pub mod Refusal
 pub mod Rows
 pub mod Ending
@@ -6,3 +7,5 @@ pub mod Decision
 pub mod Step
 pub mod Read
 pub mod StepRules
+pub mod SendRules
+pub mod RefusalRules

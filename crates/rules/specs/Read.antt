@@ -1,23 +1,25 @@
--- What holds of every message that a frame gives.
-use Prim.Native.Nat.{ℕ, _^_, _<_}
-use mathlib.Core.Bool.{true, _||_}
-use mathlib.Core.Path.{_≡_}
+-- What holds of every request that a frame gives: its numbers have 32 bits.
+use Prim.Native.Nat.{ℕ, _≤_}
 use mathlib.Core.List.{List}
-use lib.Dec.{eqb}
-use Rattle.message.specs.Frame.{messageOf}
-use Rattle.message.specs.declared.message.Message.{Message}
-use Rattle.rules.specs.Refusal.{unread}
+use Rattle.message.specs.Request.{stmtOf, cursorOf, argsOf}
+use Rattle.message.specs.Frame.{frameOf}
+use Rattle.message.specs.declared.request.Request.{Request}
+use Rattle.message.specs.declared.request.Frame.{Frame}
+use Rattle.message.specs.declared.request.Frame.the-variants.{NotAllThere, BadLength, UnknownType, BadPayload, Good}
+use Rattle.session.specs.Sound.{maxNumber}
 
-pub record Read (m : Message) : Type 0 where
-  -- it is good, or refused 1, 2, 5 or 6
-  pub known : (unread m || eqb (m .reason) 0 || eqb (m .reason) 5 || eqb (m .reason) 6) ≡ true
-  -- "Refusals 1 to 3 use 0 bytes"
-  pub unused : unread m ≡ true → m .used ≡ 0
-  -- the numbers that an Error's text names have 32 bits
-  pub stmtSmall : m .stmt < 2 ^ 32
-  pub cursorSmall : m .cursor < 2 ^ 32
-  pub indexSmall : m .args .index < 2 ^ 32
-  pub countSmall : m .args .count < 2 ^ 32
+pub record Read (q : Request) : Type 0 where
+  pub stmtSmall : stmtOf q ≤ maxNumber
+  pub cursorSmall : cursorOf q ≤ maxNumber
+  pub indexSmall : argsOf q .index ≤ maxNumber
+  pub countSmall : argsOf q .count ≤ maxNumber
+
+abbrev pub ReadIn : Frame → Type 0
+ReadIn NotAllThere = Unit {0}
+ReadIn BadLength = Unit {0}
+ReadIn (UnknownType used) = Unit {0}
+ReadIn (BadPayload used kind) = Unit {0}
+ReadIn (Good used q) = Read q
 
 abbrev pub FramesAreRead : Type 0
-FramesAreRead = (frame : List ℕ) → Read (messageOf frame)
+FramesAreRead = (frame : List ℕ) → ReadIn (frameOf frame)

@@ -4,92 +4,131 @@ use mathlib.Core.Bool.{true, false}
 use mathlib.Core.Path.{_≡_}
 use mathlib.Core.List.{List, [], _∷_, _++_}
 use lib.ListN.{length, drop}
-use Rattle.message.specs.Frame.{messageOf}
-use Rattle.message.specs.declared.message.Message.{Message}
-use Rattle.session.specs.declared.Session.{Session}
+use Rattle.protocol.specs.Reason as Reason
+use Rattle.message.specs.Frame.{usedOf, frameOf}
+use Rattle.message.specs.Request.{stmtOf, cursorOf}
+use Rattle.message.specs.declared.request.Open.{Open}
+use Rattle.message.specs.declared.request.Fetch.{Fetch}
+use Rattle.message.specs.declared.request.Request.{Request}
+use Rattle.message.specs.declared.request.Frame.{Frame}
+use Rattle.session.specs.Session.{Session, isClosed}
+use Rattle.session.specs.Entry.{isLiveStmt, isLiveCursor}
+use Rattle.session.specs.Tables.{liveStmt, liveCursor}
 use Rattle.session.specs.Sound.{Sound}
-use Rattle.reply.specs.Text.{text}
+use Rattle.reply.specs.Reply.{messageOf}
+use Rattle.reply.specs.ReplyRules.{minBuffer}
 use Rattle.reply.specs.Frame.{errorFrame}
 use Rattle.reply.specs.Frames.{among}
 use Rattle.rules.specs.declared.Report.{Report}
 use Rattle.rules.specs.declared.Answer.{Answer}
 use Rattle.rules.specs.Ending.{cursorsAfter}
-use Rattle.rules.specs.Decision.{sessionAfter, named, wireCode}
-use Rattle.rules.specs.Step.{Step, replyOf, minBuffer, lookAt, stepOf}
+use Rattle.rules.specs.Report.{noWork}
+use Rattle.rules.specs.Refusal.{stmtsFull, cursorsFull}
+use Rattle.rules.specs.Rows.{remaining, rowCount}
+use Rattle.rules.specs.Decision.{sessionAfter, refusalOf}
+use Rattle.rules.specs.Step.{Step, replyOf, lookAt, stepOf}
 
-abbrev pub answer : Step → Answer
-answer after = after .back .answer
-
--- "leaves both tables unchanged, sends no rows"
+-- "leaves both tables unchanged, sends no rows" (O5, D1)
 pub record Unchanged (s : Session) (after : Step) : Type 0 where
-  pub session : after .back .session ≡ s
-  pub columns : answer after .columns ≡ false
-  pub first : answer after .first ≡ 0
-  pub count : answer after .count ≡ 0
+  pub session : after .session ≡ s
+  pub columns : after .answer .columns ≡ false
+  pub first : after .answer .first ≡ 0
+  pub count : after .answer .count ≡ 0
 
--- "Refusals 1 to 3 use 0 bytes and write none"
+-- "Refusals 1 to 3 use 0 bytes and write none" (O3)
 pub record Silent (buffer : List ℕ) (after : Step) : Type 0 where
-  pub used : answer after .used ≡ 0
-  pub reply : answer after .reply ≡ 0
+  pub used : after .answer .used ≡ 0
+  pub reply : after .answer .reply ≡ 0
   pub kept : after .buffer ≡ buffer
 
--- the reply is these bytes; "Bytes past the reply stay as they were"
+-- the reply is these bytes; "Bytes past the reply stay as they were" (P11)
 pub record Replies (bytes buffer : List ℕ) (after : Step) : Type 0 where
-  pub reply : answer after .reply ≡ length bytes
+  pub reply : after .answer .reply ≡ length bytes
   pub written : after .buffer ≡ bytes ++ drop (length bytes) buffer
 
-abbrev pub errorBytes : Message → Report → ℕ → List ℕ
-errorBytes m r reason = errorFrame (wireCode r reason) (text reason (named m reason) (m .args .kind))
+abbrev pub errorBytes : Frame → Report → ℕ → List ℕ
+errorBytes x r reason = errorFrame (refusalOf x r reason .code) (messageOf (refusalOf x r reason))
 
--- demand 1: "A refused step leaves both tables unchanged, sends no rows, and writes only its Error frame, or nothing for
--- reasons 1 to 3"; those use no byte, and others use the frame
-pub record Refused (s : Session) (m : Message) (r : Report) (buffer : List ℕ) (after : Step) : Type 0 where
+-- demand 1: "A refused step leaves both tables unchanged, sends no rows, and writes only its Error frame, or nothing
+-- for reasons 1 to 3"; those use no byte, and others use the frame (D1, O3, O4)
+pub record Refused (s : Session) (x : Frame) (r : Report) (buffer : List ℕ) (after : Step) : Type 0 where
   pub unchanged : Unchanged s after
-  pub silent : answer after .reason < 4 → Silent buffer after
-  pub error : 4 ≤ answer after .reason → Replies (errorBytes m r (answer after .reason)) buffer after
-  pub used : 4 ≤ answer after .reason → answer after .used ≡ m .used
+  pub silent : after .answer .reason ≤ Reason.noRoom → Silent buffer after
+  pub error : Reason.closed ≤ after .answer .reason → Replies (errorBytes x r (after .answer .reason)) buffer after
+  pub used : Reason.closed ≤ after .answer .reason → after .answer .used ≡ usedOf x
 
 abbrev pub RefusedChangesNothing : Type 0
 RefusedChangesNothing =
     (s : Session) (frame : List ℕ) (r : Report) (buffer : List ℕ) →
-    (answer (stepOf s frame r buffer) .reason ≡ 0 → ⊥) →
-    Refused s (messageOf frame) r buffer (stepOf s frame r buffer)
+    (stepOf s frame r buffer .answer .reason ≡ Reason.accepted → ⊥) →
+    Refused s (frameOf frame) r buffer (stepOf s frame r buffer)
 
--- "If it [a look] refuses, the step refuses alike under every report, unless reason 3 comes first."
+-- "If it [a look] refuses, the step refuses alike under every report, unless reason 3 comes first." (K6)
 abbrev pub RefusesAlike : Type 0
 RefusesAlike =
-    (s : Session) (frame : List ℕ) (r : Report) (buffer : List ℕ) → (lookAt s frame .reason ≡ 0 → ⊥) →
-    minBuffer ≤ length buffer → answer (stepOf s frame r buffer) .reason ≡ lookAt s frame .reason
+    (s : Session) (frame : List ℕ) (r : Report) (buffer : List ℕ) → (lookAt s frame .reason ≡ Reason.accepted → ⊥) →
+    minBuffer ≤ length buffer → stepOf s frame r buffer .answer .reason ≡ lookAt s frame .reason
 
--- "If it doesn't, the step gives no refusal but 3, 15 or 16."
+-- "If it doesn't, the step gives no refusal but 3, 15 or 16." (K7)
 abbrev pub RefusesFew : Type 0
 RefusesFew =
-    (s : Session) (frame : List ℕ) (r : Report) (buffer : List ℕ) → lookAt s frame .reason ≡ 0 →
-    among (answer (stepOf s frame r buffer) .reason) (0 ∷ 3 ∷ 15 ∷ 16 ∷ []) ≡ true
+    (s : Session) (frame : List ℕ) (r : Report) (buffer : List ℕ) → lookAt s frame .reason ≡ Reason.accepted →
+    among (stepOf s frame r buffer .answer .reason)
+    (Reason.accepted ∷ Reason.noRoom ∷ Reason.badReport ∷ Reason.engineFailed ∷ [])
+    ≡ true
 
--- 3 comes first, and is given exactly where the buffer is short
+-- 3 comes first, and is given exactly where the buffer is short (R3, O1)
 abbrev pub ShortFirst : Type 0
 ShortFirst =
     (s : Session) (frame : List ℕ) (r : Report) (buffer : List ℕ) →
-    (length buffer < minBuffer → answer (stepOf s frame r buffer) .reason ≡ 3)
-    × (answer (stepOf s frame r buffer) .reason ≡ 3 → length buffer < minBuffer)
+    (length buffer < minBuffer → stepOf s frame r buffer .answer .reason ≡ Reason.noRoom)
+    × (stepOf s frame r buffer .answer .reason ≡ Reason.noRoom → length buffer < minBuffer)
 
--- "With work "none" the report is not consulted."
+-- "With work "none" the report is not consulted." (K9)
 abbrev pub ReportNotConsulted : Type 0
 ReportNotConsulted =
-    (s : Session) (frame : List ℕ) (r other : Report) (buffer : List ℕ) → lookAt s frame .work ≡ 0 →
+    (s : Session) (frame : List ℕ) (r other : Report) (buffer : List ℕ) → lookAt s frame .work ≡ noWork →
     stepOf s frame r buffer ≡ stepOf s frame other buffer
 
--- every step hands back a session that keeps the rules of the tables
+-- 4 comes before all that is said of a message: a closed session refuses so every frame that is there and of a good
+-- length
+abbrev pub ClosedFirst : Type 0
+ClosedFirst =
+    (s : Session) (frame : List ℕ) → isClosed s ≡ true →
+    (lookAt s frame .reason ≡ Reason.notAllThere → ⊥) → (lookAt s frame .reason ≡ Reason.badLength → ⊥) →
+    lookAt s frame .reason ≡ Reason.closed
+
+-- and one that is not closed refuses no Reset and no Session close
+abbrev pub UnclosedAccepts : Type 0
+UnclosedAccepts =
+    (s : Session) (frame : List ℕ) (used : ℕ) → isClosed s ≡ false →
+    (frameOf frame ≡ Frame.Good used Request.Reset → lookAt s frame .reason ≡ Reason.accepted)
+    × (frameOf frame ≡ Frame.Good used Request.SessionClose → lookAt s frame .reason ≡ Reason.accepted)
+
+-- 13 and 14 are for an id that is "not among them": one that is live finds its place, however full the table is
+abbrev pub OwnPlace : Type 0
+OwnPlace =
+    (s : Session) (q : Request) →
+    (isLiveStmt (liveStmt s (stmtOf q)) ≡ true → stmtsFull s q ≡ false)
+    × (isLiveCursor (liveCursor s (cursorOf q)) ≡ true → cursorsFull s q ≡ false)
+
+-- without fetch_rows an Open sends no row ("absent means 0") and a Fetch all that remain ("absent meaning all") (S7, S8)
+abbrev pub SendsUnasked : Type 0
+SendsUnasked =
+    (s : Session) (r : Report) →
+    ((o : Open) → o .rows .present ≡ false → rowCount s (Request.Open o) r ≡ 0)
+    × ((f : Fetch) → f .rows .present ≡ false → rowCount s (Request.Fetch f) r ≡ remaining (liveCursor s (f .cursor)))
+
+-- every step hands back a session that keeps the rules of the tables (S13)
 abbrev pub KeepsSound : Type 0
 KeepsSound =
     (s : Session) (frame : List ℕ) (r : Report) (buffer : List ℕ) → Sound s →
-    Sound (stepOf s frame r buffer .back .session)
+    Sound (stepOf s frame r buffer .session)
 
--- the tables go by the list of endings that the tally goes by
+-- the tables go by the list of endings that the tally goes by (E4)
 abbrev pub EndsAsListed : Type 0
 EndsAsListed =
-    (s : Session) (m : Message) (r : Report) → Sound s → sessionAfter s m r .cursors ≡ cursorsAfter s m r
+    (s : Session) (q : Request) (r : Report) → Sound s → sessionAfter s q r .cursors ≡ cursorsAfter s q r
 
 -- what a host has of a step: the answer, the session and the reply
 pub record Outcome : Type 0 where
@@ -98,10 +137,11 @@ pub record Outcome : Type 0 where
   pub reply : List ℕ
 
 abbrev pub outcome : Step → Outcome
-outcome after = record { answer = answer after; session = after .back .session; reply = replyOf after }
+outcome after = record { answer = after .answer; session = after .session; reply = replyOf after }
 
--- with 128 bytes or more, neither the length of a reply buffer nor what it held before makes a difference
+-- with 128 bytes or more, neither the length of a reply buffer nor what it held before makes a difference (K12)
 abbrev pub BufferMakesNoDifference : Type 0
 BufferMakesNoDifference =
-    (s : Session) (frame : List ℕ) (r : Report) (buffer other : List ℕ) → minBuffer ≤ length buffer → minBuffer ≤ length other →
+    (s : Session) (frame : List ℕ) (r : Report) (buffer other : List ℕ) →
+    minBuffer ≤ length buffer → minBuffer ≤ length other →
     outcome (stepOf s frame r buffer) ≡ outcome (stepOf s frame r other)

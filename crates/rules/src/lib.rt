@@ -1,22 +1,19 @@
-// What a step takes and what it answers. Every type is of numbers and bools, so that a host can pass it.
-use reply::Reply;
-use session::Session;
+// What a look and a step take and what they answer. Every type is of numbers and bools, so that a host can pass it.
 
-// The kinds of an engine report, with its numbers a and b.
+// The kinds of an engine report.
 pub const NONE: u64 = 0;
 
-// a placeholders
 pub const PREPARED: u64 = 1;
 
-// a columns, b rows
 pub const RESULT: u64 = 2;
 
 pub const DONE: u64 = 3;
 
-// a the code
 pub const FAILED: u64 = 4;
 
 // The work that a look wants of the engine, besides none.
+pub const NO_WORK: u64 = 0;
+
 pub const PREPARE: u64 = 1;
 
 pub const EXECUTE: u64 = 2;
@@ -25,15 +22,25 @@ pub const OPEN: u64 = 3;
 
 pub const FETCH: u64 = 4;
 
+// The limits of what a report says.
+pub const MAX_PLACEHOLDERS: u64 = 65535;
+
+pub const MAX_COLUMNS: u64 = 4096;
+
+pub const MAX_NUMBER: u64 = 0xffff_ffff;
+
 // The shortest reply buffer that a step takes.
 pub const MIN_BUFFER: usize = 128;
 
-// An engine report.
+// An engine report. `placeholders` counts where it is prepared, `columns` and `rows` where it is a result, `code` where
+// it failed.
 #[repr(C)]
 pub struct Report {
     pub kind: u64,
-    pub a: u64,
-    pub b: u64,
+    pub placeholders: u64,
+    pub columns: u64,
+    pub rows: u64,
+    pub code: u64,
 }
 
 // What a look answers: a refusal, or the work wanted, and of a Fetch the rows to send.
@@ -55,20 +62,4 @@ pub struct Answer {
     pub columns: bool,
     pub first: u64,
     pub count: u64,
-}
-
-// What a step decides on a message that was read.
-pub struct Decision {
-    pub reason: u64,
-    pub session: Session,
-    pub columns: bool,
-    pub first: u64,
-    pub count: u64,
-    pub reply: Reply,
-}
-
-// What a step hands back.
-pub struct Stepped {
-    pub answer: Answer,
-    pub session: Session,
 }

@@ -1,4 +1,4 @@
--- Doubles and floats are carried with every bit kept, NaNs too (document 01): one law over the format, and its two cases.
+-- Doubles and floats are carried with every bit kept, NaNs too (W6): one law over the format, and its two cases.
 use Prim.Native.Nat.{ℕ, _*_, _%_, _^_, _≤_, _<_}
 use mathlib.Core.Path.{_≡_, refl, sym, ap, _∙_}
 use mathlib.Core.Bool.{Bool, true, false, not, cond}

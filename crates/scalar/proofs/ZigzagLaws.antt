@@ -29,7 +29,7 @@ zigzag-unzigzag n = go (eq-zero-or-pos (n % 2))
     go (inl e) = ap zigzag (unzigzag-even n (n / 2) (omega arith)) ∙ omega arith
     go (inr h) = ap zigzag (unzigzag-odd n (n / 2) (omega arith)) ∙ omega arith
 
--- document 01's four
+-- the four examples of W5
 pub zigzag-samples : map zigzag (pos 0 ∷ negsuc 0 ∷ pos 1 ∷ negsuc (2 ^ 63 - 1) ∷ []) ≡ 0 ∷ 1 ∷ 2 ∷ (2 ^ 64 - 1) ∷ []
 zigzag-samples = refl
 

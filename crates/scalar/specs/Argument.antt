@@ -1,4 +1,4 @@
--- An argument's number and values (document 01, "Payload rules": Scalar types 1 to 8; every bit of a double and a float is kept).
+-- An argument's number and values (A4, L8, W6, H9).
 use Prim.Native.Nat.{ℕ}
 use mathlib.Core.Bool.{cond}
 use mathlib.Core.List.{List, [], _∷_}

@@ -1,4 +1,4 @@
--- Fixed values (document 01: framing, and the fixed wire types): bytes least first.
+-- Fixed values (F1, W6, W7): bytes least first.
 use Prim.Native.Nat.{ℕ, zero, suc, _+_, _*_}
 use mathlib.Core.Bool.{cond}
 use mathlib.Core.List.{List}

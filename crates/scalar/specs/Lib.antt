@@ -1,4 +1,3 @@
 pub mod Argument
 pub mod Fixed
 pub mod Zigzag
-pub mod Numbers

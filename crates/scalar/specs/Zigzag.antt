@@ -1,4 +1,4 @@
--- sint64 is zigzag (document 01, "Payload rules"): 0, -1, 1 are 0, 1, 2, and -2^63 is 2^64 - 1.
+-- sint64 is zigzag (W5): 0, -1, 1 are 0, 1, 2, and -2^63 is 2^64 - 1.
 use Prim.Native.Nat.{ℕ, _+_, _*_, _/_, _%_}
 use mathlib.Core.Bool.{cond}
 use lib.Dec.{eqb}

@@ -1,45 +1,40 @@
 -- Laws on one entry. Assumes nothing.
-use Prim.Native.Nat.{ℕ, _+_, _-_, _≤_, _<_, min}
-use native.Mathlib.Omega.{arith}
-use mathlib.Core.Bool.{Bool, true, false, _&&_}
-use mathlib.Core.Path.{_≡_, sym, ap, _∙_}
+use Prim.Native.Nat.{ℕ, _-_}
+use mathlib.Core.Bool.{Bool, true, false, cond, not, _&&_}
+use mathlib.Core.Path.{_≡_, refl, sym, ap, _∙_}
+use borrow.Author.Tests.{ne-eqb}
 use Rattle.session.specs.declared.Cursor.{Cursor}
-use Rattle.session.specs.Lists.{change}
-use Rattle.session.specs.Entry.{isCursor, raise, owes}
+use Rattle.session.specs.Session.{flag}
+use Rattle.session.specs.Entry.{owes}
 
-pub and-taken : (a b : Bool) → a ≡ true → b ≡ a && b
-and-taken a b e = sym (rw e)
+-- a flag that is 0, and one that is not
+pub flag-off : (live : ℕ) → live ≡ 0 → flag live ≡ false
+flag-off live e = rw e
 
-module _ {A : Type 0} (p : A → Bool) (f : A → A) (x : A) where
-  pub changes-it : p x ≡ true → f x ≡ change p f x
-  changes-it e = sym (rw e)
+pub flag-on : (live : ℕ) → (live ≡ 0 → ⊥) → flag live ≡ true
+flag-on live h = rw (ne-eqb live 0 h) refl
 
-  pub keeps-it : p x ≡ false → x ≡ change p f x
-  keeps-it e = sym (rw e)
+pub free-yes : (live : ℕ) → live ≡ 0 → not (flag live) ≡ true
+free-yes live e = ap not (flag-off live e)
 
--- a cursor with other rows sent
-abbrev sentTo : Cursor → ℕ → Cursor
-sentTo c n = record { id = c .id; stmt = c .stmt; rows = c .rows; sent = n; live = c .live }
+pub free-no : (live : ℕ) → (live ≡ 0 → ⊥) → not (flag live) ≡ false
+free-no live h = ap not (flag-on live h)
 
-module _ (id count : ℕ) (c : Cursor) (it : isCursor id c ≡ true) where
-  raises : (n : ℕ) → n ≡ c .sent + min count (c .rows - c .sent) → sentTo c n ≡ change (isCursor id) (raise count) c
-  raises n e = ap (sentTo c) e ∙ changes-it (isCursor id) (raise count) c it
+pub tells-off : (live : ℕ) (b : Bool) → live ≡ 0 → flag live ≡ flag live && b
+tells-off live b e = flag-off live e ∙ sym (ap (λ x. x && b) (flag-off live e))
 
-  pub fetches-none : c .rows ≤ c .sent → c ≡ change (isCursor id) (raise count) c
-  fetches-none h = raises (c .sent) (omega arith)
+pub tells-on : (live : ℕ) (b : Bool) → (live ≡ 0 → ⊥) → b ≡ flag live && b
+tells-on live b h = sym (ap (λ x. x && b) (flag-on live h))
 
-  pub fetches-some : count < c .rows - c .sent → sentTo c (c .sent + count) ≡ change (isCursor id) (raise count) c
-  fetches-some h = raises (c .sent + count) (omega arith)
+pub one-off : (live : ℕ) → live ≡ 0 → _≡_ {A = ℕ} 0 (cond (flag live) 1 0)
+one-off live e = sym (ap (λ x. cond {A = ℕ} x 1 0) (flag-off live e))
 
-  pub fetches-rest : c .sent < c .rows → c .rows - c .sent ≤ count → sentTo c (c .rows) ≡ change (isCursor id) (raise count) c
-  fetches-rest g h = raises (c .rows) (omega arith)
+pub one-on : (live : ℕ) → (live ≡ 0 → ⊥) → _≡_ {A = ℕ} 1 (cond (flag live) 1 0)
+one-on live h = sym (ap (λ x. cond {A = ℕ} x 1 0) (flag-on live h))
 
 module _ (c : Cursor) where
-  pub owes-dead : c .live ≡ false → 0 ≡ owes c
-  owes-dead e = sym (rw e)
+  pub owes-dead : c .live ≡ 0 → 0 ≡ owes c
+  owes-dead e = sym (ap (λ x. cond x (c .rows - c .sent) 0) (flag-off (c .live) e))
 
-  pub owes-live : c .live ≡ true → c .rows - c .sent ≡ owes c
-  owes-live e = sym (rw e)
-
-  pub owes-none : c .live ≡ true → c .rows ≤ c .sent → 0 ≡ owes c
-  owes-none e h = omega (arith, owes-live e)
+  pub owes-live : (n : ℕ) → (c .live ≡ 0 → ⊥) → n ≡ c .rows - c .sent → n ≡ owes c
+  owes-live n h e = e ∙ sym (ap (λ x. cond x (c .rows - c .sent) 0) (flag-on (c .live) h))

@@ -11,20 +11,28 @@ use borrow.Author.Tests.{eqb-true, eq-eqb}
 use Rattle.session.specs.declared.Place.{Place}
 use Rattle.session.specs.declared.Stmt.{Stmt}
 use Rattle.session.specs.declared.Cursor.{Cursor}
-use Rattle.session.specs.declared.Session.{Session}
+use Rattle.session.specs.Session.{Session, withStmts, withCursors, withClosed, isClosed}
 use Rattle.session.specs.Lists.{put, entryAt, changed, always, howMany}
-use Rattle.session.specs.Entry.{noStmt, noCursor, newStmt, newCursor, isStmt, isCursor, onStmt, raise}
-use Rattle.session.specs.Tables.{maxStmts, maxCursors, fresh, stmtAt, cursorOn, stmtPlace, cursorPlace, stmtCount, cursorCount, liveStmt, carried, ends, endedBy, ended, endedOn, prepared, freed, opened, fetched, emptied, reset, closedNow}
-use Rattle.session.specs.Sound.{ProperStmt, ProperCursor, Sound, Openable}
-use Rattle.session.proofs.LoopLaws.{withStmts}
+use Rattle.session.specs.Entry.{noStmt, noCursor, newStmt, newCursor, isLiveStmt, isLiveCursor, isStmt, isCursor, onStmt, raise}
+use Rattle.session.specs.Tables.{maxStmts, maxCursors, fresh, stmtAt, cursorOn, stmtPlace, cursorPlace, stmtCount, cursorCount, liveStmt, carried, ends, endedBy, ended, endedOn, prepared, freed, opened, fetched, reset, closedNow}
+use Rattle.session.specs.Sound.{maxNumber, maxPlaceholders, ProperStmt, ProperCursor, Sound, Openable}
+use Rattle.session.proofs.OnceLaws.{first-changed}
 use Rattle.session.proofs.PlaceLaws.{found, none-from}
 use Rattle.session.proofs.SumLaws.{one, sum-le, sum-add, sum-set, sum-put-le, length-put, sum-replicate, count-le, counted, sum-changed-le, sum-changed-same, sum-changed-none, all-changed, all-put, all-replicate, and-true, has-other, put-more, put-once, no-place-full, full-no-place}
 
 empty-stmt : ProperStmt noStmt
-empty-stmt = record { empty = λ e. refl }
+empty-stmt = record { empty = λ e. refl; flagged = omega arith; id = omega arith; placeholders = omega arith }
 
 empty-cursor : ProperCursor noCursor
-empty-cursor = record { empty = λ e. refl; within = omega arith }
+empty-cursor =
+    record {
+      empty = λ e. refl;
+      flagged = omega arith;
+      id = omega arith;
+      stmt = omega arith;
+      rows = omega arith;
+      within = omega arith;
+    }
 
 -- a test that the empty cursor fails passes no more cursors after an ending
 ends-less : (p q : Cursor → Bool) → q noCursor ≡ false → (cs : List Cursor) → howMany q (ends p cs) ≤ howMany q cs
@@ -41,6 +49,7 @@ fresh-sound =
       stmtOnce = λ k. omega (arith, sum-replicate (λ t. one (isStmt k t)) maxStmts noStmt refl);
       cursorOnce = λ k. omega (arith, sum-replicate (λ c. one (isCursor k c)) maxCursors noCursor refl);
       carries = λ k. omega (arith, sum-replicate (λ c. one (onStmt k c)) maxCursors noCursor refl);
+      flagged = omega arith;
       shut = λ e. absurd (false≢true e);
     }
 
@@ -56,27 +65,33 @@ new-own true e h = ap not h
 new-own false e h = refl
 
 -- the live entry of an id is counted
-pub stmt-live : (s : Session) (id : ℕ) → liveStmt s id .live ≡ true → 1 ≤ howMany (isStmt id) (s .stmts)
+pub stmt-live : (s : Session) (id : ℕ) → isLiveStmt (liveStmt s id) ≡ true → 1 ≤ howMany (isStmt id) (s .stmts)
 stmt-live s id e = go (stmtAt s id) refl
   where
     go : (x : Place) → stmtAt s id ≡ x → 1 ≤ howMany (isStmt id) (s .stmts)
     go (Place.At i) h = counted (isStmt id) noStmt (s .stmts) i (found (isStmt id) noStmt (s .stmts) i h)
-    go Place.Nothing h = absurd (false≢true (sym (ap (λ x. entryAt (s .stmts) x noStmt .live) h) ∙ e))
+    go Place.Nothing h = absurd (false≢true (sym (ap (λ x. isLiveStmt (entryAt (s .stmts) x noStmt)) h) ∙ e))
 
 -- a table has no place for an id exactly where it is full and the id is not among its live ones
 pub stmts-full : (s : Session) (id : ℕ) → stmtPlace s id ≡ Place.Nothing →
     (howMany (isStmt id) (s .stmts) ≡ 0) × (stmtCount s ≡ length (s .stmts))
-stmts-full s id = no-place-full (λ t. t .live) (λ t. t .id) (s .stmts) id
+stmts-full s id = no-place-full isLiveStmt (λ t. t .id) (s .stmts) id
 
 pub full-stmts : (s : Session) (id : ℕ) → howMany (isStmt id) (s .stmts) ≡ 0 → stmtCount s ≡ length (s .stmts) → stmtPlace s id ≡ Place.Nothing
-full-stmts s id = full-no-place (λ t. t .live) (λ t. t .id) (s .stmts) id
+full-stmts s id = full-no-place isLiveStmt (λ t. t .id) (s .stmts) id
 
 pub cursors-full : (s : Session) (id : ℕ) → cursorPlace s id ≡ Place.Nothing →
     (howMany (isCursor id) (s .cursors) ≡ 0) × (cursorCount s ≡ length (s .cursors))
-cursors-full s id = no-place-full (λ c. c .live) (λ c. c .id) (s .cursors) id
+cursors-full s id = no-place-full isLiveCursor (λ c. c .id) (s .cursors) id
 
 pub full-cursors : (s : Session) (id : ℕ) → howMany (isCursor id) (s .cursors) ≡ 0 → cursorCount s ≡ length (s .cursors) → cursorPlace s id ≡ Place.Nothing
-full-cursors s id = full-no-place (λ c. c .live) (λ c. c .id) (s .cursors) id
+full-cursors s id = full-no-place isLiveCursor (λ c. c .id) (s .cursors) id
+
+-- the numbers of a cursor that is opened
+pub record Small (id stmt rows : ℕ) : Type 0 where
+  pub idSmall : id ≤ maxNumber
+  pub stmtSmall : stmt ≤ maxNumber
+  pub rowsSmall : rows ≤ maxNumber
 
 -- an ending leaves no cursor that passes
 pub none-on : (s : Session) (stmt : ℕ) → howMany (onStmt stmt) (ends (onStmt stmt) (s .cursors)) ≡ 0
@@ -95,7 +110,8 @@ module _ {s : Session} (sound : Sound s) where
         stmtOnce = sound .stmtOnce;
         cursorOnce = λ k. le-trans (ends-less p (isCursor k) refl (s .cursors)) (sound .cursorOnce k);
         carries = λ k. le-trans (ends-less p (onStmt k) refl (s .cursors)) (sound .carries k);
-        shut = λ e. let l = sound .shut e in (l .0, omega (arith, l .1, ends-less p (λ c. c .live) refl (s .cursors)));
+        flagged = sound .flagged;
+        shut = λ e. let l = sound .shut e in (l .0, omega (arith, l .1, ends-less p isLiveCursor refl (s .cursors)));
       }
 
   pub ended-sound : (id : ℕ) → Sound (ended s id)
@@ -105,7 +121,7 @@ module _ {s : Session} (sound : Sound s) where
   endedOn-sound stmt = endedBy-sound (onStmt stmt)
 
   -- a statement is stored in an open session
-  module _ (id placeholders : ℕ) (unclosed : s .closed ≡ false) where
+  module _ (id placeholders : ℕ) (unclosed : isClosed s ≡ false) (few : placeholders ≤ maxPlaceholders) (small : id ≤ maxNumber) where
     abbrev stored : Stmt
     stored = newStmt id placeholders
 
@@ -115,11 +131,14 @@ module _ {s : Session} (sound : Sound s) where
           stmtPlaces = length-put (s .stmts) (stmtPlace s id) stored ∙ sound .stmtPlaces;
           cursorPlaces = sound .cursorPlaces;
           stmtsProper =
-              all-put ProperStmt stored (s .stmts) (stmtPlace s id) (record { empty = λ e. absurd (true≢false e) }) (sound .stmtsProper);
+              all-put ProperStmt stored (s .stmts) (stmtPlace s id)
+              (record { empty = λ e. absurd (true≢false e); flagged = omega arith; id = small; placeholders = few })
+              (sound .stmtsProper);
           cursorsProper = sound .cursorsProper;
-          stmtOnce = put-once (λ t. t .live) (λ t. t .id) noStmt stored refl (s .stmts) (sound .stmtOnce);
+          stmtOnce = put-once isLiveStmt (λ t. t .id) noStmt stored refl (s .stmts) (sound .stmtOnce);
           cursorOnce = sound .cursorOnce;
-          carries = λ k. le-trans (sound .carries k) (put-more (λ t. t .live) (λ t. t .id) noStmt stored refl (s .stmts) k);
+          carries = λ k. le-trans (sound .carries k) (put-more isLiveStmt (λ t. t .id) noStmt stored refl (s .stmts) k);
+          flagged = sound .flagged;
           shut = λ e. absurd (true≢false (sym e ∙ unclosed));
         }
 
@@ -138,7 +157,7 @@ module _ {s : Session} (sound : Sound s) where
     still-carried k false e =
         let kept : howMany (isStmt k) left ≡ howMany (isStmt k) (s .stmts) =
         sum-changed-same (isStmt id) (λ t. noStmt) (λ t. one (isStmt k t))
-        (λ t h. ap one (sym (has-other (λ t. t .live) (λ t. t .id) t id k h e))) (s .stmts) in
+        (λ t h. ap one (sym (has-other isLiveStmt (λ t. t .id) t id k h e))) (s .stmts) in
         omega (arith, sound .carries k)
 
     freed-sound-on : Sound (withStmts s left)
@@ -151,15 +170,28 @@ module _ {s : Session} (sound : Sound s) where
           stmtOnce = λ k. le-trans (fewer (isStmt k) refl) (sound .stmtOnce k);
           cursorOnce = sound .cursorOnce;
           carries = λ k. still-carried k (eqb id k) refl;
-          shut = λ e. let l = sound .shut e in (omega (arith, l .0, fewer (λ t. t .live) refl), l .1);
+          flagged = sound .flagged;
+          shut = λ e. let l = sound .shut e in (omega (arith, l .0, fewer isLiveStmt refl), l .1);
         }
 
-  -- a fetch
+  -- the freed statement is the only one of its id
+  pub freed-as : (id : ℕ) → put (s .stmts) (stmtAt s id) noStmt ≡ changed (isStmt id) (λ t. noStmt) (s .stmts)
+  freed-as id = first-changed (isStmt id) (λ t. noStmt) noStmt (s .stmts) (sound .stmtOnce id)
+
+  -- a fetch: the cursor is the only one of its id
   module _ (id count : ℕ) where
+    pub fetched-as : fetched s id count ≡ withCursors s (changed (isCursor id) (raise count) (s .cursors))
+    fetched-as =
+        ap (withCursors s) (first-changed (isCursor id) (raise count) noCursor (s .cursors) (sound .cursorOnce id))
+
     raise-proper : (c : Cursor) → isCursor id c ≡ true → ProperCursor c → ProperCursor (raise count c)
     raise-proper c e l =
         record {
-          empty = λ h. absurd (true≢false (sym (and-true (c .live) (eqb (c .id) id) e .0) ∙ h));
+          empty = λ h. absurd (true≢false (sym (and-true (isLiveCursor c) (eqb (c .id) id) e .0) ∙ h));
+          flagged = l .flagged;
+          id = l .id;
+          stmt = l .stmt;
+          rows = l .rows;
           within = omega (arith, l .within);
         }
 
@@ -167,8 +199,8 @@ module _ {s : Session} (sound : Sound s) where
         howMany q (changed (isCursor id) (raise count) (s .cursors)) ≡ howMany q (s .cursors)
     same-count q h = sum-changed-same (isCursor id) (raise count) (λ c. one (q c)) (λ c e. ap one (h c)) (s .cursors)
 
-    pub fetched-sound : Sound (fetched s id count)
-    fetched-sound =
+    raised-sound : Sound (withCursors s (changed (isCursor id) (raise count) (s .cursors)))
+    raised-sound =
         record {
           stmtPlaces = sound .stmtPlaces;
           cursorPlaces = length-map (s .cursors) _ ∙ sound .cursorPlaces;
@@ -177,8 +209,12 @@ module _ {s : Session} (sound : Sound s) where
           stmtOnce = sound .stmtOnce;
           cursorOnce = λ k. omega (arith, sound .cursorOnce k, same-count (isCursor k) (λ c. refl));
           carries = λ k. omega (arith, sound .carries k, same-count (onStmt k) (λ c. refl));
-          shut = λ e. let l = sound .shut e in (l .0, omega (arith, l .1, same-count (λ c. c .live) (λ c. refl)));
+          flagged = sound .flagged;
+          shut = λ e. let l = sound .shut e in (l .0, omega (arith, l .1, same-count isLiveCursor (λ c. refl)));
         }
+
+    pub fetched-sound : Sound (fetched s id count)
+    fetched-sound = subst Sound (sym fetched-as) raised-sound
 
   -- everything ends
   no-stmt : (q : Stmt → Bool) → q noStmt ≡ false → howMany q (changed always (λ t. noStmt) (s .stmts)) ≡ 0
@@ -187,8 +223,8 @@ module _ {s : Session} (sound : Sound s) where
   no-cursor : (q : Cursor → Bool) → q noCursor ≡ false → howMany q (ends always (s .cursors)) ≡ 0
   no-cursor q e = sum-changed-none always (λ c. noCursor) (λ c. one (q c)) (λ c h. ap one e) (λ c h. absurd (true≢false h)) (s .cursors)
 
-  pub emptied-sound : (close : Bool) → Sound (emptied s close)
-  emptied-sound close =
+  emptied-sound : (closed : ℕ) → closed ≤ 1 → Sound (withClosed (reset s) closed)
+  emptied-sound closed h =
       record {
         stmtPlaces = length-map (s .stmts) _ ∙ sound .stmtPlaces;
         cursorPlaces = length-map (s .cursors) _ ∙ sound .cursorPlaces;
@@ -197,17 +233,18 @@ module _ {s : Session} (sound : Sound s) where
         stmtOnce = λ k. omega (arith, no-stmt (isStmt k) refl);
         cursorOnce = λ k. omega (arith, no-cursor (isCursor k) refl);
         carries = λ k. omega (arith, no-cursor (onStmt k) refl);
-        shut = λ e. (no-stmt (λ t. t .live) refl, no-cursor (λ c. c .live) refl);
+        flagged = h;
+        shut = λ e. (no-stmt isLiveStmt refl, no-cursor isLiveCursor refl);
       }
 
   pub reset-sound : Sound (reset s)
-  reset-sound = emptied-sound false
+  reset-sound = emptied-sound (s .closed) (sound .flagged)
 
   pub closedNow-sound : Sound (closedNow s)
-  closedNow-sound = emptied-sound true
+  closedNow-sound = emptied-sound 1 (omega arith)
 
   -- a cursor is opened
-  module _ (id stmt rows sent : ℕ) (can : Openable s id stmt) (few : sent ≤ rows) where
+  module _ (id stmt rows sent : ℕ) (can : Openable s id stmt) (few : sent ≤ rows) (small : Small id stmt rows) where
     abbrev new : Cursor
     new = newCursor id stmt rows sent
 
@@ -227,8 +264,8 @@ module _ {s : Session} (sound : Sound s) where
             let l = found (onStmt stmt) noCursor (s .cursors) i h in
             let c : Cursor = getD (s .cursors) i noCursor in
             let it : carried s stmt ≡ c = ap (λ x. entryAt (s .cursors) x noCursor) h in
-            let alive : c .live ≡ true = and-true (c .live) (eqb (c .stmt) stmt) (l .passing) .0 in
-            let named : c .id ≡ id = sym (ap (λ y. y .id) it) ∙ can .sole (ap (λ y. y .live) it ∙ alive) in
+            let alive : isLiveCursor c ≡ true = and-true (isLiveCursor c) (eqb (c .stmt) stmt) (l .passing) .0 in
+            let named : c .id ≡ id = sym (ap (λ y. y .id) it) ∙ can .sole (ap isLiveCursor it ∙ alive) in
             let own : other c ≡ false = ap (λ b. b && not (eqb (c .id) id)) (l .passing) ∙ ap not (eq-eqb (c .id) id named) in
             omega (
               arith,
@@ -247,14 +284,14 @@ module _ {s : Session} (sound : Sound s) where
     now = put (s .cursors) (cursorPlace s id) new
 
     once : (k : ℕ) → howMany (isCursor k) now ≤ 1
-    once = put-once (λ c. c .live) (λ c. c .id) noCursor new refl (s .cursors) (sound .cursorOnce)
+    once = put-once isLiveCursor (λ c. c .id) noCursor new refl (s .cursors) (sound .cursorOnce)
 
     one-on : howMany (onStmt stmt) now ≤ 1
     one-on =
         omega (
           arith,
           sum-le (λ c. one (onStmt stmt c)) (λ c. one (isCursor id c) + one (other c))
-              (λ c. own-or-other (c .live) (eqb (c .stmt) stmt) (eqb (c .id) id)) now,
+              (λ c. own-or-other (isLiveCursor c) (eqb (c .stmt) stmt) (eqb (c .id) id)) now,
           sum-add (λ c. one (isCursor id c)) (λ c. one (other c)) now,
           once id,
           sum-put-le (λ c. one (other c)) new (s .cursors) (cursorPlace s id),
@@ -277,16 +314,28 @@ module _ {s : Session} (sound : Sound s) where
           stmtsProper = sound .stmtsProper;
           cursorsProper =
               all-put ProperCursor new (s .cursors) (cursorPlace s id)
-              (record { empty = λ e. absurd (true≢false e); within = few }) (sound .cursorsProper);
+              (record {
+                empty = λ e. absurd (true≢false e);
+                flagged = omega arith;
+                id = small .idSmall;
+                stmt = small .stmtSmall;
+                rows = small .rowsSmall;
+                within = few;
+              })
+              (sound .cursorsProper);
           stmtOnce = sound .stmtOnce;
           cursorOnce = once;
           carries = λ k. still-on k (eqb stmt k) refl;
-          shut = λ e. absurd (omega (arith, sound .shut e .0, stmt-live s stmt (can .live), count-le (isStmt stmt) (λ t. t .live) (λ t h. and-true (t .live) (eqb (t .id) stmt) h .0) (s .stmts)));
+          flagged = sound .flagged;
+          shut = λ e. absurd (omega (arith, sound .shut e .0, stmt-live s stmt (can .live), count-le (isStmt stmt) isLiveStmt (λ t h. and-true (isLiveStmt t) (eqb (t .id) stmt) h .0) (s .stmts)));
         }
 
 module _ {s : Session} (sound : Sound s) where
-  pub prepared-sound : (id placeholders : ℕ) → s .closed ≡ false → Sound (prepared s id placeholders)
-  prepared-sound id placeholders h = stored-sound (endedOn-sound sound id) id placeholders h
+  pub prepared-sound : (id placeholders : ℕ) → isClosed s ≡ false → placeholders ≤ maxPlaceholders → id ≤ maxNumber →
+      Sound (prepared s id placeholders)
+  prepared-sound id placeholders h few small = stored-sound (endedOn-sound sound id) id placeholders h few small
 
   pub freed-sound : (id : ℕ) → Sound (freed s id)
-  freed-sound id = freed-sound-on (endedOn-sound sound id) id (none-on s id)
+  freed-sound id =
+      subst (λ ts. Sound (withStmts (endedOn s id) ts)) (sym (freed-as sound id))
+      (freed-sound-on (endedOn-sound sound id) id (none-on s id))

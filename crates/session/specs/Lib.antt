@@ -1,5 +1,7 @@
 pub mod Lists
+pub mod Session
 pub mod Entry
 pub mod Tables
+pub mod Words
 pub mod Sound
-pub mod Numbers
+pub mod Search

@@ -1,5 +1,5 @@
--- What the rules of a table say of a list: the first place that passes a test, an entry put at a place, the entries that pass
--- changed, a sum over the entries.
+-- What the rules of a table say of a list: the first place that passes a test, an entry put at a place, the entries
+-- that pass changed, a sum over the entries.
 use Prim.Native.Nat.{ℕ, suc, _+_}
 use mathlib.Core.Bool.{Bool, true, cond}
 use mathlib.Core.List.{List, [], _∷_, map}

@@ -1,21 +1,35 @@
--- What every session that steps reach keeps (document 01, "Steps").
+-- What every session that steps reach keeps (S13).
 use Prim.Native.Nat.{ℕ, _≤_}
 use mathlib.Core.Bool.{true, false}
 use mathlib.Core.Path.{_≡_}
 use lib.ListN.{length}
 use Rattle.session.specs.declared.Stmt.{Stmt}
 use Rattle.session.specs.declared.Cursor.{Cursor}
-use Rattle.session.specs.declared.Session.{Session}
+use Rattle.session.specs.Session.{Session, isClosed}
 use Rattle.session.specs.Lists.{All, howMany}
-use Rattle.session.specs.Entry.{noStmt, noCursor, isStmt, isCursor, onStmt}
+use Rattle.session.specs.Entry.{noStmt, noCursor, isLiveStmt, isLiveCursor, isStmt, isCursor, onStmt}
 use Rattle.session.specs.Tables.{maxStmts, maxCursors, liveStmt, carried, stmtCount, cursorCount}
 
--- a free place holds the empty entry
+-- the largest id and count of rows, and of placeholders
+abbrev pub maxNumber : ℕ
+maxNumber = 4294967295
+
+abbrev pub maxPlaceholders : ℕ
+maxPlaceholders = 65535
+
+-- a free place holds the empty entry, a live one numbers within their limits
 pub record ProperStmt (t : Stmt) : Type 0 where
-  pub empty : t .live ≡ false → t ≡ noStmt
+  pub empty : isLiveStmt t ≡ false → t ≡ noStmt
+  pub flagged : t .live ≤ 1
+  pub id : t .id ≤ maxNumber
+  pub placeholders : t .placeholders ≤ maxPlaceholders
 
 pub record ProperCursor (c : Cursor) : Type 0 where
-  pub empty : c .live ≡ false → c ≡ noCursor
+  pub empty : isLiveCursor c ≡ false → c ≡ noCursor
+  pub flagged : c .live ≤ 1
+  pub id : c .id ≤ maxNumber
+  pub stmt : c .stmt ≤ maxNumber
+  pub rows : c .rows ≤ maxNumber
   -- no more rows are sent than were reported
   pub within : c .sent ≤ c .rows
 
@@ -29,10 +43,11 @@ pub record Sound (s : Session) : Type 0 where
   pub cursorOnce : (id : ℕ) → howMany (isCursor id) (s .cursors) ≤ 1
   -- a cursor's statement is live, and carries no other cursor
   pub carries : (id : ℕ) → howMany (onStmt id) (s .cursors) ≤ howMany (isStmt id) (s .stmts)
+  pub flagged : s .closed ≤ 1
   -- a closed session has no live entry
-  pub shut : s .closed ≡ true → (stmtCount s ≡ 0) × (cursorCount s ≡ 0)
+  pub shut : isClosed s ≡ true → (stmtCount s ≡ 0) × (cursorCount s ≡ 0)
 
 -- a cursor of this id may be opened on the statement: it is live, and carries no cursor of another id
 pub record Openable (s : Session) (id stmt : ℕ) : Type 0 where
-  pub live : liveStmt s stmt .live ≡ true
-  pub sole : carried s stmt .live ≡ true → carried s stmt .id ≡ id
+  pub live : isLiveStmt (liveStmt s stmt) ≡ true
+  pub sole : isLiveCursor (carried s stmt) ≡ true → carried s stmt .id ≡ id

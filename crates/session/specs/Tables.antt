@@ -1,15 +1,15 @@
--- What an operation does to the tables of a session (document 01, "Steps", "Endings"). Where a table is full, or an id is not
--- live, that table stays as it is: refusals are decided before.
+-- What an operation does to the tables of a session (S4 to S11, E1). Where a table is full, or an id is not live, that
+-- table stays as it is: refusals are decided before.
 use Prim.Native.Nat.{ℕ}
-use mathlib.Core.Bool.{Bool, false, true, _||_}
+use mathlib.Core.Bool.{Bool}
 use mathlib.Core.List.{List}
 use lib.ListN.{replicate}
 use Rattle.session.specs.declared.Stmt.{Stmt}
 use Rattle.session.specs.declared.Cursor.{Cursor}
-use Rattle.session.specs.declared.Session.{Session}
 use Rattle.session.specs.declared.Place.{Place}
+use Rattle.session.specs.Session.{Session, withStmts, withCursors, withClosed}
 use Rattle.session.specs.Lists.{first, put, entryAt, changed, always, sumBy, howMany, orPlace}
-use Rattle.session.specs.Entry.{noStmt, noCursor, newStmt, newCursor, isStmt, freeStmt, isCursor, onStmt, freeCursor, raise, owes}
+use Rattle.session.specs.Entry.{noStmt, noCursor, newStmt, newCursor, isStmt, freeStmt, isCursor, onStmt, freeCursor, raise, owes, isLiveStmt, isLiveCursor}
 
 abbrev pub maxStmts : ℕ
 maxStmts = 64
@@ -18,7 +18,7 @@ abbrev pub maxCursors : ℕ
 maxCursors = 16
 
 abbrev pub fresh : Session
-fresh = record { stmts = replicate maxStmts noStmt; cursors = replicate maxCursors noCursor; closed = false }
+fresh = record { stmts = replicate maxStmts noStmt; cursors = replicate maxCursors noCursor; closed = 0 }
 
 -- the place of the live statement of an id
 abbrev pub stmtAt : Session → ℕ → Place
@@ -44,7 +44,7 @@ liveCursor s id = entryAt (s .cursors) (cursorAt s id) noCursor
 abbrev pub carried : Session → ℕ → Cursor
 carried s stmt = entryAt (s .cursors) (cursorOn s stmt) noCursor
 
--- "A new entry takes the lowest free place, freed ones included; a replaced id keeps its place."
+-- "A new entry takes the lowest free place, freed ones included; a replaced id keeps its place." (S3)
 abbrev pub stmtPlace : Session → ℕ → Place
 stmtPlace s id = orPlace (stmtAt s id) (first freeStmt (s .stmts) 0)
 
@@ -56,78 +56,67 @@ abbrev pub ends : (Cursor → Bool) → List Cursor → List Cursor
 ends p cs = changed p (λ c. noCursor) cs
 
 abbrev pub endedBy : (Cursor → Bool) → Session → Session
-endedBy p s = record { stmts = s .stmts; cursors = ends p (s .cursors); closed = s .closed }
+endedBy p s = withCursors s (ends p (s .cursors))
 
--- "Close: ends the cursor."
+-- "Close: ends the cursor." (S9)
 abbrev pub ended : Session → ℕ → Session
 ended s id = endedBy (isCursor id) s
 
--- "Execute: ends the statement's cursor."
+-- "Execute: ends the statement's cursor." (S5)
 abbrev pub endedOn : Session → ℕ → Session
 endedOn s stmt = endedBy (onStmt stmt) s
 
--- "Prepare: an id in use is replaced, and its cursor ends." At a place, and at the one that the id takes
+-- a statement, a cursor stored at a place
+abbrev pub storedStmt : Session → Place → Stmt → Session
+storedStmt s place t = withStmts s (put (s .stmts) place t)
+
+abbrev pub storedCursor : Session → Place → Cursor → Session
+storedCursor s place c = withCursors s (put (s .cursors) place c)
+
+-- "Prepare: an id in use is replaced, and its cursor ends." At a place, and at the one that the id takes (S4)
 abbrev pub preparedAt : Session → Place → ℕ → ℕ → Session
-preparedAt s place id placeholders =
-    record {
-      stmts = put (s .stmts) place (newStmt id placeholders);
-      cursors = ends (onStmt id) (s .cursors);
-      closed = s .closed;
-    }
+preparedAt s place id placeholders = storedStmt (endedOn s id) place (newStmt id placeholders)
 
 abbrev pub prepared : Session → ℕ → ℕ → Session
 prepared s id placeholders = preparedAt s (stmtPlace s id) id placeholders
 
--- "Deallocate: frees the statement, ends its cursor."
-abbrev pub freed : Session → ℕ → Session
-freed s id =
-    record {
-      stmts = changed (isStmt id) (λ t. noStmt) (s .stmts);
-      cursors = ends (onStmt id) (s .cursors);
-      closed = s .closed;
-    }
+-- "Deallocate: frees the statement, ends its cursor." At a place, and at the one where the statement stands (S6)
+abbrev pub freedAt : Session → Place → ℕ → Session
+freedAt s place id = storedStmt (endedOn s id) place noStmt
 
--- "Open: a cursor id in use ends first", and the new cursor takes its place. At a place, and at the one that the id takes
+abbrev pub freed : Session → ℕ → Session
+freed s id = freedAt s (stmtAt s id) id
+
+-- "Open: a cursor id in use ends first", and the new cursor takes its place. At a place, and at the one that the id
+-- takes (S7, S3)
 abbrev pub openedAt : Session → Place → ℕ → ℕ → ℕ → ℕ → Session
-openedAt s place id stmt rows sent =
-    record {
-      stmts = s .stmts;
-      cursors = put (s .cursors) place (newCursor id stmt rows sent);
-      closed = s .closed;
-    }
+openedAt s place id stmt rows sent = storedCursor s place (newCursor id stmt rows sent)
 
 abbrev pub opened : Session → ℕ → ℕ → ℕ → ℕ → Session
 opened s id stmt rows sent = openedAt s (cursorPlace s id) id stmt rows sent
 
--- "Fetch: the next min(fetch_rows, remaining) rows" of the live cursor of an id
+-- "Fetch: the next min(fetch_rows, remaining) rows" of the live cursor of an id. At a place, and where it stands
+abbrev pub fetchedAt : Session → Place → ℕ → Session
+fetchedAt s place count = storedCursor s place (raise count (entryAt (s .cursors) place noCursor))
+
 abbrev pub fetched : Session → ℕ → ℕ → Session
-fetched s id count =
-    record { stmts = s .stmts; cursors = changed (isCursor id) (raise count) (s .cursors); closed = s .closed }
+fetched s id count = fetchedAt s (cursorAt s id) count
 
--- everything ends, and the session is closed, or stays as it is
-abbrev pub emptied : Session → Bool → Session
-emptied s close =
-    record {
-      stmts = changed always (λ t. noStmt) (s .stmts);
-      cursors = ends always (s .cursors);
-      closed = close || s .closed;
-    }
-
--- "Reset: ends everything."
+-- "Reset: ends everything." (S10)
 abbrev pub reset : Session → Session
-reset s = emptied s false
+reset s = withStmts (withCursors s (ends always (s .cursors))) (changed always (λ t. noStmt) (s .stmts))
 
--- "Session close: the same, and the session is closed."
+-- "Session close: the same, and the session is closed." (S11)
 abbrev pub closedNow : Session → Session
-closedNow s = emptied s true
+closedNow s = withClosed (reset s) 1
 
--- "Owed is reported less sent, summed over the cursor table."
+-- "Owed is reported less sent, summed over the cursor table." (T8)
 abbrev pub owed : Session → ℕ
 owed s = sumBy owes (s .cursors)
 
 -- how many statements and cursors are live
 abbrev pub stmtCount : Session → ℕ
-stmtCount s = howMany (λ t. t .live) (s .stmts)
+stmtCount s = howMany isLiveStmt (s .stmts)
 
 abbrev pub cursorCount : Session → ℕ
-cursorCount s = howMany (λ c. c .live) (s .cursors)
+cursorCount s = howMany isLiveCursor (s .cursors)

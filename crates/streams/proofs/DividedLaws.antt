@@ -4,7 +4,7 @@ use native.Mathlib.Omega.{arith}
 use mathlib.Core.Path.{_≡_, refl, sym, ap, _∙_}
 use mathlib.Core.List.{List, [], _∷_, map}
 use lib.ListN.{length, getD, drop}
-use Rattle.session.specs.declared.Session.{Session}
+use Rattle.session.specs.Session.{Session}
 use Rattle.session.specs.Lists.{All}
 use Rattle.rules.specs.declared.Report.{Report}
 use Rattle.rules.specs.Step.{stepOf}
@@ -37,9 +37,9 @@ steps-alike (i ∷ is) (j ∷ js) s f r a b =
     let same =
     step-alike s i j (ap (λ (l : List (List ℕ)). getD l 0 []) f) (ap (λ (l : List Report). getD l 0 (i .report)) r)
     (a .0) (b .0) in
-    ap (λ (o : Outcome). o ∷ map outcome (run (x .back .session) is)) same
+    ap (λ (o : Outcome). o ∷ map outcome (run (x .session) is)) same
     ∙ ap (λ (os : List Outcome). outcome y ∷ os)
-    (steps-alike is js (x .back .session) (ap (drop 1) f) (ap (drop 1) r) (a .1) (b .1))
+    (steps-alike is js (x .session) (ap (drop 1) f) (ap (drop 1) r) (a .1) (b .1))
     ∙ ap (λ (o : Outcome). outcome y ∷ map outcome (run (o .session) js)) same
 
 same : (x y : Reading) → ReadAlike x y → Same x y

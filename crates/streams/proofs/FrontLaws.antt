@@ -1,21 +1,21 @@
 -- What stands first in some bytes is told by the first of them: more bytes behind change neither a whole frame nor a
 -- bad length. Assumes nothing.
-use Prim.Native.Nat.{ℕ, zero, suc, _+_, _*_, _≤_, _<_}
+use Prim.Native.Nat.{ℕ, zero, suc, _+_, _*_, _≤_}
 use native.Mathlib.Omega.{arith}
 use mathlib.Core.Bool.{Bool, true, false, cond}
 use mathlib.Core.Path.{_≡_, refl, sym, ap, ap₂, _∙_}
-use mathlib.Core.List.{List, [], _∷_, _++_, append-nil}
+use mathlib.Core.List.{List, [], _++_, append-nil}
 use mathlib.Core.Logic.{_⊎_, inl, inr, ⊎-elim}
 use lib.ListN.{length, getD, take, drop, length-append, length-take, take-append-drop, List·getD-append}
 use lib.Seq.{getD-take, take-take, take-append-seam, length-take-le}
 use lib.Dec.{leb, ltb, eqb}
 use borrow.Author.Tests.{lt-ltb, le-ltb, le-leb, eq-eqb, ne-eqb, leb-true, ltb-true, ltb-false, eqb-true, eqb-false}
+use Rattle.protocol.specs.Reason as Reason
 use Rattle.varint.proofs.PastLaws.{both}
 use Rattle.scalar.specs.Fixed.{little}
 use Rattle.message.specs.declared.head.Head.{Head}
-use Rattle.message.specs.Head.{headOf, lengthOf, maxLength}
-use Rattle.message.specs.Numbers.{headReason}
-use Rattle.streams.specs.Reader.{lengthBytes, waitForMore, badLength, standsFirst, badFirst}
+use Rattle.message.specs.Head.{lengthBytes, headOf, lengthOf, maxLength, headReason}
+use Rattle.streams.specs.Reader.{standsFirst, badFirst}
 use Rattle.streams.specs.ReaderRules.{kept, WholeFirst, BadFirst, Whole}
 
 -- ---- the head, case by case
@@ -28,38 +28,41 @@ pub record Stands (b : List ℕ) (kind end : ℕ) : Type 0 where
 
 -- none stands first: why
 pub record Declines (b : List ℕ) (reason : ℕ) : Type 0 where
-  pub known : (reason ≡ waitForMore) ⊎ (reason ≡ badLength)
-  pub bad : reason ≡ badLength → BadFirst b
+  pub known : (reason ≡ Reason.notAllThere) ⊎ (reason ≡ Reason.badLength)
+  pub bad : reason ≡ Reason.badLength → BadFirst b
 
 abbrev Says : List ℕ → Head → Type 0
 Says b (Head.Frame kind end) = Stands b kind end
 Says b (Head.Refused reason) = Declines b reason
 
-waits : (b : List ℕ) → Declines b waitForMore
+waits : (b : List ℕ) → Declines b Reason.notAllThere
 waits b = record { known = inl refl; bad = λ e. absurd (omega arith) }
 
-is-refused : (b : List ℕ) → BadFirst b → Declines b badLength
+is-refused : (b : List ℕ) → BadFirst b → Declines b Reason.badLength
 is-refused b w = record { known = inr refl; bad = λ _. w }
 
 head-says : (b : List ℕ) → Says b (headOf b)
 head-says b =
-    both (Says b) (leb 4 (length b)) _ _
+    both (Says b) (leb lengthBytes (length b)) _ _
     (λ l.
     both (Says b) (eqb (lengthOf b) 0) _ _
-    (λ e. is-refused b (record { known = leb-true 4 (length b) l; bad = inl (eqb-true (lengthOf b) 0 e) }))
+    (λ e. is-refused b (record { known = leb-true lengthBytes (length b) l; bad = inl (eqb-true (lengthOf b) 0 e) }))
     (λ e.
     both (Says b) (ltb maxLength (lengthOf b)) _ _
-    (λ g. is-refused b (record { known = leb-true 4 (length b) l; bad = inr (ltb-true maxLength (lengthOf b) g) }))
+    (λ g. is-refused b (record {
+      known = leb-true lengthBytes (length b) l;
+      bad = inr (ltb-true maxLength (lengthOf b) g);
+    }))
     (λ g.
-    both (Says b) (ltb (length b) (4 + lengthOf b)) _ _ (λ _. waits b)
+    both (Says b) (ltb (length b) (lengthBytes + lengthOf b)) _ _ (λ _. waits b)
     (λ h.
     record {
       first =
           record {
-            known = leb-true 4 (length b) l;
+            known = leb-true lengthBytes (length b) l;
             some = omega (arith, eqb-false (lengthOf b) 0 e);
             small = ltb-false maxLength (lengthOf b) g;
-            there = ltb-false (length b) (4 + lengthOf b) h;
+            there = ltb-false (length b) (lengthBytes + lengthOf b) h;
           };
       type = refl;
       ends = refl;
@@ -73,24 +76,24 @@ pub refused-told : (b : List ℕ) {reason : ℕ} → headOf b ≡ Head.Refused r
 refused-told b {reason} e = rw e at (head-says b)
 
 -- a refusal is not 0
-pub refused-some : (b : List ℕ) {reason : ℕ} → headOf b ≡ Head.Refused reason → reason ≡ 0 → ⊥
+pub refused-some : (b : List ℕ) {reason : ℕ} → headOf b ≡ Head.Refused reason → reason ≡ Reason.accepted → ⊥
 refused-some b e z = ⊎-elim (λ f. omega arith) (λ f. omega arith) (refused-told b e .known)
 
 pub frame-known : (b : List ℕ) → WholeFirst b → headOf b ≡ Head.Frame (getD b lengthBytes 0) (lengthBytes + lengthOf b)
 frame-known b w =
     simp (
-      le-leb 4 (length b) (w .known),
+      le-leb lengthBytes (length b) (w .known),
       ne-eqb (lengthOf b) 0 (λ z. omega (arith, w .some)),
       le-ltb maxLength (lengthOf b) (w .small),
-      le-ltb (length b) (4 + lengthOf b) (w .there),
+      le-ltb (length b) (lengthBytes + lengthOf b) (w .there),
     )
 
-pub bad-known : (b : List ℕ) → BadFirst b → headOf b ≡ Head.Refused badLength
+pub bad-known : (b : List ℕ) → BadFirst b → headOf b ≡ Head.Refused Reason.badLength
 bad-known b w =
-    ⊎-elim (λ e. simp (le-leb 4 (length b) (w .known), eq-eqb (lengthOf b) 0 e))
+    ⊎-elim (λ e. simp (le-leb lengthBytes (length b) (w .known), eq-eqb (lengthOf b) 0 e))
     (λ g.
     simp (
-      le-leb 4 (length b) (w .known),
+      le-leb lengthBytes (length b) (w .known),
       ne-eqb (lengthOf b) 0 (λ z. omega arith),
       lt-ltb maxLength (lengthOf b) g,
     ))
@@ -103,7 +106,7 @@ unfolding standsFirst
 first-is b e = ap headReason e
 
 -- where no whole frame stands first, the head is a refusal
-pub refusal : (b : List ℕ) → (standsFirst b ≡ 0 → ⊥) → headOf b ≡ Head.Refused (standsFirst b)
+pub refusal : (b : List ℕ) → (standsFirst b ≡ Reason.accepted → ⊥) → headOf b ≡ Head.Refused (standsFirst b)
 refusal b none = go (headOf b) refl
   where
     go : (h : Head) → headOf b ≡ h → headOf b ≡ Head.Refused (standsFirst b)
@@ -111,27 +114,27 @@ refusal b none = go (headOf b) refl
     go (Head.Refused reason) e = e ∙ ap Head.Refused (sym (first-is b e))
 
 pub is-bad : (b : List ℕ) → BadFirst b → badFirst b ≡ true
-is-bad b w = eq-eqb (standsFirst b) badLength (first-is b (bad-known b w))
+is-bad b w = eq-eqb (standsFirst b) Reason.badLength (first-is b (bad-known b w))
 
 pub bad-told : (b : List ℕ) → badFirst b ≡ true → BadFirst b
-bad-told b t = go (headOf b) refl (eqb-true (standsFirst b) badLength t)
+bad-told b t = go (headOf b) refl (eqb-true (standsFirst b) Reason.badLength t)
   where
-    go : (h : Head) → headOf b ≡ h → standsFirst b ≡ badLength → BadFirst b
+    go : (h : Head) → headOf b ≡ h → standsFirst b ≡ Reason.badLength → BadFirst b
     go (Head.Frame kind end) e f = absurd (omega (arith, first-is b e))
     go (Head.Refused reason) e f = refused-told b e .bad (sym (first-is b e) ∙ f)
 
-pub whole-told : (b : List ℕ) → standsFirst b ≡ 0 → WholeFirst b
+pub whole-told : (b : List ℕ) → standsFirst b ≡ Reason.accepted → WholeFirst b
 whole-told b z = go (headOf b) refl
   where
     go : (h : Head) → headOf b ≡ h → WholeFirst b
     go (Head.Frame kind end) e = frame-told b e .first
     go (Head.Refused reason) e = absurd (refused-some b e (sym (first-is b e) ∙ z))
 
-pub refused-none : (b : List ℕ) {reason : ℕ} → headOf b ≡ Head.Refused reason → standsFirst b ≡ 0 → ⊥
+pub refused-none : (b : List ℕ) {reason : ℕ} → headOf b ≡ Head.Refused reason → standsFirst b ≡ Reason.accepted → ⊥
 refused-none b e z = refused-some b e (sym (first-is b e) ∙ z)
 
 pub frame-good : (b : List ℕ) {kind end : ℕ} → headOf b ≡ Head.Frame kind end → badFirst b ≡ false
-frame-good b e = ne-eqb (standsFirst b) badLength (λ z. omega (arith, first-is b e))
+frame-good b e = ne-eqb (standsFirst b) Reason.badLength (λ z. omega (arith, first-is b e))
 
 -- ---- the first bytes of some
 
@@ -142,7 +145,7 @@ little-take (suc k) n b at h =
     ap₂ (λ (x y : ℕ). x + 256 * y) (getD-take n b at 0 (omega arith)) (little-take k n b (at + 1) (omega arith))
 
 length-of-take : (n : ℕ) (b : List ℕ) → lengthBytes ≤ n → lengthOf (take n b) ≡ lengthOf b
-length-of-take n b h = little-take 4 n b 0 (omega arith)
+length-of-take n b h = little-take lengthBytes n b 0 (omega arith)
 
 length-of-more : (a c : List ℕ) → lengthBytes ≤ length a → lengthOf (a ++ c) ≡ lengthOf a
 length-of-more a c h = sym (length-of-take (length a) (a ++ c) h) ∙ ap lengthOf (take-append-seam a c)
@@ -155,7 +158,7 @@ frame-more a c e =
     let same = length-of-more a c (s .first .known) in
     let long = length-append a c in
     frame-known (a ++ c) (record { known = omega arith; some = omega arith; small = omega arith; there = omega arith })
-    ∙ ap₂ Head.Frame (List·getD-append a c 0 4 (omega arith) ∙ sym (s .type)) (omega arith)
+    ∙ ap₂ Head.Frame (List·getD-append a c 0 lengthBytes (omega arith) ∙ sym (s .type)) (omega arith)
 
 pub frame-whole : (b : List ℕ) {kind end : ℕ} → headOf b ≡ Head.Frame kind end → Whole (take end b)
 frame-whole b {kind} {end} e =
@@ -180,7 +183,9 @@ bad-more a c t =
 pub bad-four : (b : List ℕ) → badFirst b ≡ true → badFirst (take lengthBytes b) ≡ true
 bad-four b t =
     let w = bad-told b t in
-    is-bad (take 4 b) (bad-as b (take 4 b) (omega (arith, length-take 4 b)) (length-of-take 4 b (omega arith)) w)
+    let four = take lengthBytes b in
+    is-bad four
+    (bad-as b four (omega (arith, length-take lengthBytes b)) (length-of-take lengthBytes b (omega arith)) w)
 
 -- ---- what is kept, and what is dropped
 

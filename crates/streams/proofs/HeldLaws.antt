@@ -1,33 +1,33 @@
 -- One push and one next_frame, told by the bytes held alone: the held bytes are always a part of the store, and what
 -- is written behind them, or moved to the front with them, leaves them as they were. Assumes nothing.
-use Prim.Native.Nat.{ℕ, zero, suc, _+_, _-_, _≤_, _<_, min}
-use native.Mathlib.Nat.{add-zero}
+use Prim.Native.Nat.{ℕ, _+_, _-_, _≤_, _<_}
 use native.Mathlib.Omega.{arith}
 use mathlib.Core.Bool.{Bool, true, false, cond, _&&_, true≢false}
 use mathlib.Core.Path.{_≡_, refl, sym, ap, subst, _∙_}
-use mathlib.Core.List.{List, [], _++_}
+use mathlib.Core.List.{List, _++_}
 use mathlib.Core.Logic.{_⊎_, inl, inr, ⊎-elim}
-use lib.ListN.{length, take, drop, length-append, length-take, length-drop}
+use lib.ListN.{length, take, drop, length-append, length-drop}
 use lib.Seq.{length-take-le, take-take, take-add, drop-drop, drop-append-le, take-at, drop-at}
 use lib.Dec.{leb, eqb}
 use borrow.Author.Tests.{le-leb, lt-leb, leb-true, leb-false, eq-eqb, ne-eqb, eqb-true, eqb-false}
+use Rattle.protocol.specs.Reason as Reason
 use Rattle.varint.specs.Put.{written}
 use Rattle.varint.proofs.PastLaws.{both}
 use Rattle.varint.proofs.PutLaws.{length-written}
 use Rattle.args.proofs.PartLaws.{yes, no}
 use Rattle.message.specs.declared.head.Head.{Head}
-use Rattle.message.specs.Head.{headOf, lengthOf, maxLength}
+use Rattle.message.specs.Head.{lengthBytes, headOf, lengthOf, maxLength}
 use Rattle.streams.specs.declared.Reader.{Reader}
 use Rattle.streams.specs.declared.NextFrame.{NextFrame}
-use Rattle.streams.specs.Reader.{Push, storeSize, lengthBytes, waitForMore, badLength, standsFirst, badFirst}
+use Rattle.streams.specs.Reader.{Push, storeSize, standsFirst, badFirst}
 use Rattle.streams.specs.Reader.{reader, startOver, between, part, isPart, usable, held, settled, takenCount}
-use Rattle.streams.specs.Reader.{fitsBehind, readerFor, storeFor, pushedTo, behind, pushOn, pushAt, pushOf}
-use Rattle.streams.specs.Reader.{nextBy, nextAt, nextOf}
-use Rattle.streams.specs.ReaderRules.{kept, Pushes, PushesBehind, frameAt, HandsOut, HandsNone, Hands}
+use Rattle.streams.specs.Reader.{fitsBehind, readerFor, storeFor, behind, pushOn, pushAt, pushOf}
+use Rattle.streams.specs.Reader.{nextBy, nextOf}
+use Rattle.streams.specs.ReaderRules.{kept, PushesBehind, Hands}
 use Rattle.streams.specs.ReaderRules.{HandsFirst, Alike, PushesAlike, HandsAlike, HeldDecides, WholeFirst}
-use Rattle.streams.specs.ReaderRules.{BadFirst, Reasons, WaitsExactly, TakesAll, WaitHasRoom}
-use Rattle.streams.proofs.FrontLaws.{first-is, frame-told, frame-known, bad-known, refused-told, refusal}
-use Rattle.streams.proofs.FrontLaws.{whole-told, bad-told, is-bad, bad-four, kept-bad, kept-good, kept-both}
+use Rattle.streams.specs.ReaderRules.{BadFirst, WaitsExactly, TakesAll, WaitHasRoom}
+use Rattle.streams.proofs.FrontLaws.{first-is, frame-told, frame-known, bad-known, refused-told}
+use Rattle.streams.proofs.FrontLaws.{whole-told, bad-told, bad-four, kept-bad, kept-good, kept-both}
 
 -- ---- the bytes from one place up to another
 
@@ -122,8 +122,7 @@ module _ (store : List ℕ) (r : Reader) (p : Part store r) where
 
   pub settled-held : held store (settled store r) ≡ kept (part store r)
   settled-held =
-      both (λ q. held store q ≡ kept (part store r)) (badFirst (part store r))
-      (reader (r .start) (r .start + lengthBytes)) r
+      both (λ q. held store q ≡ kept (part store r)) (badFirst (part store r)) _ _
       (λ t.
       let h = four-there t in
       let e : r .start + lengthBytes - r .start ≡ lengthBytes = omega arith in
@@ -138,8 +137,8 @@ module _ (store : List ℕ) (r : Reader) (p : Part store r) where
 pub stands-kept : (b : List ℕ) → standsFirst b ≡ standsFirst (kept b)
 stands-kept b =
     kept-both (λ l. standsFirst b ≡ standsFirst l) b
-    (λ t. eqb-true (standsFirst b) badLength t
-    ∙ sym (eqb-true (standsFirst (take lengthBytes b)) badLength (bad-four b t))) (λ _. refl)
+    (λ t. eqb-true (standsFirst b) Reason.badLength t
+    ∙ sym (eqb-true (standsFirst (take lengthBytes b)) Reason.badLength (bad-four b t))) (λ _. refl)
 
 -- ---- a push
 
@@ -318,13 +317,13 @@ held-decides =
 -- ---- the three reasons
 
 module _ (b : List ℕ) where
-  whole-is : WholeFirst b → standsFirst b ≡ 0
+  whole-is : WholeFirst b → standsFirst b ≡ Reason.accepted
   whole-is w = first-is b (frame-known b w)
 
-  bad-is : BadFirst b → standsFirst b ≡ badLength
+  bad-is : BadFirst b → standsFirst b ≡ Reason.badLength
   bad-is w = first-is b (bad-known b w)
 
-  neither : (h : Head) → headOf b ≡ h → (WholeFirst b → ⊥) → (BadFirst b → ⊥) → standsFirst b ≡ waitForMore
+  neither : (h : Head) → headOf b ≡ h → (WholeFirst b → ⊥) → (BadFirst b → ⊥) → standsFirst b ≡ Reason.notAllThere
   neither (Head.Frame kind end) e whole bad = absurd (whole (frame-told b e .first))
   neither (Head.Refused reason) e whole bad =
       ⊎-elim (λ z. first-is b e ∙ z) (λ z. absurd (bad (refused-told b e .bad z))) (refused-told b e .known)
@@ -333,7 +332,7 @@ pub waits-exactly : WaitsExactly
 waits-exactly b =
     record {
       whole = (whole-told b, whole-is b);
-      bad = ((λ z. bad-told b (eq-eqb (standsFirst b) badLength z)), bad-is b);
+      bad = ((λ z. bad-told b (eq-eqb (standsFirst b) Reason.badLength z)), bad-is b);
       wait = (
         (λ z. ((λ w. omega (arith, whole-is b w)), (λ w. omega (arith, bad-is b w)))),
         (λ w. neither b (headOf b) refl (w .0) (w .1)),
@@ -362,7 +361,7 @@ full-decides b long whole bad = go (eqb (lengthOf b) 0) refl (leb (lengthOf b) m
               omega arith;
         })
 
-wait-short : (b : List ℕ) → standsFirst b ≡ waitForMore → length b < storeSize
+wait-short : (b : List ℕ) → standsFirst b ≡ Reason.notAllThere → length b < storeSize
 wait-short b e = go (leb storeSize (length b)) refl
   where
     go : (t : Bool) → leb storeSize (length b) ≡ t → length b < storeSize
@@ -399,5 +398,5 @@ takes-all r arrival store good =
 pub wait-has-room : WaitHasRoom
 wait-has-room r arrival store size e some =
     let b = held store r in
-    let good = ne-eqb (standsFirst b) badLength (λ y. omega (arith, e)) in
+    let good = ne-eqb (standsFirst b) Reason.badLength (λ y. omega (arith, e)) in
     ⊎-elim (λ z. omega arith) (λ z. omega (arith, wait-short b e)) (takes-all r arrival store good)

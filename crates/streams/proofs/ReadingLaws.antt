@@ -9,12 +9,13 @@ use mathlib.Core.Logic.{inl, ⊎-elim}
 use lib.ListN.{length, take, drop, replicate, length-take, length-drop}
 use lib.Seq.{take-all, take-length}
 use borrow.Author.Tests.{eq-eqb, ne-eqb, eqb-true}
+use Rattle.protocol.specs.Reason as Reason
 use Rattle.session.specs.Lists.{All}
 use Rattle.message.specs.declared.head.Head.{Head}
-use Rattle.message.specs.Head.{headOf}
+use Rattle.message.specs.Head.{lengthBytes, headOf}
 use Rattle.streams.specs.declared.Reader.{Reader}
 use Rattle.streams.specs.declared.NextFrame.{NextFrame}
-use Rattle.streams.specs.Reader.{Push, lengthBytes, badLength, standsFirst, badFirst, startOver, isPart, part}
+use Rattle.streams.specs.Reader.{Push, standsFirst, badFirst, startOver, isPart, part}
 use Rattle.streams.specs.Reader.{held}
 use Rattle.streams.specs.Reader.{pushOf, nextOf}
 use Rattle.streams.specs.ReaderRules.{kept, frameAt, Pushes, Hands, HandsNone, Whole}
@@ -84,14 +85,17 @@ module _ (x : Reading) (arrival : List ℕ) (after : Push) (p : Pushes (x .reade
 
 -- ---- one next_frame
 
-frame-added : (x : Reading) (next : NextFrame) → next .reason ≡ 0 →
+frame-added : (x : Reading) (next : NextFrame) → next .reason ≡ Reason.accepted →
     handedBy x next .frames ≡ x .frames ++ (frameAt (x .store) next ∷ [])
 frame-added x next e =
-    ap (λ (b : Bool). cond b (x .frames ++ (frameAt (x .store) next ∷ [])) (x .frames)) (eq-eqb (next .reason) 0 e)
+    ap (λ (b : Bool). cond b (x .frames ++ (frameAt (x .store) next ∷ [])) (x .frames))
+    (eq-eqb (next .reason) Reason.accepted e)
 
-none-added : (x : Reading) (next : NextFrame) → (next .reason ≡ 0 → ⊥) → handedBy x next .frames ≡ x .frames
+none-added : (x : Reading) (next : NextFrame) → (next .reason ≡ Reason.accepted → ⊥) →
+    handedBy x next .frames ≡ x .frames
 none-added x next e =
-    ap (λ (b : Bool). cond b (x .frames ++ (frameAt (x .store) next ∷ [])) (x .frames)) (ne-eqb (next .reason) 0 e)
+    ap (λ (b : Bool). cond b (x .frames ++ (frameAt (x .store) next ∷ [])) (x .frames))
+    (ne-eqb (next .reason) Reason.accepted e)
 
 handed-sound : (x : Reading) (next : NextFrame) (h : Head) → headOf (left x) ≡ h →
     Hands (x .reader) (x .store) next h → Sound x →
@@ -222,7 +226,7 @@ pub frames-arrive : FramesArrive
 frames-arrive fs w store os o none = parts (offered-to (joined fs) store os o none ∙ whole-stream fs w)
 
 module _ (x : Reading) (s : Stuck x) where
-  none-handed : HandsNone (x .reader) (x .store) badLength (nextOf (x .reader) (x .store))
+  none-handed : HandsNone (x .reader) (x .store) Reason.badLength (nextOf (x .reader) (x .store))
   none-handed = rw (bad-known (left x) (bad-told (left x) (s .bad))) at (hands-first (x .reader) (x .store))
 
   push-unmoved : (arrival : List ℕ) → Unmoved x (operate (push arrival) x)
@@ -252,7 +256,7 @@ module _ (x : Reading) (s : Stuck x) where
             let p = pushes-behind (x .reader) arrival (x .store) in
             p .reason
             ∙ ap standsFirst (none-pushed x arrival (pushOf (x .reader) arrival (x .store)) p (s .settled) (s .bad))
-            ∙ eqb-true (standsFirst (left x)) badLength (s .bad);
+            ∙ eqb-true (standsFirst (left x)) Reason.badLength (s .bad);
         count = λ arrival.
             none-taken (x .reader) arrival (x .store) (pushOf (x .reader) arrival (x .store))
             (pushes-behind (x .reader) arrival (x .store)) (s .bad);

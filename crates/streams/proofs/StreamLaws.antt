@@ -8,11 +8,12 @@ use mathlib.Core.List.{List, [], _∷_, _++_, append-nil, append-assoc}
 use lib.ListN.{length, take, drop, length-append, length-take, length-drop, take-append-drop}
 use lib.Seq.{take-append-le, take-append-seam, drop-append-seam}
 use borrow.Author.Tests.{eqb-true}
+use Rattle.protocol.specs.Reason as Reason
 use Rattle.session.specs.Lists.{All}
 use Rattle.history.proofs.ListLaws.{all-append}
 use Rattle.message.specs.declared.head.Head.{Head}
-use Rattle.message.specs.Head.{headOf}
-use Rattle.streams.specs.Reader.{lengthBytes, badLength, standsFirst, badFirst}
+use Rattle.message.specs.Head.{lengthBytes, headOf}
+use Rattle.streams.specs.Reader.{standsFirst, badFirst}
 use Rattle.streams.specs.ReaderRules.{kept, Whole}
 use Rattle.streams.specs.Stream.{joined, Stream, also, streamBy, streamFrom, stream, lessDropped}
 use Rattle.streams.proofs.FrontLaws.{frame-told, refusal, bad-told, whole-told, refused-none, frame-good}
@@ -108,12 +109,14 @@ module _ {fs : List (List ℕ)} {l t : List ℕ} (h : Holds fs l t) where
 
 -- ---- they are what the bytes come to
 
-none-first : (n : ℕ) (b : List ℕ) → (standsFirst b ≡ 0 → ⊥) → streamFrom n b ≡ record { frames = []; left = kept b }
+none-first : (n : ℕ) (b : List ℕ) → (standsFirst b ≡ Reason.accepted → ⊥) →
+    streamFrom n b ≡ record { frames = []; left = kept b }
 unfolding streamFrom
 none-first zero b none = refl
 none-first (suc n) b none = ap (streamBy (streamFrom n) b) (refusal b none)
 
-frames-first : (fs : List (List ℕ)) (n : ℕ) → All Whole fs → length fs ≤ n → (b : List ℕ) → (standsFirst b ≡ 0 → ⊥) →
+frames-first : (fs : List (List ℕ)) (n : ℕ) → All Whole fs → length fs ≤ n → (b : List ℕ) →
+    (standsFirst b ≡ Reason.accepted → ⊥) →
     streamFrom n (joined fs ++ b) ≡ record { frames = fs; left = kept b }
 unfolding joined streamFrom All
 frames-first [] n w h b none = none-first n b none
@@ -127,10 +130,10 @@ frames-first (f ∷ fs) (suc n) w h b none =
 
 -- with what is dropped behind it, what is left is settled
 record Rests (l d : List ℕ) : Type 0 where
-  none : standsFirst (l ++ d) ≡ 0 → ⊥
+  none : standsFirst (l ++ d) ≡ Reason.accepted → ⊥
   same : kept (l ++ d) ≡ l
 
-module _ {fs : List (List ℕ)} {l t : List ℕ} (h : Holds fs l t) (none : standsFirst l ≡ 0 → ⊥) where
+module _ {fs : List (List ℕ)} {l t : List ℕ} (h : Holds fs l t) (none : standsFirst l ≡ Reason.accepted → ⊥) where
   rests : Rests l (h .dropped)
   rests = go (badFirst l) refl
     where
@@ -138,7 +141,7 @@ module _ {fs : List (List ℕ)} {l t : List ℕ} (h : Holds fs l t) (none : stan
       go true e =
           let more = bad-more l (h .dropped) e in
           record {
-            none = λ z. omega (arith, eqb-true (standsFirst (l ++ h .dropped)) badLength more);
+            none = λ z. omega (arith, eqb-true (standsFirst (l ++ h .dropped)) Reason.badLength more);
             same =
                 kept-bad (l ++ h .dropped) more
                 ∙ take-append-le lengthBytes l (h .dropped) (bad-told l e .known)
@@ -170,16 +173,17 @@ whole-stream fs w =
 -- the frames, what is left and what is dropped are the bytes, and no frame is left
 pub record Found (x : Stream) (t : List ℕ) : Type 0 where
   pub holds : Holds (x .frames) (x .left) t
-  pub none : standsFirst (x .left) ≡ 0 → ⊥
+  pub none : standsFirst (x .left) ≡ Reason.accepted → ⊥
 
-none-found : (b : List ℕ) → (standsFirst b ≡ 0 → ⊥) → Found (record { frames = []; left = kept b }) b
+none-found : (b : List ℕ) → (standsFirst b ≡ Reason.accepted → ⊥) → Found (record { frames = []; left = kept b }) b
 unfolding joined All
 none-found b none =
     record {
       holds = kept-holds b tt refl;
       none =
-          kept-both (λ l. standsFirst l ≡ 0 → ⊥) b
-          (λ e z. omega (arith, eqb-true (standsFirst (take lengthBytes b)) badLength (bad-four b e))) (λ _. none);
+          kept-both (λ l. standsFirst l ≡ Reason.accepted → ⊥) b
+          (λ e z. omega (arith, eqb-true (standsFirst (take lengthBytes b)) Reason.badLength (bad-four b e)))
+          (λ _. none);
     }
 
 also-found : (f : List ℕ) {x : Stream} {t t′ : List ℕ} → Whole f → f ++ t ≡ t′ → Found x t → Found (also f x) t′

@@ -1,14 +1,14 @@
 -- "However these are divided into arrivals, from the same session, with the same reports in order and reply buffers of
--- 128 bytes or more, once no held frame remains the frames, the steps taken on them and what is left are equal."
+-- 128 bytes or more, once no held frame remains the frames, the steps taken on them and what is left are equal." (N13)
 use Prim.Native.Nat.{ℕ, _≤_}
 use mathlib.Core.Bool.{true}
 use mathlib.Core.Path.{_≡_}
 use mathlib.Core.List.{List, map}
 use mathlib.Core.Logic.{_⊎_}
 use lib.ListN.{length, take}
-use Rattle.session.specs.declared.Session.{Session}
+use Rattle.session.specs.Session.{Session}
 use Rattle.session.specs.Lists.{All}
-use Rattle.rules.specs.Step.{minBuffer}
+use Rattle.reply.specs.ReplyRules.{minBuffer}
 use Rattle.rules.specs.StepRules.{outcome}
 use Rattle.history.specs.Run.{Input, framesOf, reportsOf, run}
 use Rattle.streams.specs.Reader.{badFirst}
@@ -16,7 +16,7 @@ use Rattle.streams.specs.Reading.{Reading, left}
 use Rattle.streams.specs.Stream.{lessDropped}
 use Rattle.streams.specs.Arrivals.{Always, Drained}
 
--- "reply buffers of 128 bytes or more"
+-- "reply buffers of 128 bytes or more" (N13)
 abbrev pub Roomy : Input → Type 0
 Roomy i = minBuffer ≤ length (i .buffer)
 
@@ -28,7 +28,7 @@ pub record Same (x y : Reading) : Type 0 where
       map outcome (run s is) ≡ map outcome (run s js)
   pub rest : left x ≡ left y
 
--- "these": the bytes taken, less those dropped
+-- "these": the bytes taken, less those dropped (N13)
 abbrev pub DividedAlike : Type 0
 DividedAlike =
     Always (λ x. Always (λ y. lessDropped (x .taken) ≡ lessDropped (y .taken) → Drained x → Drained y → Same x y))

@@ -1,15 +1,15 @@
--- Frames as they arrive (document 02, item 1): a reader "keeps what it has not handed out in a lent 65,536-byte store
--- that only it writes, takes the next arrival as far as there is room beside that, tells the count taken, and hands
--- out whole frames".
+-- Frames as they arrive (N1, N2, N5): a reader "keeps what it has not handed out in a lent 65,536-byte store that only
+-- it writes, takes the next arrival as far as there is room beside that, tells the count taken, and hands out whole
+-- frames".
 use Prim.Native.Nat.{ℕ, _+_, _-_, min}
 use mathlib.Core.Bool.{Bool, cond, _&&_}
 use mathlib.Core.List.{List}
 use lib.ListN.{length, take, drop}
 use lib.Dec.{eqb, leb}
+use Rattle.protocol.specs.Reason as Reason
 use Rattle.varint.specs.Put.{written}
 use Rattle.message.specs.declared.head.Head.{Head}
-use Rattle.message.specs.Head.{headOf}
-use Rattle.message.specs.Numbers.{headReason}
+use Rattle.message.specs.Head.{lengthBytes, headOf, headReason}
 use Rattle.streams.specs.declared.Reader.{Reader}
 use Rattle.streams.specs.declared.Pushed.{Pushed}
 use Rattle.streams.specs.declared.NextFrame.{NextFrame}
@@ -19,35 +19,20 @@ storeSize = 65536
 
 -- ---- what stands first among some bytes
 
--- a frame's length has four bytes
-abbrev pub lengthBytes : ℕ
-lengthBytes = 4
-
--- a whole frame
-abbrev pub accepted : ℕ
-accepted = 0
-
--- "1 means "wait for more""
-abbrev pub waitForMore : ℕ
-waitForMore = 1
-
--- "2 once a bad length stands first"
-abbrev pub badLength : ℕ
-badLength = 2
-
--- which of the three: the number of the head that the bytes begin with
+-- the number of the head that the bytes begin with: 0 for a whole frame, "1 means "wait for more"", "2 once a bad
+-- length stands first"
 unfoldable pub standsFirst : List ℕ → ℕ
 standsFirst bytes = headReason (headOf bytes)
 
 abbrev pub badFirst : List ℕ → Bool
-badFirst bytes = eqb (standsFirst bytes) badLength
+badFirst bytes = eqb (standsFirst bytes) Reason.badLength
 
 -- ---- the bytes held
 
 abbrev pub reader : ℕ → ℕ → Reader
 reader start end = record { start = start; end = end }
 
--- "start over, which empties it"
+-- "start over, which empties it" (N12)
 abbrev pub startOver : Reader
 startOver = reader 0 0
 
@@ -58,7 +43,7 @@ between store start end = take (end - start) (drop start store)
 abbrev pub part : List ℕ → Reader → List ℕ
 part store r = between store (r .start) (r .end)
 
--- any two numbers are a reader: two that are no part of a store of this size hold nothing
+-- any two numbers are a reader: two that are no part of a store of this size hold nothing (N16)
 abbrev pub isPart : ℕ → Reader → Bool
 isPart size r = leb (r .start) (r .end) && leb (r .end) size
 
@@ -68,17 +53,17 @@ usable size r = cond (isPart size r) r startOver
 unfoldable pub held : List ℕ → Reader → List ℕ
 held store r = part store (usable (length store) r)
 
--- "then the store keeps only its four bytes": of a bad length that stands first
+-- "then the store keeps only its four bytes": of a bad length that stands first (N10)
 abbrev pub settled : List ℕ → Reader → Reader
 settled store r = cond (badFirst (part store r)) (reader (r .start) (r .start + lengthBytes)) r
 
 -- ---- an arrival
 
--- "takes the next arrival as far as there is room beside that"; behind a bad length it "takes 0"
+-- "takes the next arrival as far as there is room beside that"; behind a bad length it "takes 0" (N2, N11)
 abbrev pub takenCount : ℕ → List ℕ → List ℕ → ℕ
 takenCount size bytes arrival = cond (badFirst bytes) 0 (min (length arrival) (size - length bytes))
 
--- the bytes held stay where they are if n more fit behind them, and else are moved to the front
+-- the bytes held stay where they are if n more fit behind them, and else are moved to the front (N18)
 abbrev pub fitsBehind : List ℕ → Reader → ℕ → Bool
 fitsBehind store r n = leb (r .end + n) (length store)
 

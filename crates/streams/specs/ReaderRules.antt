@@ -6,22 +6,23 @@ use mathlib.Core.Path.{_≡_}
 use mathlib.Core.List.{List, _++_}
 use mathlib.Core.Logic.{_⊎_}
 use lib.ListN.{length, getD, take, drop}
+use Rattle.protocol.specs.Reason as Reason
 use Rattle.message.specs.declared.head.Head.{Head}
-use Rattle.message.specs.Head.{headOf, lengthOf, maxLength}
+use Rattle.message.specs.Head.{lengthBytes, headOf, lengthOf, maxLength}
 use Rattle.streams.specs.declared.Reader.{Reader}
 use Rattle.streams.specs.declared.NextFrame.{NextFrame}
-use Rattle.streams.specs.Reader.{accepted, Push, storeSize, lengthBytes, waitForMore, badLength, standsFirst}
+use Rattle.streams.specs.Reader.{Push, storeSize, standsFirst}
 use Rattle.streams.specs.Reader.{badFirst}
 use Rattle.streams.specs.Reader.{held, takenCount, pushOf, nextOf}
 
--- of a bad length that stands first only its four bytes are kept
+-- of a bad length that stands first only its four bytes are kept (N10)
 abbrev pub kept : List ℕ → List ℕ
 kept bytes = cond (badFirst bytes) (take lengthBytes bytes) bytes
 
 -- ---- a push
 
 pub record Pushes (r : Reader) (arrival store : List ℕ) (after : Push) : Type 0 where
-  -- "tells the count taken"
+  -- "tells the count taken" (N2)
   pub count : after .answer .count ≡ takenCount (length store) (held store r) arrival
   -- what was held is held, and behind it what was taken
   pub bytes : held (after .store) (after .answer .reader) ≡ kept (held store r ++ take (after .answer .count) arrival)
@@ -44,7 +45,7 @@ frameAt store x = take (x .len) (drop (x .start) store)
 
 -- the first bytes held are handed out, and the others are held
 pub record HandsOut (r : Reader) (store : List ℕ) (type long : ℕ) (x : NextFrame) : Type 0 where
-  pub reason : x .reason ≡ accepted
+  pub reason : x .reason ≡ Reason.accepted
   pub frame : frameAt store x ≡ take long (held store r)
   pub within : x .start + x .len ≤ length store
   pub len : x .len ≡ long
@@ -90,14 +91,14 @@ pub record HeldDecides : Type 0 where
 
 -- ---- the three reasons
 
--- a whole frame stands first: its length is good and it is all there
+-- a whole frame stands first: its length is good and it is all there (N3)
 pub record WholeFirst (bytes : List ℕ) : Type 0 where
   pub known : lengthBytes ≤ length bytes
   pub some : 1 ≤ lengthOf bytes
   pub small : lengthOf bytes ≤ maxLength
   pub there : lengthBytes + lengthOf bytes ≤ length bytes
 
--- a bad length stands first
+-- a bad length stands first (N3)
 pub record BadFirst (bytes : List ℕ) : Type 0 where
   pub known : lengthBytes ≤ length bytes
   pub bad : (lengthOf bytes ≡ 0) ⊎ (maxLength < lengthOf bytes)
@@ -105,26 +106,26 @@ pub record BadFirst (bytes : List ℕ) : Type 0 where
 abbrev pub Exactly : Type 0 → Type 0 → Type 0
 Exactly P Q = (P → Q) × (Q → P)
 
--- "2 once a bad length stands first"; "1 .. exactly when neither it nor a whole frame stands first"
+-- "2 once a bad length stands first"; "1 .. exactly when neither it nor a whole frame stands first" (N3 to N6)
 pub record Reasons (bytes : List ℕ) : Type 0 where
-  pub whole : Exactly (standsFirst bytes ≡ accepted) (WholeFirst bytes)
-  pub bad : Exactly (standsFirst bytes ≡ badLength) (BadFirst bytes)
-  pub wait : Exactly (standsFirst bytes ≡ waitForMore) ((WholeFirst bytes → ⊥) × (BadFirst bytes → ⊥))
+  pub whole : Exactly (standsFirst bytes ≡ Reason.accepted) (WholeFirst bytes)
+  pub bad : Exactly (standsFirst bytes ≡ Reason.badLength) (BadFirst bytes)
+  pub wait : Exactly (standsFirst bytes ≡ Reason.notAllThere) ((WholeFirst bytes → ⊥) × (BadFirst bytes → ⊥))
 
 abbrev pub WaitsExactly : Type 0
 WaitsExactly = (bytes : List ℕ) → Reasons bytes
 
 -- ---- room
 
--- "as far as there is room beside that": all of the arrival is taken, or the store is full then
+-- "as far as there is room beside that": all of the arrival is taken, or the store is full then (N2)
 abbrev pub TakesAll : Type 0
 TakesAll =
     (r : Reader) (arrival store : List ℕ) → badFirst (held store r) ≡ false →
     (pushOf r arrival store .answer .count ≡ length arrival)
     ⊎ (length (held store r) + pushOf r arrival store .answer .count ≡ length store)
 
--- "wait for more" leaves room: of the next arrival at least one byte is taken
+-- "wait for more" leaves room: of the next arrival at least one byte is taken (N6)
 abbrev pub WaitHasRoom : Type 0
 WaitHasRoom =
-    (r : Reader) (arrival store : List ℕ) → length store ≡ storeSize → standsFirst (held store r) ≡ waitForMore →
+    (r : Reader) (arrival store : List ℕ) → length store ≡ storeSize → standsFirst (held store r) ≡ Reason.notAllThere →
     1 ≤ length arrival → 1 ≤ pushOf r arrival store .answer .count

@@ -1,13 +1,14 @@
 -- A list of operations on a reader, and what their answers told since the last start over ("the beginning counts as
--- one").
+-- one") (N8).
 use Prim.Native.Nat.{ℕ}
 use mathlib.Core.Bool.{cond}
 use mathlib.Core.List.{List, [], _∷_, _++_}
 use lib.ListN.{take}
 use lib.Dec.{eqb}
+use Rattle.protocol.specs.Reason as Reason
 use Rattle.streams.specs.declared.Reader.{Reader}
 use Rattle.streams.specs.declared.NextFrame.{NextFrame}
-use Rattle.streams.specs.Reader.{accepted, Push, startOver, held, pushOf, nextOf}
+use Rattle.streams.specs.Reader.{Push, startOver, held, pushOf, nextOf}
 use Rattle.streams.specs.ReaderRules.{frameAt}
 
 -- a push of an arrival, a next_frame, a start_over
@@ -20,7 +21,7 @@ pub data Operation : Type 0 where
 pub record Reading : Type 0 where
   pub reader : Reader
   pub store : List ℕ
-  -- since the last start over: the bytes taken, and the frames handed out
+  -- since the last start over: the bytes taken, and the frames handed out (N8)
   pub taken : List ℕ
   pub frames : List (List ℕ)
   -- the frames handed out before it
@@ -52,7 +53,7 @@ handedBy x next =
       reader = next .reader;
       store = x .store;
       taken = x .taken;
-      frames = cond (eqb (next .reason) accepted) (x .frames ++ (frameAt (x .store) next ∷ [])) (x .frames);
+      frames = cond (eqb (next .reason) Reason.accepted) (x .frames ++ (frameAt (x .store) next ∷ [])) (x .frames);
       earlier = x .earlier;
     }
 

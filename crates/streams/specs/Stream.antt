@@ -33,7 +33,7 @@ streamFrom (suc most) bytes = streamBy (streamFrom most) bytes (headOf bytes)
 abbrev pub stream : List ℕ → Stream
 stream bytes = streamFrom (length bytes) bytes
 
--- "the bytes taken .. less those dropped behind a bad length", once the frames before it are handed out
+-- "the bytes taken .. less those dropped behind a bad length", once the frames before it are handed out (N8, N9)
 abbrev pub together : Stream → List ℕ
 together x = joined (x .frames) ++ x .left
 

@@ -5,6 +5,7 @@ ghost use lib.ListN.{length};
 use libc::STDIN_FILENO;
 use libc::STDOUT_FILENO;
 use session::Session;
+use session::WORDS;
 use trace_line::Place;
 use varint::write::Put;
 
@@ -19,7 +20,6 @@ const FREE: usize = 256;
 // Where the printer stands: the next record is the n-th, the unread bytes stand in the input from `at`
 // to `end`, and `to` bytes of the output are not written yet.
 struct Printer {
-    session: Session,
     n: u64,
     at: usize,
     end: usize,
@@ -108,16 +108,14 @@ fn next_line(mut p: Printer, next: usize, put: Put, out: &[u8]) -> Printer {
     p
 }
 
-// The next record, or more bytes.
-fn turn(mut p: Printer, input: &mut [u8], out: &mut [u8]) -> Printer {
+// The next record, a step of the session that the words hold; or more bytes.
+fn turn(mut p: Printer, words: &mut [u32; WORDS], input: &mut [u8], out: &mut [u8]) -> Printer {
     let end = p.end;
     if input.len() < end {
         p.going = false;
         return p;
     }
-    let t = trace_line::trace_record(p.session, p.n, &input[..end], p.at, out, p.to);
-    let after = t.session;
-    p.session = after;
+    let t = trace_line::trace_record(words, p.n, &input[..end], p.at, out, p.to);
     let place = t.place;
     let put = t.put;
     match place {
@@ -137,8 +135,9 @@ fn main() {
     let input: &mut [u8] = &mut bytes;
     let out: &mut [u8] = &mut lines;
     let to = put_text(out, 0, b"n reason first rows mark stmts cursors owed\n");
+    let session = Session::fresh();
+    let mut words = session.words;
     let mut p = Printer {
-        session: Session::fresh(),
         n: 1,
         at: 0,
         end: 0,
@@ -148,7 +147,7 @@ fn main() {
     let mut left = u64::MAX;
     while left > 0 {
         left -= 1;
-        p = turn(p, input, out);
+        p = turn(p, &mut words, input, out);
         if !p.going {
             left = 0;
         }

@@ -11,9 +11,13 @@ use borrow.Author.Tests.{lt-ltb, le-ltb, ltb-true, ltb-false}
 use Rattle.varint.specs.declared.Varint.{Varint}
 use Rattle.varint.specs.Varint.{onto, groups, low64, varintAt}
 use Rattle.varint.proofs.GroupLaws.{groups-none}
+use Rattle.rules.specs.declared.Report.{Report}
+use Rattle.rules.specs.Report.{prepared, result, failed}
 use Rattle.trace_line.specs.declared.record.Number.{Number}
 use Rattle.trace_line.specs.declared.record.Record.{Record}
-use Rattle.trace_line.specs.Record.{numberOf, numberAt, andThen, maxFrame, maxKind, whole, oneNumber, rowsAt, twoNumbers, reportAt, kindAt, frameAt, recordAt}
+use Rattle.trace_line.specs.Record.{numberOf, numberAt, andThen, maxFrame, maxKind, bareReport, preparedReport}
+use Rattle.trace_line.specs.Record.{failedReport, resultReport, preparedAt, failedAt, rowsAt, resultAt, reportAt}
+use Rattle.trace_line.specs.Record.{kindAt, frameAt, recordAt}
 use Rattle.trace_line.proofs.RecordLaws.{unended-bad}
 use Rattle.trace_line.specs.RecordRules.{shifted, ReadsAlike, FrameAlike}
 
@@ -22,7 +26,9 @@ pub record Holds (k : ℕ) (s t : List ℕ) : Type 0 where
   pub room : k + length s ≤ length t
   pub same : (i : ℕ) → i < length s → getD t (k + i) 0 ≡ getD s i 0
 
--- ---- what is read of s at a place, and of t at the same place counted from its start. Where s ends too soon, t is free.
+-- ---- what is read of s at a place, and of t at the same place counted from its start
+
+-- where s ends too soon, t is free
 
 -- a varint; `full`: s has all the bytes that it may take
 abbrev AlikeVarint : Bool → ℕ → Varint → Varint → Type 0
@@ -42,7 +48,8 @@ Alike k Record.Bad y = y ≡ Record.Bad
 
 -- ---- varints
 
-onto-alike : (full : Bool) (k low : ℕ) (x y : Varint) → AlikeVarint full k x y → AlikeVarint full k (onto low 128 x) (onto low 128 y)
+onto-alike : (full : Bool) (k low : ℕ) (x y : Varint) → AlikeVarint full k x y →
+    AlikeVarint full k (onto low 128 x) (onto low 128 y)
 onto-alike full k low (Varint.Number v next) y e = ap (onto low 128) e
 onto-alike true k low Varint.Bad y e = ap (onto low 128) e
 onto-alike false k low Varint.Bad y e = tt
@@ -66,7 +73,8 @@ module _ (k : ℕ) (s t : List ℕ) (h : Holds k s t) where
   next-place at = omega arith
 
   -- one group
-  group-alike : (full : Bool) (n at : ℕ) → at < length s → AlikeVarint full k (groups n s (at + 1)) (groups n t (k + (at + 1))) →
+  group-alike : (full : Bool) (n at : ℕ) → at < length s →
+      AlikeVarint full k (groups n s (at + 1)) (groups n t (k + (at + 1))) →
       AlikeVarint full k (groups (suc n) s at) (groups (suc n) t (k + at))
   unfolding groups
   group-alike full n at g rest =
@@ -76,7 +84,8 @@ module _ (k : ℕ) (s t : List ℕ) (h : Holds k s t) where
       both-alike : (b : Bool) →
           AlikeVarint full k
           (cond b (Varint.Number (getD s at 0) (at + 1)) (onto (getD s at 0 % 128) 128 (groups n s (at + 1))))
-          (cond b (Varint.Number (getD s at 0) (k + (at + 1))) (onto (getD s at 0 % 128) 128 (groups n t (k + (at + 1)))))
+          (cond b (Varint.Number (getD s at 0) (k + (at + 1)))
+          (onto (getD s at 0 % 128) 128 (groups n t (k + (at + 1)))))
       both-alike true = refl
       both-alike false = onto-alike full k (getD s at 0 % 128) (groups n s (at + 1)) (groups n t (k + (at + 1))) rest
 
@@ -113,13 +122,15 @@ module _ (k : ℕ) (s t : List ℕ) (h : Holds k s t) where
   full-alike at e (Varint.Number v next) y f = ap (numberOf t (k + at)) f
   full-alike at e Varint.Bad y f =
       rw e
-      (ap (numberOf t (k + at)) f ∙ sym (unended-bad t (k + at) (omega (arith, h .room, ltb-false (length s) (at + 10) e))))
+      (ap (numberOf t (k + at)) f
+      ∙ sym (unended-bad t (k + at) (omega (arith, h .room, ltb-false (length s) (at + 10) e))))
 
   number-alike : (at : ℕ) → AlikeNumber k (numberAt s at) (numberAt t (k + at))
   unfolding numberAt
   number-alike at = go (ltb (length s) (at + 10)) refl
     where
-      go : (b : Bool) → ltb (length s) (at + 10) ≡ b → AlikeNumber k (numberOf s at (varintAt s at)) (numberOf t (k + at) (varintAt t (k + at)))
+      go : (b : Bool) → ltb (length s) (at + 10) ≡ b →
+          AlikeNumber k (numberOf s at (varintAt s at)) (numberOf t (k + at) (varintAt t (k + at)))
       go true e =
           part-alike at e (varintAt s at) (varintAt t (k + at))
           (low64-alike false k (groups 10 s at) (groups 10 t (k + at))
@@ -142,43 +153,54 @@ module _ (k : ℕ) (s t : List ℕ) (h : Holds k s t) where
   -- ---- records
 
   module _ (start len : ℕ) where
-    one-alike : (kind at : ℕ) → Alike k (oneNumber s start len kind at) (oneNumber t (k + start) len kind (k + at))
-    unfolding oneNumber
-    one-alike kind at =
-        then-alike (numberAt s at) (numberAt t (k + at)) (λ a next. whole start len kind a 0 next)
-        (λ a next. whole (k + start) len kind a 0 next) (number-alike at) (λ a next. refl)
+    -- a number ends the record
+    last-alike : (report : ℕ → Report) (at : ℕ) →
+        Alike k (andThen (numberAt s at) (λ v next. Record.Whole start len (report v) next))
+        (andThen (numberAt t (k + at)) (λ v next. Record.Whole (k + start) len (report v) next))
+    last-alike report at =
+        then-alike (numberAt s at) (numberAt t (k + at)) (λ v next. Record.Whole start len (report v) next)
+        (λ v next. Record.Whole (k + start) len (report v) next) (number-alike at) (λ v next. refl)
 
-    rows-alike : (kind columns at : ℕ) → Alike k (rowsAt s start len kind columns at) (rowsAt t (k + start) len kind columns (k + at))
+    prepared-alike : (at : ℕ) → Alike k (preparedAt s start len at) (preparedAt t (k + start) len (k + at))
+    unfolding preparedAt
+    prepared-alike = last-alike preparedReport
+
+    failed-alike : (at : ℕ) → Alike k (failedAt s start len at) (failedAt t (k + start) len (k + at))
+    unfolding failedAt
+    failed-alike = last-alike failedReport
+
+    rows-alike : (columns at : ℕ) → Alike k (rowsAt s start len columns at) (rowsAt t (k + start) len columns (k + at))
     unfolding rowsAt
-    rows-alike kind columns at =
-        then-alike (numberAt s at) (numberAt t (k + at)) (λ rows next. whole start len kind columns rows next)
-        (λ rows next. whole (k + start) len kind columns rows next) (number-alike at) (λ rows next. refl)
+    rows-alike columns = last-alike (resultReport columns)
 
-    two-alike : (kind at : ℕ) → Alike k (twoNumbers s start len kind at) (twoNumbers t (k + start) len kind (k + at))
-    unfolding twoNumbers
-    two-alike kind at =
-        then-alike (numberAt s at) (numberAt t (k + at)) (λ columns p. rowsAt s start len kind columns p)
-        (λ columns p. rowsAt t (k + start) len kind columns p) (number-alike at) (λ columns p. rows-alike kind columns p)
+    result-alike : (at : ℕ) → Alike k (resultAt s start len at) (resultAt t (k + start) len (k + at))
+    unfolding resultAt
+    result-alike at =
+        then-alike (numberAt s at) (numberAt t (k + at)) (λ columns p. rowsAt s start len columns p)
+        (λ columns p. rowsAt t (k + start) len columns p) (number-alike at) (λ columns p. rows-alike columns p)
 
     report-alike : (kind at : ℕ) → Alike k (reportAt s start len kind at) (reportAt t (k + start) len kind (k + at))
     unfolding reportAt
     report-alike kind at =
         either-alike (ltb maxKind kind) Record.Bad (known s start at) Record.Bad (known t (k + start) (k + at)) refl
-        (either-alike (eqb kind 1) (oneNumber s start len kind at) (unprepared s start at)
-        (oneNumber t (k + start) len kind (k + at)) (unprepared t (k + start) (k + at)) (one-alike kind at)
-        (either-alike (eqb kind 2) (twoNumbers s start len kind at) (unresulting s start at)
-        (twoNumbers t (k + start) len kind (k + at)) (unresulting t (k + start) (k + at)) (two-alike kind at)
-        (either-alike (eqb kind 4) (oneNumber s start len kind at) (whole start len kind 0 0 at)
-        (oneNumber t (k + start) len kind (k + at)) (whole (k + start) len kind 0 0 (k + at)) (one-alike kind at) refl)))
+        (either-alike (eqb kind prepared) (preparedAt s start len at) (unprepared s start at)
+        (preparedAt t (k + start) len (k + at)) (unprepared t (k + start) (k + at)) (prepared-alike at)
+        (either-alike (eqb kind result) (resultAt s start len at) (unresulting s start at)
+        (resultAt t (k + start) len (k + at)) (unresulting t (k + start) (k + at)) (result-alike at)
+        (either-alike (eqb kind failed) (failedAt s start len at) (bare start at)
+        (failedAt t (k + start) len (k + at)) (bare (k + start) (k + at)) (failed-alike at) refl)))
       where
+        bare : ℕ → ℕ → Record
+        bare from p = Record.Whole from len (bareReport kind) p
+
         unresulting : List ℕ → ℕ → ℕ → Record
-        unresulting l from p = cond (eqb kind 4) (oneNumber l from len kind p) (whole from len kind 0 0 p)
+        unresulting l from p = cond (eqb kind failed) (failedAt l from len p) (bare from p)
 
         unprepared : List ℕ → ℕ → ℕ → Record
-        unprepared l from p = cond (eqb kind 2) (twoNumbers l from len kind p) (unresulting l from p)
+        unprepared l from p = cond (eqb kind result) (resultAt l from len p) (unresulting l from p)
 
         known : List ℕ → ℕ → ℕ → Record
-        known l from p = cond (eqb kind 1) (oneNumber l from len kind p) (unprepared l from p)
+        known l from p = cond (eqb kind prepared) (preparedAt l from len p) (unprepared l from p)
 
     behind-frame : k + start + len ≡ k + (start + len)
     behind-frame = omega arith
@@ -187,7 +209,8 @@ module _ (k : ℕ) (s t : List ℕ) (h : Holds k s t) where
     unfolding kindAt
     kind-alike =
         rw behind-frame
-        (then-alike (numberAt s (start + len)) (numberAt t (k + (start + len))) (λ kind at. reportAt s start len kind at)
+        (then-alike (numberAt s (start + len)) (numberAt t (k + (start + len)))
+        (λ kind at. reportAt s start len kind at)
         (λ kind at. reportAt t (k + start) len kind at) (number-alike (start + len)) (λ kind at. report-alike kind at))
 
     frame-alike : Alike k (frameAt s len start) (frameAt t len (k + start))
@@ -203,12 +226,14 @@ module _ (k : ℕ) (s t : List ℕ) (h : Holds k s t) where
             Alike k (cond (ltb (length s) (start + len)) Record.Short (kindAt s start len)) (there t (k + start))
         go true e = rw e tt
         go false e =
-            rw (e, le-ltb (length t) (k + start + len) (omega (arith, h .room, ltb-false (length s) (start + len) e))) kind-alike
+            rw (e, le-ltb (length t) (k + start + len) (omega (arith, h .room, ltb-false (length s) (start + len) e)))
+            kind-alike
 
   record-alike : (at : ℕ) → Alike k (recordAt s at) (recordAt t (k + at))
   unfolding recordAt
   record-alike at =
-      then-alike (numberAt s at) (numberAt t (k + at)) (λ len start. frameAt s len start) (λ len start. frameAt t len start)
+      then-alike (numberAt s at) (numberAt t (k + at)) (λ len start. frameAt s len start)
+      (λ len start. frameAt t len start)
       (number-alike at) (λ len start. frame-alike start len)
 
 -- ---- any part of the input that holds the record
@@ -221,9 +246,11 @@ held before s behind =
     }
 
 pub reads-alike : ReadsAlike
-reads-alike before s behind at whole-there = go (recordAt s at) (record-alike (length before) s (before ++ s ++ behind) (held before s behind) at) whole-there
+reads-alike before s behind at whole-there =
+    go (recordAt s at) (record-alike (length before) s (before ++ s ++ behind) (held before s behind) at) whole-there
   where
-    go : (x : Record) → Alike (length before) x (recordAt (before ++ s ++ behind) (length before + at)) → (x ≡ Record.Short → ⊥) →
+    go : (x : Record) → Alike (length before) x (recordAt (before ++ s ++ behind) (length before + at)) →
+        (x ≡ Record.Short → ⊥) →
         recordAt (before ++ s ++ behind) (length before + at) ≡ shifted (length before) x
     go (Record.Whole start len report next) e f = e
     go Record.Short e f = absurd (f refl)
@@ -231,5 +258,6 @@ reads-alike before s behind at whole-there = go (recordAt s at) (record-alike (l
 
 pub frames-alike : FrameAlike
 frames-alike before s behind start len h =
-    ap (take len) (rw append-assoc (drop-append-add before (s ++ behind) start ∙ drop-append-le start s behind (omega arith)))
+    ap (take len)
+    (rw append-assoc (drop-append-add before (s ++ behind) start ∙ drop-append-le start s behind (omega arith)))
     ∙ take-append-le len (drop start s) behind (rw length-drop (omega arith))

@@ -6,45 +6,54 @@ use Prim.Native.Char.{code}
 use mathlib.Core.Path.{_≡_, refl, sym, ap, _∙_}
 use mathlib.Core.List.{List, [], _∷_, _++_}
 use lib.ListN.{length, getD, set, length-append}
-use borrow.Author.Tests.{eq-eqb, ne-eqb, le-leb}
+use borrow.Author.Tests.{eq-eqb, ne-eqb}
+use Rattle.protocol.specs.Server as Server
 use Rattle.varint.specs.declared.write.Put.{Put}
 use Rattle.varint.specs.Put.{putAt, written}
 use Rattle.varint.proofs.PutLaws.{put-fits}
-use Rattle.keeper.specs.Rows.{placeBehind}
+use Rattle.message.specs.Head.{lengthBytes}
 use Rattle.args.proofs.PartLaws.{yes, no as without}
-use Rattle.reply.specs.Decimal.{decimal}
 use Rattle.reply.specs.Puts.{Puts}
 use Rattle.reply.proofs.DecimalLaws.{decimal-within}
 use Rattle.reply.proofs.PutsLaws.{puts-then}
 use Rattle.trace_line.specs.declared.line.Line.{Line}
-use Rattle.trace_line.specs.Line.{letterOf, markOf, column, lineOf}
+use Rattle.trace_line.specs.Line.{letterOf, markOf, placeBehind, column, lineOf}
 
 -- ---- marks
 
-pub letter-none : (type : ℕ) → (type ≡ 0 → ⊥) → (type ≡ 15 → ⊥) → (type ≡ 14 → ⊥) → (type ≡ 17 → ⊥) → (type ≡ 1 → ⊥) →
+pub letter-none : (type : ℕ) → (type ≡ Server.ok → ⊥) → (type ≡ Server.fetchSuspended → ⊥) →
+    (type ≡ Server.fetchDone → ⊥) → (type ≡ Server.stmtExecuteOk → ⊥) → (type ≡ Server.error → ⊥) →
     code "N" ≡ letterOf type
-letter-none type a b c d e = rw (ne-eqb type 0 a, ne-eqb type 15 b, ne-eqb type 14 c, ne-eqb type 17 d, ne-eqb type 1 e)
+letter-none type a b c d e =
+    rw (
+      ne-eqb type Server.ok a,
+      ne-eqb type Server.fetchSuspended b,
+      ne-eqb type Server.fetchDone c,
+      ne-eqb type Server.stmtExecuteOk d,
+      ne-eqb type Server.error e,
+    )
 
 module _ (buffer : List ℕ) (n : ℕ) where
   pub mark-none : n ≡ 0 → code "N" ≡ markOf buffer n
   unfolding markOf
-  mark-none h = yes (code "N") (letterOf (getD buffer 4 0)) (eq-eqb n 0 h)
+  mark-none h = yes (code "N") (letterOf (getD buffer lengthBytes 0)) (eq-eqb n 0 h)
 
-  pub mark-letter : (n ≡ 0 → ⊥) → letterOf (getD buffer 4 0) ≡ markOf buffer n
+  pub mark-letter : (n ≡ 0 → ⊥) → letterOf (getD buffer lengthBytes 0) ≡ markOf buffer n
   unfolding markOf
-  mark-letter h = without (code "N") (letterOf (getD buffer 4 0)) (ne-eqb n 0 h)
+  mark-letter h = without (code "N") (letterOf (getD buffer lengthBytes 0)) (ne-eqb n 0 h)
 
 -- ---- what is put
 
 -- bytes that have room: the place behind them
-pub puts-behind : {b bs b₁ : List ℕ} {at n : ℕ} {p : Put} → at + length bs ≤ length b → p ≡ putAt b at bs → n ≡ placeBehind p →
-    b₁ ≡ written b at bs → Puts b at bs n b₁
+pub puts-behind : {b bs b₁ : List ℕ} {at n : ℕ} {p : Put} → at + length bs ≤ length b → p ≡ putAt b at bs →
+    n ≡ placeBehind p → b₁ ≡ written b at bs → Puts b at bs n b₁
 puts-behind {b} {bs} {b₁} {at} {n} {p} h e f g =
     let w = put-fits b at bs h in
     record { behind = f ∙ ap placeBehind (e ∙ sym (w .0)); stored = g ∙ sym (w .1) }
 
 -- one byte behind those that were put
-pub puts-one : {b bs b₁ : List ℕ} {at p : ℕ} (x : ℕ) → Puts b at bs p b₁ → Puts b at (bs ++ (x ∷ [])) (p + 1) (set b₁ p x)
+pub puts-one : {b bs b₁ : List ℕ} {at p : ℕ} (x : ℕ) → Puts b at bs p b₁ →
+    Puts b at (bs ++ (x ∷ [])) (p + 1) (set b₁ p x)
 puts-one x f = puts-then f (record { behind = refl; stored = refl })
 
 pub column-within : (n : ℕ) → length (column n) ≤ 21

@@ -8,10 +8,12 @@ use lib.Dec.{ltb}
 use borrow.Author.Tests.{lt-ltb, le-ltb, ne-eqb}
 use Rattle.varint.specs.declared.Varint.{Varint}
 use Rattle.varint.specs.Varint.{varintAt}
+use Rattle.rules.specs.Report.{prepared, result, failed}
 use Rattle.args.proofs.PartLaws.{yes, no as without}
 use Rattle.trace_line.specs.declared.record.Number.{Number}
 use Rattle.trace_line.specs.declared.record.Record.{Record}
-use Rattle.trace_line.specs.Record.{unended, numberOf, numberAt, andThen, maxFrame, whole, oneNumber, twoNumbers, reportAt, kindAt, frameAt}
+use Rattle.trace_line.specs.Record.{unended, numberOf, numberAt, andThen, maxFrame, maxKind, bareReport}
+use Rattle.trace_line.specs.Record.{preparedAt, failedAt, resultAt, reportAt, kindAt, frameAt}
 
 -- ---- numbers
 
@@ -40,26 +42,28 @@ module _ (more : ℕ → ℕ → Record) {r x : Number} where
 
 -- ---- a report, by its kind
 
-pub report-bad : (s : List ℕ) (start len kind at : ℕ) → 4 < kind → Record.Bad ≡ reportAt s start len kind at
+pub report-bad : (s : List ℕ) (start len kind at : ℕ) → maxKind < kind → Record.Bad ≡ reportAt s start len kind at
 unfolding reportAt
-report-bad s start len kind at h = rw (lt-ltb 4 kind h)
+report-bad s start len kind at h = rw (lt-ltb maxKind kind h)
 
-pub report-prepared : (s : List ℕ) (start len : ℕ) {kind : ℕ} (at : ℕ) → kind ≡ 1 → oneNumber s start len kind at ≡ reportAt s start len kind at
-unfolding reportAt
-report-prepared s start len at e = rw e
+module _ (s : List ℕ) (start len : ℕ) {kind : ℕ} (at : ℕ) where
+  pub report-prepared : kind ≡ prepared → preparedAt s start len at ≡ reportAt s start len kind at
+  unfolding reportAt
+  report-prepared e = rw e
 
-pub report-result : (s : List ℕ) (start len : ℕ) {kind : ℕ} (at : ℕ) → kind ≡ 2 → twoNumbers s start len kind at ≡ reportAt s start len kind at
-unfolding reportAt
-report-result s start len at e = rw e
+  pub report-result : kind ≡ result → resultAt s start len at ≡ reportAt s start len kind at
+  unfolding reportAt
+  report-result e = rw e
 
-pub report-failed : (s : List ℕ) (start len : ℕ) {kind : ℕ} (at : ℕ) → kind ≡ 4 → oneNumber s start len kind at ≡ reportAt s start len kind at
-unfolding reportAt
-report-failed s start len at e = rw e
+  pub report-failed : kind ≡ failed → failedAt s start len at ≡ reportAt s start len kind at
+  unfolding reportAt
+  report-failed e = rw e
 
-pub report-bare : (s : List ℕ) (start len kind at : ℕ) → kind ≤ 4 → (kind ≡ 1 → ⊥) → (kind ≡ 2 → ⊥) → (kind ≡ 4 → ⊥) →
-    whole start len kind 0 0 at ≡ reportAt s start len kind at
+pub report-bare : (s : List ℕ) (start len kind at : ℕ) → kind ≤ maxKind → (kind ≡ prepared → ⊥) → (kind ≡ result → ⊥) →
+    (kind ≡ failed → ⊥) → Record.Whole start len (bareReport kind) at ≡ reportAt s start len kind at
 unfolding reportAt
-report-bare s start len kind at h a b c = rw (le-ltb 4 kind h, ne-eqb kind 1 a, ne-eqb kind 2 b, ne-eqb kind 4 c)
+report-bare s start len kind at h a b c =
+    rw (le-ltb maxKind kind h, ne-eqb kind prepared a, ne-eqb kind result b, ne-eqb kind failed c)
 
 -- ---- a frame
 
@@ -74,7 +78,8 @@ module _ (s : List ℕ) (len start : ℕ) where
   pub frame-short : len ≤ maxFrame → length s < start + len → Record.Short ≡ frameAt s len start
   unfolding frameAt
   frame-short h g =
-      yes Record.Short (kindAt s start len) (lt-ltb (length s) (start + len) g) ∙ without Record.Bad there (le-ltb maxFrame len h)
+      yes Record.Short (kindAt s start len) (lt-ltb (length s) (start + len) g)
+      ∙ without Record.Bad there (le-ltb maxFrame len h)
 
   pub frame-whole : len ≤ maxFrame → start + len ≤ length s → kindAt s start len ≡ frameAt s len start
   unfolding frameAt

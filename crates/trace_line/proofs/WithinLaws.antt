@@ -2,18 +2,20 @@
 use Prim.Native.Nat.{ℕ, _+_, _≤_, _<_}
 use native.Mathlib.Omega.{arith}
 use mathlib.Core.Bool.{cond}
-use mathlib.Core.Path.{_≡_}
 use mathlib.Core.List.{List}
 use lib.ListN.{length}
 use lib.Dec.{eqb, ltb}
-use borrow.Author.Tests.{ltb-false}
 use Rattle.varint.specs.declared.Varint.{Varint}
 use Rattle.varint.specs.Varint.{varintAt}
 use Rattle.varint.specs.Past.{Past}
 use Rattle.varint.proofs.PastLaws.{both, varint-past}
+use Rattle.rules.specs.declared.Report.{Report}
+use Rattle.rules.specs.Report.{prepared, result, failed}
 use Rattle.trace_line.specs.declared.record.Number.{Number}
 use Rattle.trace_line.specs.declared.record.Record.{Record}
-use Rattle.trace_line.specs.Record.{numberOf, numberAt, andThen, maxFrame, maxKind, whole, oneNumber, rowsAt, twoNumbers, reportAt, kindAt, frameAt, recordAt}
+use Rattle.trace_line.specs.Record.{numberOf, numberAt, andThen, maxFrame, maxKind, bareReport, preparedReport}
+use Rattle.trace_line.specs.Record.{failedReport, resultReport, preparedAt, failedAt, rowsAt, resultAt, reportAt}
+use Rattle.trace_line.specs.Record.{kindAt, frameAt, recordAt}
 use Rattle.trace_line.specs.RecordRules.{Within, RecordsWithin}
 
 -- a number ends past its first byte and within the bytes
@@ -40,58 +42,67 @@ module _ (s : List ℕ) (from : ℕ) where
   then-within at Number.Bad more p f = tt
 
   module _ (start len : ℕ) (behind : from < start) where
-    one-within : (kind at : ℕ) → start + len < at → Within s from (oneNumber s start len kind at)
-    unfolding oneNumber
-    one-within kind at h =
-        then-within at (numberAt s at) (λ a next. whole start len kind a 0 next) (number-past s at)
-        (λ a next g e. (behind, omega arith, e))
+    -- a number ends the record
+    last-within : (report : ℕ → Report) (at : ℕ) → start + len < at →
+        Within s from (andThen (numberAt s at) (λ v next. Record.Whole start len (report v) next))
+    last-within report at h =
+        then-within at (numberAt s at) (λ v next. Record.Whole start len (report v) next) (number-past s at)
+        (λ v next g e. (behind, omega arith, e))
 
-    rows-within : (kind columns at : ℕ) → start + len < at → Within s from (rowsAt s start len kind columns at)
+    prepared-within : (at : ℕ) → start + len < at → Within s from (preparedAt s start len at)
+    unfolding preparedAt
+    prepared-within = last-within preparedReport
+
+    failed-within : (at : ℕ) → start + len < at → Within s from (failedAt s start len at)
+    unfolding failedAt
+    failed-within = last-within failedReport
+
+    rows-within : (columns at : ℕ) → start + len < at → Within s from (rowsAt s start len columns at)
     unfolding rowsAt
-    rows-within kind columns at h =
-        then-within at (numberAt s at) (λ rows next. whole start len kind columns rows next) (number-past s at)
-        (λ rows next g e. (behind, omega arith, e))
+    rows-within columns = last-within (resultReport columns)
 
-    two-within : (kind at : ℕ) → start + len < at → Within s from (twoNumbers s start len kind at)
-    unfolding twoNumbers
-    two-within kind at h =
-        then-within at (numberAt s at) (λ columns p. rowsAt s start len kind columns p) (number-past s at)
-        (λ columns p g e. rows-within kind columns p (omega arith))
+    result-within : (at : ℕ) → start + len < at → Within s from (resultAt s start len at)
+    unfolding resultAt
+    result-within at h =
+        then-within at (numberAt s at) (λ columns p. rowsAt s start len columns p) (number-past s at)
+        (λ columns p g e. rows-within columns p (omega arith))
 
     report-within : (kind at : ℕ) → start + len < at → at ≤ length s → Within s from (reportAt s start len kind at)
     unfolding reportAt
     report-within kind at h e =
         both (Within s from) (ltb maxKind kind) Record.Bad known (λ _. tt)
         (λ _.
-        both (Within s from) (eqb kind 1) (oneNumber s start len kind at) unprepared (λ _. one-within kind at h)
+        both (Within s from) (eqb kind prepared) (preparedAt s start len at) unprepared (λ _. prepared-within at h)
         (λ _.
-        both (Within s from) (eqb kind 2) (twoNumbers s start len kind at) unresulting (λ _. two-within kind at h)
+        both (Within s from) (eqb kind result) (resultAt s start len at) unresulting (λ _. result-within at h)
         (λ _.
-        both (Within s from) (eqb kind 4) (oneNumber s start len kind at) bare (λ _. one-within kind at h)
+        both (Within s from) (eqb kind failed) (failedAt s start len at) bare (λ _. failed-within at h)
         (λ _. (behind, h, e)))))
       where
         bare : Record
-        bare = whole start len kind 0 0 at
+        bare = Record.Whole start len (bareReport kind) at
 
         unresulting : Record
-        unresulting = cond (eqb kind 4) (oneNumber s start len kind at) bare
+        unresulting = cond (eqb kind failed) (failedAt s start len at) bare
 
         unprepared : Record
-        unprepared = cond (eqb kind 2) (twoNumbers s start len kind at) unresulting
+        unprepared = cond (eqb kind result) (resultAt s start len at) unresulting
 
         known : Record
-        known = cond (eqb kind 1) (oneNumber s start len kind at) unprepared
+        known = cond (eqb kind prepared) (preparedAt s start len at) unprepared
 
     kind-within : Within s from (kindAt s start len)
     unfolding kindAt
     kind-within =
-        then-within (start + len) (numberAt s (start + len)) (λ kind at. reportAt s start len kind at) (number-past s (start + len))
+        then-within (start + len) (numberAt s (start + len)) (λ kind at. reportAt s start len kind at)
+        (number-past s (start + len))
         (λ kind at h e. report-within kind at h e)
 
   frame-within : (len start : ℕ) → from < start → Within s from (frameAt s len start)
   unfolding frameAt
   frame-within len start h =
-      both (Within s from) (ltb maxFrame len) Record.Bad (cond (ltb (length s) (start + len)) Record.Short (kindAt s start len))
+      both (Within s from) (ltb maxFrame len) Record.Bad
+      (cond (ltb (length s) (start + len)) Record.Short (kindAt s start len))
       (λ _. tt)
       (λ _.
       both (Within s from) (ltb (length s) (start + len)) Record.Short (kindAt s start len) (λ _. tt)

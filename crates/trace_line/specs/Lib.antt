@@ -1,6 +1,6 @@
 pub mod Line
 pub mod LineRules
-pub mod Numbers
+pub mod End
 pub mod Record
 pub mod RecordRules
 pub mod Trace

@@ -1,5 +1,5 @@
--- A record of the trace printer's input (document 01, "The trace printer"): "a frame's length, the frame, a report kind (0 none,
--- 1 prepared, 2 result, 3 done, 4 failed) and its numbers, all numbers in groups of seven bits".
+-- A record of the trace printer's input (X1): "a frame's length, the frame, a report kind (0 none, 1 prepared, 2
+-- result, 3 done, 4 failed) and its numbers, all numbers in groups of seven bits".
 use Prim.Native.Nat.{ℕ, _+_}
 use mathlib.Core.Bool.{cond}
 use mathlib.Core.List.{List}
@@ -8,10 +8,12 @@ use lib.Dec.{eqb, ltb}
 use Rattle.varint.specs.declared.Varint.{Varint}
 use Rattle.varint.specs.Varint.{varintAt}
 use Rattle.rules.specs.declared.Report.{Report}
+use Rattle.rules.specs.Report.{prepared, result, failed}
 use Rattle.trace_line.specs.declared.record.Number.{Number}
 use Rattle.trace_line.specs.declared.record.Record.{Record}
 
--- where no varint stands: the bytes end before ten of them, and more may complete it, or ten stand there and all go on
+-- where no varint stands: the bytes end before ten of them, and more may complete it, or ten stand there and all go
+-- on
 abbrev pub unended : List ℕ → ℕ → Number
 unended s at = cond (ltb (length s) (at + 10)) Number.Short Number.Bad
 
@@ -29,34 +31,50 @@ andThen (Number.Value v next) more = more v next
 andThen Number.Short more = Record.Short
 andThen Number.Bad more = Record.Bad
 
--- "a frame length above 65,536 or a kind above 4" is bad
+-- "a frame length above 65,536 or a kind above 4" is bad (X6)
 abbrev pub maxFrame : ℕ
 maxFrame = 65536
 
 abbrev pub maxKind : ℕ
-maxKind = 4
+maxKind = failed
 
-abbrev pub whole : ℕ → ℕ → ℕ → ℕ → ℕ → ℕ → Record
-whole start len kind a b next = Record.Whole start len (record { kind = kind; a = a; b = b }) next
+-- the reports: none and done have no numbers
+abbrev pub bareReport : ℕ → Report
+bareReport kind = record { kind = kind; placeholders = 0; columns = 0; rows = 0; code = 0 }
 
--- 1 prepared has its placeholders, 4 failed its code
-unfoldable pub oneNumber : List ℕ → ℕ → ℕ → ℕ → ℕ → Record
-oneNumber s start len kind at = andThen (numberAt s at) (λ a next. whole start len kind a 0 next)
+abbrev pub preparedReport : ℕ → Report
+preparedReport placeholders =
+    record { kind = prepared; placeholders = placeholders; columns = 0; rows = 0; code = 0 }
 
--- 2 result has its columns, and behind them its rows
-unfoldable pub rowsAt : List ℕ → ℕ → ℕ → ℕ → ℕ → ℕ → Record
-rowsAt s start len kind columns at = andThen (numberAt s at) (λ rows next. whole start len kind columns rows next)
+abbrev pub resultReport : ℕ → ℕ → Report
+resultReport columns rows = record { kind = result; placeholders = 0; columns = columns; rows = rows; code = 0 }
 
-unfoldable pub twoNumbers : List ℕ → ℕ → ℕ → ℕ → ℕ → Record
-twoNumbers s start len kind at = andThen (numberAt s at) (λ columns p. rowsAt s start len kind columns p)
+abbrev pub failedReport : ℕ → Report
+failedReport code = record { kind = failed; placeholders = 0; columns = 0; rows = 0; code = code }
 
--- the numbers of a report of this kind; 0 none and 3 done have none
+-- the number of a prepared, of a failed
+unfoldable pub preparedAt : List ℕ → ℕ → ℕ → ℕ → Record
+preparedAt s start len at =
+    andThen (numberAt s at) (λ placeholders next. Record.Whole start len (preparedReport placeholders) next)
+
+unfoldable pub failedAt : List ℕ → ℕ → ℕ → ℕ → Record
+failedAt s start len at = andThen (numberAt s at) (λ code next. Record.Whole start len (failedReport code) next)
+
+-- a result has its columns, and behind them its rows
+unfoldable pub rowsAt : List ℕ → ℕ → ℕ → ℕ → ℕ → Record
+rowsAt s start len columns at =
+    andThen (numberAt s at) (λ rows next. Record.Whole start len (resultReport columns rows) next)
+
+unfoldable pub resultAt : List ℕ → ℕ → ℕ → ℕ → Record
+resultAt s start len at = andThen (numberAt s at) (λ columns p. rowsAt s start len columns p)
+
+-- the numbers of a report of this kind
 unfoldable pub reportAt : List ℕ → ℕ → ℕ → ℕ → ℕ → Record
 reportAt s start len kind at =
     cond (ltb maxKind kind) Record.Bad
-    (cond (eqb kind 1) (oneNumber s start len kind at)
-    (cond (eqb kind 2) (twoNumbers s start len kind at)
-    (cond (eqb kind 4) (oneNumber s start len kind at) (whole start len kind 0 0 at))))
+    (cond (eqb kind prepared) (preparedAt s start len at)
+    (cond (eqb kind result) (resultAt s start len at)
+    (cond (eqb kind failed) (failedAt s start len at) (Record.Whole start len (bareReport kind) at))))
 
 -- the report behind the frame
 unfoldable pub kindAt : List ℕ → ℕ → ℕ → Record

@@ -6,7 +6,8 @@ use lib.ListN.{length, take, drop}
 use Rattle.trace_line.specs.declared.record.Record.{Record}
 use Rattle.trace_line.specs.Record.{recordAt}
 
--- a whole record's frame stands behind its first byte, and the place behind the record past the frame and within the bytes
+-- a whole record's frame stands behind its first byte, and the place behind the record past the frame and within the
+-- bytes
 abbrev pub Within : List ℕ → ℕ → Record → Type 0
 Within s at (Record.Whole start len report next) = (at < start) × (start + len < next) × (next ≤ length s)
 Within s at Record.Short = Unit {0}
@@ -21,8 +22,8 @@ shifted k (Record.Whole start len report next) = Record.Whole (k + start) len re
 shifted k Record.Short = Record.Short
 shifted k Record.Bad = Record.Bad
 
--- however much of the input is there, before the record and behind it, the same record is read, with its places counted from the
--- start of what is there; only where its own bytes end before it does can more bytes change the answer
+-- however much of the input is there, before the record and behind it, the same record is read, with its places counted
+-- from the start of what is there; only where its own bytes end before it does can more bytes change the answer
 abbrev pub ReadsAlike : Type 0
 ReadsAlike =
     (before s behind : List ℕ) (at : ℕ) →

@@ -1,12 +1,13 @@
--- A record in, a line out (document 01, "The trace printer").
+-- A record in, a line out (X2, X4).
 use Prim.Native.Nat.{ℕ}
 use mathlib.Core.List.{List}
 use lib.ListN.{take, drop, replicate}
 use Rattle.varint.specs.declared.write.Put.{Put}
 use Rattle.varint.specs.Put.{putAt, written}
-use Rattle.session.specs.declared.Session.{Session}
+use Rattle.session.specs.Session.{Session}
 use Rattle.session.specs.Tables.{owed, stmtCount, cursorCount}
-use Rattle.rules.specs.Step.{Step, minBuffer, stepOf}
+use Rattle.reply.specs.ReplyRules.{minBuffer}
+use Rattle.rules.specs.Step.{Step, stepOf}
 use Rattle.trace_line.specs.declared.Place.{Place}
 use Rattle.trace_line.specs.declared.Traced.{Traced}
 use Rattle.trace_line.specs.declared.line.Line.{Line}
@@ -19,41 +20,38 @@ abbrev pub lineAfter : ℕ → Step → Line
 lineAfter n t =
     record {
       n = n;
-      reason = t .back .answer .reason;
-      first = t .back .answer .first;
-      rows = t .back .answer .count;
-      mark = markOf (t .buffer) (t .back .answer .reply);
-      stmts = stmtCount (t .back .session);
-      cursors = cursorCount (t .back .session);
-      owed = owed (t .back .session);
+      reason = t .answer .reason;
+      first = t .answer .first;
+      rows = t .answer .count;
+      mark = markOf (t .buffer) (t .answer .reply);
+      stmts = stmtCount (t .session);
+      cursors = cursorCount (t .session);
+      owed = owed (t .session);
     }
 
--- "Each record starts on a reply buffer of 128 bytes."
+-- "Each record starts on a reply buffer of 128 bytes." (X5)
 abbrev pub replyBuffer : List ℕ
 replyBuffer = replicate minBuffer 0
 
--- what is handed back, and the output buffer after it
+-- what is handed back, and the session and the output buffer after it
 pub record Trace : Type 0 where
   pub back : Traced
+  pub session : Session
   pub out : List ℕ
 
 -- the line put at the place `to` of the output buffer, where it fits
 abbrev pub lineTo : ℕ → ℕ → List ℕ → ℕ → Step → Trace
 lineTo n next out to t =
     record {
-      back =
-          record {
-            session = t .back .session;
-            place = Place.Next next;
-            put = putAt out to (lineOf (lineAfter n t));
-          };
+      back = record { place = Place.Next next; put = putAt out to (lineOf (lineAfter n t)) };
+      session = t .session;
       out = written out to (lineOf (lineAfter n t));
     }
 
 -- no whole record: nothing is put, and the session stays as it was
 abbrev pub nothing : Session → Place → List ℕ → ℕ → Trace
 nothing session place out to =
-    record { back = record { session = session; place = place; put = Put.Next to }; out = out }
+    record { back = record { place = place; put = Put.Next to }; session = session; out = out }
 
 abbrev pub traceOf : Session → ℕ → List ℕ → List ℕ → ℕ → Record → Trace
 traceOf session n s out to (Record.Whole start len report next) =

@@ -1,11 +1,12 @@
 // A line of the trace.
 ghost use mathlib.Core.Path.{_≡_};
 ghost use Prim.Native.Nat.{_+_, _≤_};
-ghost use Rattle.keeper.specs.Rows.{placeBehind};
 ghost use Rattle.varint.specs.Put.{putAt, written};
 ghost use Rattle.reply.specs.Decimal.{decimal};
 ghost use Rattle.reply.specs.Puts.{Puts};
-ghost use Rattle.trace_line.specs.Line.{column, letterOf, lineOf, markOf};
+ghost use Rattle.trace_line.specs.Line.{column, letterOf, lineOf, markOf, placeBehind};
+use message::head::LENGTH_BYTES;
+use protocol::server;
 use varint::write::Put;
 
 // What a line prints, in this order.
@@ -25,23 +26,23 @@ fn letter_of(kind: u8) -> u8
     ensures { λ r. ⌜ r ≡ letterOf kind ⌝ }
 {
     match kind {
-        0 => b'O',
-        15 => b'S',
-        14 => b'D',
-        17 => b'X',
-        1 => b'E',
+        server::OK => b'O',
+        server::FETCH_SUSPENDED => b'S',
+        server::FETCH_DONE => b'D',
+        server::STMT_EXECUTE_OK => b'X',
+        server::ERROR => b'E',
         _ => b'N',
     }
 }
 
 // The mark of a reply of n bytes, by the type of its first frame.
-pub fn mark_of(reply: &[u8; 128], n: usize) -> u8
+pub fn mark_of(reply: &[u8; rules::MIN_BUFFER], n: usize) -> u8
     ensures { λ r. ⌜ r ≡ markOf (now (reply .entry)) n ⌝ }
 {
     if n == 0 {
         return b'N';
     }
-    letter_of(reply[4])
+    letter_of(reply[LENGTH_BYTES])
 }
 
 // The place behind what was put.
@@ -91,7 +92,8 @@ fn put_line(t: &mut [u8; 160], l: Line) -> usize
 
 // The line put at the place `at`, where it fits; else the buffer stays as it was.
 pub fn write_line(buf: &mut [u8], at: usize, l: Line) -> Put
-    ensures { λ r. ⌜ (r ≡ putAt (now (buf .entry)) at (lineOf l)) × (now (buf .exit) ≡ written (now (buf .entry)) at (lineOf l)) ⌝ }
+    ensures { λ r. ⌜ (r ≡ putAt (now (buf .entry)) at (lineOf l))
+        × (now (buf .exit) ≡ written (now (buf .entry)) at (lineOf l)) ⌝ }
 {
     let mut text = [0u8; 160];
     let n = put_line(&mut text, l);

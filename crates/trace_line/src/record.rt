@@ -2,7 +2,8 @@
 ghost use mathlib.Core.Path.{_≡_};
 ghost use Prim.Native.Nat.{_+_, _≤_};
 ghost use lib.ListN.{length};
-ghost use Rattle.trace_line.specs.Record.{frameAt, kindAt, numberAt, oneNumber, recordAt, reportAt, rowsAt, twoNumbers, unended};
+ghost use Rattle.trace_line.specs.Record.{failedAt, frameAt, kindAt, numberAt, preparedAt};
+ghost use Rattle.trace_line.specs.Record.{recordAt, reportAt, resultAt, rowsAt, unended};
 use rules::Report;
 use varint::Varint;
 
@@ -51,18 +52,20 @@ pub fn read_number(s: &[u8], at: usize) -> Number
     }
 }
 
-// The report of one number.
-fn read_one(s: &[u8], start: usize, len: usize, kind: u64, at: usize) -> Record
-    ensures { λ r. ⌜ r ≡ oneNumber (now (s .entry)) start len kind at ⌝ }
+// A prepared has its placeholders.
+fn read_prepared(s: &[u8], start: usize, len: usize, at: usize) -> Record
+    ensures { λ r. ⌜ r ≡ preparedAt (now (s .entry)) start len at ⌝ }
 {
     match read_number(s, at) {
         Number::Value { value, next } => Record::Whole {
             start,
             len,
             report: Report {
-                kind,
-                a: value,
-                b: 0,
+                kind: rules::PREPARED,
+                placeholders: value,
+                columns: 0,
+                rows: 0,
+                code: 0,
             },
             next,
         },
@@ -71,18 +74,20 @@ fn read_one(s: &[u8], start: usize, len: usize, kind: u64, at: usize) -> Record
     }
 }
 
-// The second number of a result.
-fn read_rows(s: &[u8], start: usize, len: usize, kind: u64, columns: u64, at: usize) -> Record
-    ensures { λ r. ⌜ r ≡ rowsAt (now (s .entry)) start len kind columns at ⌝ }
+// A failed has its code.
+fn read_failed(s: &[u8], start: usize, len: usize, at: usize) -> Record
+    ensures { λ r. ⌜ r ≡ failedAt (now (s .entry)) start len at ⌝ }
 {
     match read_number(s, at) {
         Number::Value { value, next } => Record::Whole {
             start,
             len,
             report: Report {
-                kind,
-                a: columns,
-                b: value,
+                kind: rules::FAILED,
+                placeholders: 0,
+                columns: 0,
+                rows: 0,
+                code: value,
             },
             next,
         },
@@ -91,11 +96,33 @@ fn read_rows(s: &[u8], start: usize, len: usize, kind: u64, columns: u64, at: us
     }
 }
 
-fn read_two(s: &[u8], start: usize, len: usize, kind: u64, at: usize) -> Record
-    ensures { λ r. ⌜ r ≡ twoNumbers (now (s .entry)) start len kind at ⌝ }
+// The rows of a result, which stand behind its columns.
+fn read_rows(s: &[u8], start: usize, len: usize, columns: u64, at: usize) -> Record
+    ensures { λ r. ⌜ r ≡ rowsAt (now (s .entry)) start len columns at ⌝ }
 {
     match read_number(s, at) {
-        Number::Value { value, next } => read_rows(s, start, len, kind, value, next),
+        Number::Value { value, next } => Record::Whole {
+            start,
+            len,
+            report: Report {
+                kind: rules::RESULT,
+                placeholders: 0,
+                columns,
+                rows: value,
+                code: 0,
+            },
+            next,
+        },
+        Number::Short => Record::Short,
+        Number::Bad => Record::Bad,
+    }
+}
+
+fn read_result(s: &[u8], start: usize, len: usize, at: usize) -> Record
+    ensures { λ r. ⌜ r ≡ resultAt (now (s .entry)) start len at ⌝ }
+{
+    match read_number(s, at) {
+        Number::Value { value, next } => read_rows(s, start, len, value, next),
         Number::Short => Record::Short,
         Number::Bad => Record::Bad,
     }
@@ -108,13 +135,19 @@ fn read_report(s: &[u8], start: usize, len: usize, kind: u64, at: usize) -> Reco
         return Record::Bad;
     }
     match kind {
-        rules::PREPARED => read_one(s, start, len, kind, at),
-        rules::RESULT => read_two(s, start, len, kind, at),
-        rules::FAILED => read_one(s, start, len, kind, at),
+        rules::PREPARED => read_prepared(s, start, len, at),
+        rules::RESULT => read_result(s, start, len, at),
+        rules::FAILED => read_failed(s, start, len, at),
         _ => Record::Whole {
             start,
             len,
-            report: Report { kind, a: 0, b: 0 },
+            report: Report {
+                kind,
+                placeholders: 0,
+                columns: 0,
+                rows: 0,
+                code: 0,
+            },
             next: at,
         },
     }

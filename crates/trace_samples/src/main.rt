@@ -30,7 +30,8 @@ fn trace_run(s: &[u8]) {
     );
     let mut room = [0u8; 160];
     let out: &mut [u8] = &mut room;
-    let mut session = Session::fresh();
+    let session = Session::fresh();
+    let mut words = session.words;
     let mut at = 0;
     let mut left = s.len();
     while left > 0 {
@@ -39,9 +40,7 @@ fn trace_run(s: &[u8]) {
             return;
         }
         let n = s.len() - left;
-        let t = trace_line::trace_record(session, n as u64, s, at, out, 0);
-        let after = t.session;
-        session = after;
+        let t = trace_line::trace_record(&mut words, n as u64, s, at, out, 0);
         let place = t.place;
         let put = t.put;
         match place {

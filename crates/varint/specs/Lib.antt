@@ -3,4 +3,3 @@ pub mod Put
 pub mod Shortest
 pub mod Varint
 pub mod VarintRules
-pub mod Numbers

@@ -1,4 +1,4 @@
--- Reading a varint (document 01, "Payload rules"): 1 to 10 bytes, seven bits each, least group first; bits past 64 are dropped.
+-- Reading a varint (W1, W2): 1 to 10 bytes, seven bits each, least group first; bits past 64 are dropped.
 use Prim.Native.Nat.{ℕ, zero, suc, _+_, _*_, _%_, _^_}
 use mathlib.Core.Bool.{cond}
 use mathlib.Core.List.{List}
@@ -21,7 +21,7 @@ groups (suc n) s at =
     (cond (ltb (getD s at 0) 128) (Number (getD s at 0) (at + 1)) (onto (getD s at 0 % 128) 128 more))
     Bad
 
--- bits past 64 are dropped
+-- bits past 64 are dropped (W2)
 abbrev pub low64 : Varint → Varint
 low64 (Number v next) = Number (v % 2 ^ 64) next
 low64 Bad = Bad

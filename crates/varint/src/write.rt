@@ -25,7 +25,9 @@ pub fn varint_len(v: u64) -> usize
 // The bytes of v from the place `at` on, where they fit. Answers the place behind them.
 fn put_groups(buf: &mut [u8], at: usize, v: u64) -> usize
     requires { ⌜ at + length (varintBytes v) ≤ length (now buf) ⌝ }
-    ensures { λ r. ⌜ (r ≡ at + length (varintBytes v)) × (now (buf .exit) ≡ sets (now (buf .entry)) at (varintBytes v)) ⌝ }
+    ensures { λ r. ⌜
+        (r ≡ at + length (varintBytes v)) × (now (buf .exit) ≡ sets (now (buf .entry)) at (varintBytes v))
+        ⌝ }
 {
     let mut x = v;
     let mut i = at;
@@ -40,7 +42,10 @@ fn put_groups(buf: &mut [u8], at: usize, v: u64) -> usize
 
 // The bytes of v put at the place `at`, where they fit; else the buffer stays as it was.
 pub fn write_varint(buf: &mut [u8], at: usize, v: u64) -> Put
-    ensures { λ r. ⌜ (r ≡ putAt (now (buf .entry)) at (varintBytes v)) × (now (buf .exit) ≡ written (now (buf .entry)) at (varintBytes v)) ⌝ }
+    ensures { λ r. ⌜
+        (r ≡ putAt (now (buf .entry)) at (varintBytes v))
+        × (now (buf .exit) ≡ written (now (buf .entry)) at (varintBytes v))
+        ⌝ }
 {
     let n = varint_len(v);
     if buf.len() < at {

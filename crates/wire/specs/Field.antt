@@ -1,4 +1,5 @@
--- One field of a message: its number, wire type, value, the place and length of the value's bytes, and the place behind it.
+-- One field of a message: its number, wire type, value, the place and length of the value's bytes, and the place behind
+-- it.
 use Prim.Native.Nat.{ℕ, _-_}
 use mathlib.Core.Bool.{cond}
 use mathlib.Core.List.{List}
@@ -11,7 +12,7 @@ use Rattle.wire.specs.declared.value.Value.{Value}
 use Rattle.wire.specs.declared.group.Skip.{Skip}
 use Rattle.wire.specs.declared.field.Field.{Field}
 
--- groups may nest to depth 32
+-- groups may nest to depth 32 (W12)
 abbrev pub maxDepth : ℕ
 maxDepth = 32
 

@@ -1,5 +1,5 @@
--- Groups (document 01, "Payload rules"): wire types 3 and 4 may nest to depth 32; an end must carry its start's number; a lone
--- end, an unended group and depth 33 are bad. All other rules hold inside groups too.
+-- Groups (W12, W13): wire types 3 and 4 may nest to depth 32; an end must carry its start's number; a lone end, an
+-- unended group and depth 33 are bad. All other rules hold inside groups too.
 use Prim.Native.Nat.{ℕ, zero, suc}
 use mathlib.Core.Bool.{cond}
 use mathlib.Core.List.{List}
@@ -24,8 +24,8 @@ abbrev pub andThen : Skip → (ℕ → Skip) → Skip
 andThen (Skip.At q) more = more q
 andThen Skip.Bad more = Skip.Bad
 
--- one field of the group `number`, from its tag on: its end must carry that number; an inner group is skipped by `inner`, any
--- other field by its value; then `more` goes on
+-- one field of the group `number`, from its tag on: its end must carry that number; an inner group is skipped by
+-- `inner`, any other field by its value; then `more` goes on
 abbrev pub groupField : (ℕ → ℕ → Skip) → (ℕ → Skip) → List ℕ → ℕ → Tag → Skip
 groupField inner more s number (Tag.Field n w next) =
     cond (eqb w 4) (cond (eqb n number) (Skip.At next) Skip.Bad)
@@ -38,8 +38,8 @@ groupFields inner zero s at number = Skip.Bad
 groupFields inner (suc most) s at number =
     groupField inner (λ q. groupFields inner most s q number) s number (tagAt s at)
 
--- the place behind the end of the group `number`, whose start tag ends at `at`; at most `depth` groups stand one in another.
--- A field has a byte at least, so there are no more fields than bytes.
+-- the place behind the end of the group `number`, whose start tag ends at `at`; at most `depth` groups stand one in
+-- another. A field has a byte at least, so there are no more fields than bytes.
 unfoldable pub groupEnd : ℕ → List ℕ → ℕ → ℕ → Skip
 groupEnd zero s at number = Skip.Bad
 groupEnd (suc depth) s at number = groupFields (λ n p. groupEnd depth s p n) (length s) s at number

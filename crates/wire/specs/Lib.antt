@@ -3,4 +3,3 @@ pub mod Value
 pub mod Group
 pub mod Field
 pub mod Past
-pub mod Numbers

@@ -1,4 +1,4 @@
--- The value behind a tag (document 01, "Payload rules"): lengths may not pass the end of their message, the end of s here.
+-- The value behind a tag (W8, W7): lengths may not pass the end of their message, the end of s here.
 use Prim.Native.Nat.{ℕ, _+_, _-_}
 use mathlib.Core.Bool.{cond}
 use mathlib.Core.List.{List}

@@ -1,4 +1,5 @@
--- Field lists read in bytes and in a byte string that holds these bytes: they are alike but for the places. Assumes nothing.
+-- Field lists read in bytes and in a byte string that holds these bytes: they are alike but for the places. Assumes
+-- nothing.
 use Prim.Native.Nat.{ℕ, zero, suc, _+_, _-_, _≤_, _<_}
 use native.Mathlib.Omega.{arith}
 use mathlib.Core.Bool.{Bool, true, false, cond}
@@ -17,7 +18,8 @@ use Rattle.layout.specs.Slots.{noSlots, badSlots}
 use Rattle.layout.specs.Fields.{useOf, noted, fieldList, hasRequired, checked, fieldsAt}
 use Rattle.layout.specs.declared.slots.Slots.{Slots}
 use Rattle.layout.specs.declared.fields.Use.{Use}
-use Rattle.layout.proofs.FieldsLaws.{Listing, starts, ends, no-field, advances, goes-on, kept-slot, checked-good, checked-bad}
+use Rattle.layout.proofs.FieldsLaws.{Listing, starts, ends, no-field, advances, goes-on, kept-slot, checked-good}
+use Rattle.layout.proofs.FieldsLaws.{checked-bad}
 use Rattle.args.specs.Part.{embedded, countOf, startOf, lenOf}
 use Rattle.args.proofs.PartLaws.{part-within}
 use Rattle.writer.proofs.TailLaws.{less-or-not, Tail, tail-length, Stands, stands-length, stands-take}
@@ -48,7 +50,8 @@ same-or-not {A} k i f g = go (eqb k i) refl
     go false e = g (eqb-false k i e)
 
 -- a field that is only counted is a repeated one
-counted-repeated : (rows : List (List ℕ)) (number w v : ℕ) → useOf rows number w v ≡ Use.Counted → isRepeated (rowFor rows number) ≡ true
+counted-repeated : (rows : List (List ℕ)) (number w v : ℕ) → useOf rows number w v ≡ Use.Counted →
+    isRepeated (rowFor rows number) ≡ true
 counted-repeated rows number w v = go (takes (rowFor rows number) number w v) (isRepeated (rowFor rows number))
   where
     go : (a b : Bool) → cond a (cond b Use.Counted Use.Kept) Use.Unknown ≡ Use.Counted → b ≡ true
@@ -82,11 +85,13 @@ module _ (rows : List (List ℕ)) (d n : ℕ) where
       }
 
   pub alike-as : {x y x′ y′ : Slots} → x ≡ x′ → y ≡ y′ → Alike rows d n x y → Alike rows d n x′ y′
-  alike-as {x} {y} {x′} {y′} e f a = subst (λ (z : Slots). Alike rows d n x′ z) f (subst (λ (z : Slots). Alike rows d n z y) e a)
+  alike-as {x} {y} {x′} {y′} e f a =
+      subst (λ (z : Slots). Alike rows d n x′ z) f (subst (λ (z : Slots). Alike rows d n z y) e a)
 
   -- one field more
   module _ {x y : Slots} (a : Alike rows d n x y) (number w v st ln : ℕ) (in-n : st + ln ≤ n) where
-    noted-alike : (u : Use) → useOf rows number w v ≡ u → Alike rows d n (noted u x number v st ln) (noted u y number v (d + st) ln)
+    noted-alike : (u : Use) → useOf rows number w v ≡ u →
+        Alike rows d n (noted u x number v st ln) (noted u y number v (d + st) ln)
     noted-alike Use.Unknown e = a
     noted-alike Use.Counted e =
         record {
@@ -161,25 +166,30 @@ module _ (rows : List (List ℕ)) {s : List ℕ} {d : ℕ} {t : List ℕ} (k : T
   abbrev Same : Type 0
   Same = Alike rows d (length t) (fieldList rows t from) (fieldList rows s (d + from))
 
-  module _ (p : ℕ) (i : p < length t) {x y : Slots} (f : Listing rows t from p x) (g : Listing rows s (d + from) (d + p) y)
+  module _ (p : ℕ) (i : p < length t) {x y : Slots} (f : Listing rows t from p x)
+      (g : Listing rows s (d + from) (d + p) y)
       (a : Alike rows d (length t) x y)
-      (on : (q : ℕ) → p < q → (x′ y′ : Slots) → Listing rows t from q x′ → Listing rows s (d + from) (d + q) y′ → Alike rows d (length t) x′ y′ → Same) where
+      (on : (q : ℕ) → p < q → (x′ y′ : Slots) → Listing rows t from q x′ → Listing rows s (d + from) (d + q) y′ →
+      Alike rows d (length t) x′ y′ → Same) where
     j : d + p < length s
     j = omega (arith, tail-length k)
 
     by-field : (z : Field) → fieldAt t p ≡ z → Same
     by-field Field.Bad e =
-        alike-as rows d (length t) (no-field f i e) (no-field g j (field-moved k p ∙ ap (movedField d) e)) (bad-alike rows d (length t))
+        alike-as rows d (length t) (no-field f i e) (no-field g j (field-moved k p ∙ ap (movedField d) e))
+        (bad-alike rows d (length t))
     by-field (Field.Good number w v st ln next) e =
         let e′ = field-moved k p ∙ ap (movedField d) e in
         let u = useOf rows number w v in
-        on next (advances f i e) (noted u x number v st ln) (noted u y number v (d + st) ln) (goes-on f i e (useOf rows number w v) refl) (goes-on g j e′ (useOf rows number w v) refl)
+        on next (advances f i e) (noted u x number v st ln) (noted u y number v (d + st) ln)
+        (goes-on f i e (useOf rows number w v) refl) (goes-on g j e′ (useOf rows number w v) refl)
         (noted-alike rows d (length t) a number w v st ln (within (field-past t p)) (useOf rows number w v) refl)
       where
         within : PastField p (length t) (fieldAt t p) → st + ln ≤ length t
         within = rw e (λ h. omega arith)
 
-  walks : (most p : ℕ) → length t ≤ p + most → {x y : Slots} → Listing rows t from p x → Listing rows s (d + from) (d + p) y →
+  walks : (most p : ℕ) → length t ≤ p + most → {x y : Slots} → Listing rows t from p x →
+      Listing rows s (d + from) (d + p) y →
       Alike rows d (length t) x y → Same
   walks zero p h f g a = alike-as rows d (length t) (ends f (omega arith)) (ends g (omega (arith, tail-length k))) a
   walks (suc most) p h f g a =
@@ -192,12 +202,14 @@ module _ (rows : List (List ℕ)) {s : List ℕ} {d : ℕ} {t : List ℕ} (k : T
 
   pub fields-alike : Alike rows d (length t) (fieldsAt rows t from) (fieldsAt rows s (d + from))
   fields-alike =
-      go (fieldList rows t from) (fieldList rows s (d + from)) list-alike (hasRequired rows (fieldList rows t from .count)) refl
+      go (fieldList rows t from) (fieldList rows s (d + from)) list-alike
+      (hasRequired rows (fieldList rows t from .count)) refl
     where
       go : (x y : Slots) → Alike rows d (length t) x y → (b : Bool) → hasRequired rows (x .count) ≡ b →
           Alike rows d (length t) (checked rows x) (checked rows y)
       go x y a true e =
-          alike-as rows d (length t) (checked-good rows x e) (checked-good rows y (ap (hasRequired rows) (a .count) ∙ e)) a
+          alike-as rows d (length t) (checked-good rows x e)
+          (checked-good rows y (ap (hasRequired rows) (a .count) ∙ e)) a
       go x y a false e =
           alike-as rows d (length t) (checked-bad rows x e) (checked-bad rows y (ap (hasRequired rows) (a .count) ∙ e))
           (bad-alike rows d (length t))
@@ -215,10 +227,12 @@ alike-more h a =
     }
 
 -- a message embedded in the bytes
-pub embedded-alike : (rows : List (List ℕ)) {s : List ℕ} {d : ℕ} {t q : List ℕ} → Stands s d t q → (at n : ℕ) → at + n ≤ length t →
+pub embedded-alike : (rows : List (List ℕ)) {s : List ℕ} {d : ℕ} {t q : List ℕ} → Stands s d t q → (at n : ℕ) →
+    at + n ≤ length t →
     Alike rows d (length t) (embedded rows t at n) (embedded rows s (d + at) n)
 embedded-alike rows {s} {d} {t} {q} k at n h =
     let e : d + (at + n) ≡ d + at + n = omega arith in
     alike-as rows d (length t) (part-within rows t at n h)
-    (ap (λ (m : ℕ). fieldsAt rows (take m s) (d + at)) e ∙ part-within rows s (d + at) n (omega (arith, stands-length k)))
+    (ap (λ (m : ℕ). fieldsAt rows (take m s) (d + at)) e
+    ∙ part-within rows s (d + at) n (omega (arith, stands-length k)))
     (alike-more (omega (arith, length-take-le (at + n) t h)) (fields-alike rows (stands-take k (at + n) h) at))

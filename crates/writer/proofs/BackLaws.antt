@@ -1,4 +1,4 @@
--- From a written frame to the message that it holds. Assumes nothing.
+-- From a written frame to the request that it holds. Assumes nothing.
 use Prim.Native.Nat.{ℕ, _+_, _-_, _^_, _≤_, _<_}
 use native.Mathlib.Omega.{arith}
 use native.Mathlib.Nat.{mod-eq-of-lt}
@@ -10,20 +10,23 @@ use lib.Seq.{take-at}
 use Rattle.scalar.specs.Fixed.{little}
 use Rattle.scalar.proofs.FixedLaws.{fixed-whole}
 use Rattle.reply.specs.Frame.{fourBytes, frame, numberField}
+use Rattle.protocol.specs.Client as Client
 use Rattle.message.specs.Head.{maxLength, headOf}
-use Rattle.message.specs.Frame.{messageIn, ofHead, messageOf}
+use Rattle.message.specs.Frame.{frameIn, ofHead, frameOf}
 use Rattle.message.specs.declared.head.Head.{Head}
+use Rattle.message.specs.declared.request.Request.{Request}
+use Rattle.message.specs.declared.request.Frame.{Frame}
 use Rattle.message.proofs.HeadLaws.{head-whole}
-use Rattle.layout.specs.Table.{rowsOf, deallocate, close, fetch}
+use Rattle.layout.specs.Table.{rowsOf}
 use Rattle.layout.specs.Row.{rowFor}
 use Rattle.layout.specs.Slots.{noSlots}
 use Rattle.layout.specs.Fields.{useOf, fieldsFrom, hasRequired}
 use Rattle.layout.specs.declared.slots.Slots.{Slots}
 use Rattle.layout.specs.declared.fields.Use.{Use}
 use Rattle.args.specs.Part.{low32}
-use Rattle.args.specs.Arguments.{noArguments}
-use Rattle.message.specs.Message.{payload, noOptional, noPart, message, blank}
-use Rattle.message.specs.Simple.{plainMessage, deallocateIn, deallocateMessage, cursorIn, closeMessage, fetchMessage}
+use Rattle.message.specs.Payload.{payload}
+use Rattle.message.specs.Simple.{resetFrame, sessionCloseFrame, deallocateIn, deallocateFrame, closeIn, closeFrame}
+use Rattle.message.specs.Simple.{fetchIn, fetchFrame}
 use Rattle.writer.specs.Payload.{optionalField}
 use Rattle.writer.specs.RoundTrip.{given}
 use Rattle.writer.proofs.FieldLaws.{withNumber, reads-number, reads-optional, reads-then, whole-good}
@@ -44,14 +47,16 @@ module _ (kind : ℕ) (content rest : List ℕ) (fits : length content + 1 ≤ m
   head-is =
       sym
       (head-whole s {next = 0 + 4}
-      (fixed-whole 4 s 0 (length content + 1) (omega arith) (sym (little-head (length content + 1) kind (content ++ rest) fits)))
+      (fixed-whole 4 s 0 (length content + 1) (omega arith)
+      (sym (little-head (length content + 1) kind (content ++ rest) fits)))
       (λ z. omega arith) fits (omega (arith, length-append content rest)))
 
-  pub message-is : messageOf s ≡ messageIn (frame kind content) kind
-  unfolding messageOf
-  message-is =
+  pub frame-is : frameOf s ≡ frameIn (frame kind content) kind
+  unfolding frameOf
+  frame-is =
       ap (ofHead s) head-is
-      ∙ ap (λ (l : List ℕ). messageIn l kind) (take-at (frame kind content) rest (4 + (length content + 1)) (omega (arith, frame-length kind content)))
+      ∙ ap (λ (l : List ℕ). frameIn l kind)
+      (take-at (frame kind content) rest (4 + (length content + 1)) (omega (arith, frame-length kind content)))
 
 -- the payload in its frame
 pub payload-tail : (kind : ℕ) (content : List ℕ) → Tail (frame kind content) payload content
@@ -63,79 +68,90 @@ payload-tail kind content = record { within = omega (arith, frame-length kind co
 low-kept : (v : ℕ) → v < 2 ^ 32 → low32 v ≡ v
 low-kept v h = mod-eq-of-lt h
 
-pub plain-back : (kind : ℕ) → plainMessage (frame kind []) kind ≡ blank 5 kind
-unfolding plainMessage hasRequired fieldsFrom
-plain-back kind = refl
+pub reset-back : resetFrame (frame Client.reset []) ≡ Frame.Good 5 Request.Reset
+unfolding resetFrame hasRequired fieldsFrom
+reset-back = refl
+
+pub session-close-back : sessionCloseFrame (frame Client.sessionClose []) ≡ Frame.Good 5 Request.SessionClose
+unfolding sessionCloseFrame hasRequired fieldsFrom
+session-close-back = refl
 
 -- what the rows take
 module _ (v : ℕ) where
-  kept-deallocate : Use.Kept ≡ useOf (rowsOf deallocate) 1 0 v
+  kept-deallocate : Use.Kept ≡ useOf (rowsOf Client.deallocate) 1 0 v
   unfolding rowsOf rowFor
   kept-deallocate = refl
 
-  kept-close : Use.Kept ≡ useOf (rowsOf close) 1 0 v
+  kept-close : Use.Kept ≡ useOf (rowsOf Client.close) 1 0 v
   unfolding rowsOf rowFor
   kept-close = refl
 
-  kept-fetch : (Use.Kept ≡ useOf (rowsOf fetch) 1 0 v) × (Use.Kept ≡ useOf (rowsOf fetch) 2 0 v)
+  kept-fetch : (Use.Kept ≡ useOf (rowsOf Client.fetch) 1 0 v) × (Use.Kept ≡ useOf (rowsOf Client.fetch) 2 0 v)
   unfolding rowsOf rowFor
   kept-fetch = (refl, refl)
 
 -- one required field, in slot 1
-one-there : (hasRequired (rowsOf deallocate) (0 ∷ 1 ∷ 0 ∷ 0 ∷ 0 ∷ 0 ∷ 0 ∷ 0 ∷ 0 ∷ 0 ∷ []) ≡ true)
-    × (hasRequired (rowsOf close) (0 ∷ 1 ∷ 0 ∷ 0 ∷ 0 ∷ 0 ∷ 0 ∷ 0 ∷ 0 ∷ 0 ∷ []) ≡ true)
-    × (hasRequired (rowsOf fetch) (0 ∷ 1 ∷ 0 ∷ 0 ∷ 0 ∷ 0 ∷ 0 ∷ 0 ∷ 0 ∷ 0 ∷ []) ≡ true)
-    × (hasRequired (rowsOf fetch) (0 ∷ 1 ∷ 1 ∷ 0 ∷ 0 ∷ 0 ∷ 0 ∷ 0 ∷ 0 ∷ 0 ∷ []) ≡ true)
+one-there : (hasRequired (rowsOf Client.deallocate) (0 ∷ 1 ∷ 0 ∷ 0 ∷ 0 ∷ 0 ∷ 0 ∷ 0 ∷ 0 ∷ 0 ∷ []) ≡ true)
+    × (hasRequired (rowsOf Client.close) (0 ∷ 1 ∷ 0 ∷ 0 ∷ 0 ∷ 0 ∷ 0 ∷ 0 ∷ 0 ∷ 0 ∷ []) ≡ true)
+    × (hasRequired (rowsOf Client.fetch) (0 ∷ 1 ∷ 0 ∷ 0 ∷ 0 ∷ 0 ∷ 0 ∷ 0 ∷ 0 ∷ 0 ∷ []) ≡ true)
+    × (hasRequired (rowsOf Client.fetch) (0 ∷ 1 ∷ 1 ∷ 0 ∷ 0 ∷ 0 ∷ 0 ∷ 0 ∷ 0 ∷ 0 ∷ []) ≡ true)
 unfolding rowsOf rowFor hasRequired
 one-there = (refl, refl, refl, refl)
 
 pub deallocate-back : (stmt : ℕ) → stmt < 2 ^ 32 →
-    deallocateMessage (frame 42 (numberField 1 stmt))
-    ≡ message (length (frame 42 (numberField 1 stmt))) deallocate stmt 0 noOptional noOptional 0 noPart (noArguments 0 0)
-unfolding deallocateMessage
+    deallocateFrame (frame Client.deallocate (numberField 1 stmt))
+    ≡ Frame.Good (length (frame Client.deallocate (numberField 1 stmt))) (Request.Deallocate stmt)
+unfolding deallocateFrame
 deallocate-back stmt h =
-    let s = frame 42 (numberField 1 stmt) in
+    let s = frame Client.deallocate (numberField 1 stmt) in
     ap (deallocateIn s)
-    (whole-good (reads-number (rowsOf deallocate) 1 stmt (kept-deallocate stmt) (omega arith) (omega arith) (omega arith))
-    (payload-tail 42 (numberField 1 stmt)) (one-there .0))
-    ∙ ap (λ (v : ℕ). message (length s) deallocate v 0 noOptional noOptional 0 noPart (noArguments 0 0)) (low-kept stmt h)
+    (whole-good (reads-number (rowsOf Client.deallocate) 1 stmt (kept-deallocate stmt) (omega arith) (omega arith)
+    (omega arith))
+    (payload-tail Client.deallocate (numberField 1 stmt)) (one-there .0))
+    ∙ ap (λ (v : ℕ). Frame.Good (length s) (Request.Deallocate v)) (low-kept stmt h)
 
 pub close-back : (cursor : ℕ) → cursor < 2 ^ 32 →
-    closeMessage (frame 44 (numberField 1 cursor))
-    ≡ message (length (frame 44 (numberField 1 cursor))) close 0 cursor noOptional noOptional 0 noPart (noArguments 0 0)
-unfolding closeMessage
+    closeFrame (frame Client.close (numberField 1 cursor))
+    ≡ Frame.Good (length (frame Client.close (numberField 1 cursor))) (Request.Close cursor)
+unfolding closeFrame
 close-back cursor h =
-    let s = frame 44 (numberField 1 cursor) in
-    ap (cursorIn s close)
-    (whole-good (reads-number (rowsOf close) 1 cursor (kept-close cursor) (omega arith) (omega arith) (omega arith))
-    (payload-tail 44 (numberField 1 cursor)) (one-there .1))
-    ∙ ap (λ (v : ℕ). message (length s) close 0 v noOptional noOptional 0 noPart (noArguments 0 0)) (low-kept cursor h)
+    let s = frame Client.close (numberField 1 cursor) in
+    ap (closeIn s)
+    (whole-good (reads-number (rowsOf Client.close) 1 cursor (kept-close cursor) (omega arith) (omega arith)
+    (omega arith))
+    (payload-tail Client.close (numberField 1 cursor)) (one-there .1))
+    ∙ ap (λ (v : ℕ). Frame.Good (length s) (Request.Close v)) (low-kept cursor h)
 
 -- the slots of a Fetch
 abbrev fetchSlots : ℕ → ℕ → Bool → Slots
 fetchSlots cursor rows b =
-    cond b (withNumber 2 rows (payload + length (numberField 1 cursor)) (withNumber 1 cursor payload noSlots)) (withNumber 1 cursor payload noSlots)
+    cond b (withNumber 2 rows (payload + length (numberField 1 cursor)) (withNumber 1 cursor payload noSlots))
+    (withNumber 1 cursor payload noSlots)
 
-fetch-needed : (cursor rows : ℕ) (b : Bool) → hasRequired (rowsOf fetch) (fetchSlots cursor rows b .count) ≡ true
+abbrev fetching : ℕ → Bool → ℕ → Request
+fetching cursor b rows = Request.Fetch (record { cursor = cursor; rows = given b rows })
+
+fetch-needed : (cursor rows : ℕ) (b : Bool) → hasRequired (rowsOf Client.fetch) (fetchSlots cursor rows b .count) ≡ true
 fetch-needed cursor rows true = one-there .3
 fetch-needed cursor rows false = one-there .2
 
 fetch-taken : (cursor rows : ℕ) (b : Bool) (s : List ℕ) →
-    cursorIn s fetch (fetchSlots cursor rows b)
-    ≡ message (length s) fetch 0 (low32 cursor) (given b rows) noOptional 0 noPart (noArguments 0 0)
+    fetchIn s (fetchSlots cursor rows b) ≡ Frame.Good (length s) (fetching (low32 cursor) b rows)
 fetch-taken cursor rows true s = refl
 fetch-taken cursor rows false s = refl
 
 pub fetch-back : (cursor rows : ℕ) (b : Bool) → cursor < 2 ^ 32 → rows < 2 ^ 64 →
-    fetchMessage (frame 45 (numberField 1 cursor ++ optionalField b 2 rows))
-    ≡ message (length (frame 45 (numberField 1 cursor ++ optionalField b 2 rows))) fetch 0 cursor (given b rows) noOptional 0 noPart (noArguments 0 0)
-unfolding fetchMessage
+    fetchFrame (frame Client.fetch (numberField 1 cursor ++ optionalField b 2 rows))
+    ≡ Frame.Good (length (frame Client.fetch (numberField 1 cursor ++ optionalField b 2 rows)))
+    (Request.Fetch (record { cursor = cursor; rows = given b rows }))
+unfolding fetchFrame
 fetch-back cursor rows b h g =
     let content = numberField 1 cursor ++ optionalField b 2 rows in
-    let s = frame 45 content in
+    let s = frame Client.fetch content in
     let r =
-    reads-then (reads-number (rowsOf fetch) 1 cursor (kept-fetch cursor .0) (omega arith) (omega arith) (omega arith))
-    (reads-optional (rowsOf fetch) b 2 rows (kept-fetch rows .1) (omega arith) (omega arith) g) in
-    ap (cursorIn s fetch) (whole-good r (payload-tail 45 content) (fetch-needed cursor rows b))
+    reads-then (reads-number (rowsOf Client.fetch) 1 cursor (kept-fetch cursor .0) (omega arith) (omega arith)
+    (omega arith))
+    (reads-optional (rowsOf Client.fetch) b 2 rows (kept-fetch rows .1) (omega arith) (omega arith) g) in
+    ap (fetchIn s) (whole-good r (payload-tail Client.fetch content) (fetch-needed cursor rows b))
     ∙ fetch-taken cursor rows b s
-    ∙ ap (λ (v : ℕ). message (length s) fetch 0 v (given b rows) noOptional 0 noPart (noArguments 0 0)) (low-kept cursor h)
+    ∙ ap (λ (v : ℕ). Frame.Good (length s) (fetching v b rows)) (low-kept cursor h)

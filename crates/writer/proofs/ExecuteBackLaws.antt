@@ -9,7 +9,8 @@ use lib.ListN.{length, take}
 use lib.Seq.{length-take-le}
 use Rattle.scalar.specs.declared.argument.Argument.{Argument}
 use Rattle.reply.specs.Frame.{frame, numberField, bytesField}
-use Rattle.layout.specs.Table.{rowsOf, execute, open', openStmt}
+use Rattle.protocol.specs.Client as Client
+use Rattle.layout.specs.Table.{rowsOf, openStmt}
 use Rattle.layout.specs.Row.{rowFor}
 use Rattle.layout.specs.Slots.{noSlots}
 use Rattle.layout.specs.Fields.{useOf, hasRequired}
@@ -18,30 +19,37 @@ use Rattle.layout.specs.declared.fields.Use.{Use}
 use Rattle.args.specs.Part.{embedded, low32}
 use Rattle.args.specs.Arguments.{noArguments, together, argumentsAt}
 use Rattle.args.specs.declared.arguments.Arguments.{Arguments}
-use Rattle.message.specs.Message.{payload, noOptional, noPart, message}
-use Rattle.message.specs.Execute.{argumentsWithin, executeOf, executeIn, executeFrom, executeMessage, openFrom, openOf, openWith, openMessage}
-use Rattle.message.specs.declared.execute.Execute.{Execute}
-use Rattle.message.proofs.MessageLaws.{within-there, execute-good, open-from-good}
+use Rattle.message.specs.Payload.{payload}
+use Rattle.message.specs.Execute.{argumentsWithin, executeOf, executeIn, executeFrom, executeFrame, openFrom}
+use Rattle.message.specs.Execute.{openChosen, openInside, openOf, openFrame}
+use Rattle.message.specs.declared.request.Optional.{Optional}
+use Rattle.message.specs.declared.request.Execute.{Execute}
+use Rattle.message.specs.declared.request.Request.{Request}
+use Rattle.message.specs.declared.request.Frame.{Frame}
+use Rattle.message.proofs.MessageLaws.{payload-good, within-there, execute-good}
 use Rattle.writer.specs.Moved.{moved}
 use Rattle.writer.specs.Payload.{optionalField}
 use Rattle.writer.specs.RoundTrip.{given}
-use Rattle.writer.proofs.TailLaws.{tail-length, tail-stands, Stands, stands-length, stands-first, stands-next, stands-cut}
-use Rattle.writer.proofs.FieldLaws.{withNumber, withBytes, behindTag, reads-number, reads-bytes, reads-optional, reads-then, whole-good, embedded-good, stands-inside}
+use Rattle.writer.proofs.TailLaws.{tail-length, tail-stands, Stands, stands-length, stands-first, stands-next}
+use Rattle.writer.proofs.TailLaws.{stands-cut}
+use Rattle.writer.proofs.FieldLaws.{withNumber, withBytes, behindTag, reads-number, reads-bytes, reads-optional}
+use Rattle.writer.proofs.FieldLaws.{reads-then, whole-good, embedded-good, stands-inside}
 use Rattle.writer.proofs.ArgListLaws.{together-kept, together-moved}
 use Rattle.writer.proofs.StretchLaws.{Stretch, fieldCount, bump, bumped, withCount, reads-stretch}
-use Rattle.writer.proofs.ListsLaws.{lists-number, lists-optional, lists-then, lists-whole, lists-stretch, stretch-good}
+use Rattle.writer.proofs.ListsLaws.{lists-number, lists-optional, lists-then, lists-whole, lists-stretch}
+use Rattle.writer.proofs.ListsLaws.{stretch-good}
 use Rattle.writer.proofs.BackLaws.{payload-tail}
 
 module _ (v : ℕ) where
-  kept-stmt : Use.Kept ≡ useOf (rowsOf execute) 1 0 v
+  kept-stmt : Use.Kept ≡ useOf (rowsOf Client.execute) 1 0 v
   unfolding rowsOf rowFor
   kept-stmt = refl
 
-  counted-args : Use.Counted ≡ useOf (rowsOf execute) 2 2 v
+  counted-args : Use.Counted ≡ useOf (rowsOf Client.execute) 2 2 v
   unfolding rowsOf rowFor
   counted-args = refl
 
-  kept-compact : Use.Kept ≡ useOf (rowsOf execute) 3 0 v
+  kept-compact : Use.Kept ≡ useOf (rowsOf Client.execute) 3 0 v
   unfolding rowsOf rowFor
   kept-compact = refl
 
@@ -55,17 +63,19 @@ pub record Held (s : List ℕ) (at n : ℕ) (l : List Argument) (a : Arguments) 
 -- the slots of an Execute with n arguments
 abbrev executeSlots : ℕ → ℕ → ℕ → ℕ → Bool → Bool → Slots
 executeSlots stmt at far n b z =
-    cond b (withNumber 3 (cond z 1 0) far (withCount (withNumber 1 stmt at noSlots) (0 ∷ 1 ∷ n ∷ 0 ∷ 0 ∷ 0 ∷ 0 ∷ 0 ∷ 0 ∷ 0 ∷ [])))
+    cond b (withNumber 3 (cond z 1 0) far
+    (withCount (withNumber 1 stmt at noSlots) (0 ∷ 1 ∷ n ∷ 0 ∷ 0 ∷ 0 ∷ 0 ∷ 0 ∷ 0 ∷ 0 ∷ [])))
     (withCount (withNumber 1 stmt at noSlots) (0 ∷ 1 ∷ n ∷ 0 ∷ 0 ∷ 0 ∷ 0 ∷ 0 ∷ 0 ∷ 0 ∷ []))
 
 module _ (stmt at far n : ℕ) where
-  execute-needed : (b z : Bool) → true ≡ hasRequired (rowsOf execute) (executeSlots stmt at far n b z .count)
+  execute-needed : (b z : Bool) → true ≡ hasRequired (rowsOf Client.execute) (executeSlots stmt at far n b z .count)
   unfolding rowsOf hasRequired
   execute-needed true z = refl
   execute-needed false z = refl
 
   execute-taken : (b z : Bool) (a : Arguments) → a .good ≡ true →
-      executeOf (executeSlots stmt at far n b z) a ≡ record { good = true; stmt = low32 stmt; compact = given b (cond z 1 0); args = a }
+      executeOf (executeSlots stmt at far n b z) a ≡ record
+      { stmt = low32 stmt; compact = given b (cond z 1 0); args = a }
   execute-taken true true a h = sym (execute-good (executeSlots stmt at far n true true) a refl h)
   execute-taken true false a h = sym (execute-good (executeSlots stmt at far n true false) a refl h)
   execute-taken false z a h = sym (execute-good (executeSlots stmt at far n false z) a refl h)
@@ -99,17 +109,21 @@ module _ (stmt : ℕ) (b z : Bool) (args : List ℕ) (g : Stretch args 0) (small
     list-is : argumentsAt (take (at + length bytes) s) at ≡ map (moved place) (argumentsAt args 0)
     list-is =
         lists-whole
-        (lists-then (lists-then (lists-number 1 stmt (omega arith) (omega arith) (λ e. omega arith) (omega arith)) (lists-stretch args g))
+        (lists-then (lists-then (lists-number 1 stmt (omega arith) (omega arith) (λ e. omega arith) (omega arith))
+        (lists-stretch args g))
         (lists-optional b 3 c (omega arith) (omega arith) (λ e. omega arith) compact-small))
         (stands-cut k)
         ∙ append-nil (map (moved place) (argumentsAt args 0))
 
-    pub args-held : Held s at (length bytes) (map (moved place) (argumentsAt args 0)) (argumentsWithin s at (length bytes))
+    pub args-held : Held s at (length bytes) (map (moved place) (argumentsAt args 0))
+        (argumentsWithin s at (length bytes))
     args-held =
         record {
           good = ap (λ (a : Arguments). a .good) is ∙ fine;
           start = ap (λ (a : Arguments). a .start) is ∙ together-kept x l fine .0;
-          end = ap (λ (a : Arguments). a .end) is ∙ together-kept x l fine .1 ∙ length-take-le (at + length bytes) s (omega (arith, stands-length k));
+          end =
+              ap (λ (a : Arguments). a .end) is ∙ together-kept x l fine .1
+              ∙ length-take-le (at + length bytes) s (omega (arith, stands-length k));
           list = list-is;
         }
       where
@@ -123,22 +137,26 @@ module _ (stmt : ℕ) (b z : Bool) (args : List ℕ) (g : Stretch args 0) (small
         is = sym (within-there s at (length bytes) (omega (arith, stands-length k))) ∙ ap (together x) list-is
 
         fine : together x l .good ≡ true
-        fine = together-moved place x x (argumentsAt args 0) refl ∙ stretch-good args 0 g (length args) (omega arith) x refl
+        fine =
+            together-moved place x x (argumentsAt args 0) refl
+            ∙ stretch-good args 0 g (length args) (omega arith) x refl
 
     abbrev run : Execute
-    run = record { good = true; stmt = stmt; compact = given b c; args = argumentsWithin s at (length bytes) }
+    run = record { stmt = stmt; compact = given b c; args = argumentsWithin s at (length bytes) }
 
     abbrev far : ℕ
     far = at + length (numberField 1 stmt ++ args)
 
     counted :
-        cond b (withNumber 3 c far (withCount (withNumber 1 stmt at noSlots) (bump (fieldCount g) (withNumber 1 stmt at noSlots .count))))
+        cond b (withNumber 3 c far
+        (withCount (withNumber 1 stmt at noSlots) (bump (fieldCount g) (withNumber 1 stmt at noSlots .count))))
         (withCount (withNumber 1 stmt at noSlots) (bump (fieldCount g) (withNumber 1 stmt at noSlots .count)))
         ≡ executeSlots stmt at far (0 + fieldCount g) b z
     counted =
         ap
         (λ (l : List ℕ).
-        cond b (withNumber 3 c far (withCount (withNumber 1 stmt at noSlots) l)) (withCount (withNumber 1 stmt at noSlots) l))
+        cond b (withNumber 3 c far (withCount (withNumber 1 stmt at noSlots) l))
+        (withCount (withNumber 1 stmt at noSlots) l))
         (bumped (fieldCount g) 0 1 0 (0 ∷ 0 ∷ 0 ∷ 0 ∷ 0 ∷ 0 ∷ 0 ∷ []))
 
     pub execute-is : executeIn s at (length bytes) ≡ run
@@ -147,30 +165,44 @@ module _ (stmt : ℕ) (b z : Bool) (args : List ℕ) (g : Stretch args 0) (small
         ap (λ (x : Slots). executeOf x (argumentsWithin s at (length bytes)))
         (embedded-good
         (reads-then
-        (reads-then (reads-number (rowsOf execute) 1 stmt (kept-stmt stmt) (omega arith) (omega arith) (omega arith))
-        (reads-stretch (rowsOf execute) (λ v. sym (counted-args v)) args g))
-        (reads-optional (rowsOf execute) b 3 c (kept-compact c) (omega arith) (omega arith) compact-small))
+        (reads-then (reads-number (rowsOf Client.execute) 1 stmt (kept-stmt stmt) (omega arith) (omega arith)
+        (omega arith))
+        (reads-stretch (rowsOf Client.execute) (λ v. sym (counted-args v)) args g))
+        (reads-optional (rowsOf Client.execute) b 3 c (kept-compact c) (omega arith) (omega arith) compact-small))
         k
-        (ap (λ (x : Slots). hasRequired (rowsOf execute) (x .count)) counted ∙ sym (execute-needed stmt at far (0 + fieldCount g) b z))
+        (ap (λ (x : Slots). hasRequired (rowsOf Client.execute) (x .count)) counted
+        ∙ sym (execute-needed stmt at far (0 + fieldCount g) b z))
         ∙ counted)
         ∙ execute-taken stmt at far (0 + fieldCount g) b z (argumentsWithin s at (length bytes)) (args-held .good)
-        ∙ ap (λ (v : ℕ). record { good = true; stmt = v; compact = given b c; args = argumentsWithin s at (length bytes) }) (mod-eq-of-lt small)
+        ∙ ap (λ (v : ℕ). record { stmt = v; compact = given b c; args = argumentsWithin s at (length bytes) })
+        (mod-eq-of-lt small)
 
   -- ---- the message
 
+  abbrev whole : List ℕ
+  whole = frame Client.execute bytes
+
   pub execute-back :
-      executeMessage (frame 41 bytes)
-      ≡ message (length (frame 41 bytes)) execute stmt 0 noOptional (given b c) 0 noPart (argumentsWithin (frame 41 bytes) payload (length bytes))
-  unfolding executeMessage
+      executeFrame (frame Client.execute bytes)
+      ≡ Frame.Good (length (frame Client.execute bytes))
+      (Request.Execute
+      (record {
+        stmt = stmt;
+        compact = given b c;
+        args = argumentsWithin (frame Client.execute bytes) payload (length bytes);
+      }))
+  unfolding executeFrame
   execute-back =
-      let n : length (frame 41 bytes) - payload ≡ length bytes = omega (arith, tail-length (payload-tail 41 bytes)) in
-      ap (executeFrom (frame 41 bytes))
-      (ap (executeIn (frame 41 bytes) payload) n ∙ execute-is (tail-stands (payload-tail 41 bytes)))
+      let n : length whole - payload ≡ length bytes = omega (arith, tail-length (payload-tail Client.execute bytes)) in
+      let k = tail-stands (payload-tail Client.execute bytes) in
+      ap (executeFrom whole) (ap (executeIn whole payload) n ∙ execute-is k)
+      ∙ sym (payload-good whole Client.execute (Request.Execute (run k)) (args-held k .good))
 
 -- ---- Open
 
 module _ (v : ℕ) where
-  kept-open : (Use.Kept ≡ useOf (rowsOf open') 1 0 v) × (Use.Kept ≡ useOf (rowsOf open') 4 2 v) × (Use.Kept ≡ useOf (rowsOf open') 5 0 v)
+  kept-open : (Use.Kept ≡ useOf (rowsOf Client.open') 1 0 v) × (Use.Kept ≡ useOf (rowsOf Client.open') 4 2
+      v) × (Use.Kept ≡ useOf (rowsOf Client.open') 5 0 v)
   unfolding rowsOf rowFor
   kept-open = (refl, refl, refl)
 
@@ -181,12 +213,14 @@ module _ (v : ℕ) where
 -- the slots of an Open whose statement has n bytes, and of the statement, whose Execute has n bytes
 abbrev openSlots : ℕ → ℕ → ℕ → ℕ → Bool → ℕ → Slots
 openSlots cursor at n far b rows =
-    cond b (withNumber 5 rows far (withBytes 4 n at (withNumber 1 cursor payload noSlots))) (withBytes 4 n at (withNumber 1 cursor payload noSlots))
+    cond b (withNumber 5 rows far (withBytes 4 n at (withNumber 1 cursor payload noSlots)))
+    (withBytes 4 n at (withNumber 1 cursor payload noSlots))
 
 abbrev openStmtSlots : ℕ → ℕ → ℕ → Slots
 openStmtSlots at far n = withBytes 2 n far (withNumber 1 0 at noSlots)
 
-open-needed : (cursor at n far : ℕ) (b : Bool) (rows : ℕ) → true ≡ hasRequired (rowsOf open') (openSlots cursor at n far b rows .count)
+open-needed : (cursor at n far : ℕ) (b : Bool) (rows : ℕ) →
+    true ≡ hasRequired (rowsOf Client.open') (openSlots cursor at n far b rows .count)
 unfolding rowsOf hasRequired
 open-needed cursor at n far true rows = refl
 open-needed cursor at n far false rows = refl
@@ -199,21 +233,16 @@ open-stmt-needed at far n = refl
 abbrev pub partStart : ℕ → ℕ → ℕ → ℕ
 partStart num at n = behindTag (behindTag at (num * 8 + 2)) n
 
-module _ (s : List ℕ) (cursor at n far : ℕ) (rows : ℕ) where
-  open-inner : (b : Bool) →
-      openWith s (openSlots cursor at n far b rows) ≡ openOf s (openSlots cursor at n far b rows) (embedded (rowsOf openStmt) s (partStart 4 at n) n)
-  open-inner true = refl
-  open-inner false = refl
+-- what is read of those slots
+open-inner : (s : List ℕ) (cursor at n far rows : ℕ) (b : Bool) →
+    openOf s (openSlots cursor at n far b rows) ≡ openInside s cursor (given b rows) (partStart 4 at n) n
+open-inner s cursor at n far rows true = refl
+open-inner s cursor at n far rows false = refl
 
-  open-taken : (b : Bool) (at′ far′ n′ : ℕ) (e : Execute) → executeIn s (partStart 2 far′ n′) n′ ≡ e → e .good ≡ true →
-      openOf s (openSlots cursor at n far b rows) (openStmtSlots at′ far′ n′)
-      ≡ message (length s) open' (e .stmt) (low32 cursor) (given b rows) (e .compact) 0 (record { start = partStart 2 far′ n′; len = n′ }) (e .args)
-  open-taken true at′ far′ n′ e is h =
-      ap (openFrom s (openSlots cursor at n far true rows) (openStmtSlots at′ far′ n′)) is
-      ∙ sym (open-from-good s e (openSlots cursor at n far true rows) (openStmtSlots at′ far′ n′) h)
-  open-taken false at′ far′ n′ e is h =
-      ap (openFrom s (openSlots cursor at n far false rows) (openStmtSlots at′ far′ n′)) is
-      ∙ sym (open-from-good s e (openSlots cursor at n far false rows) (openStmtSlots at′ far′ n′) h)
+open-taken : (s : List ℕ) (cursor : ℕ) (rows : Optional) (at far n : ℕ) →
+    openChosen s cursor rows (openStmtSlots at far n)
+    ≡ openFrom s cursor rows (record { start = partStart 2 far n; len = n }) (executeIn s (partStart 2 far n) n)
+open-taken s cursor rows at far n = refl
 
 module _ (stmt : ℕ) (b z : Bool) (args : List ℕ) (g : Stretch args 0) (small : stmt < 2 ^ 32)
     (cursor rows : ℕ) (b′ : Bool) (small-cursor : cursor < 2 ^ 32) (small-rows : rows < 2 ^ 64) where
@@ -227,7 +256,7 @@ module _ (stmt : ℕ) (b z : Bool) (args : List ℕ) (g : Stretch args 0) (small
   content = numberField 1 cursor ++ bytesField 4 stmt-bytes ++ optionalField b′ 5 rows
 
   abbrev opened : List ℕ
-  opened = frame 43 content
+  opened = frame Client.open' content
 
   -- the places of the statement and of the Execute in it
   abbrev stmt-at : ℕ
@@ -240,37 +269,53 @@ module _ (stmt : ℕ) (b z : Bool) (args : List ℕ) (g : Stretch args 0) (small
   stmt-stands =
       stands-inside 4 stmt-bytes
       (stands-next (numberField 1 cursor) (bytesField 4 stmt-bytes)
-      (stands-first (numberField 1 cursor ++ bytesField 4 stmt-bytes) (optionalField b′ 5 rows) (tail-stands (payload-tail 43 content))))
+      (stands-first (numberField 1 cursor ++ bytesField 4 stmt-bytes) (optionalField b′ 5 rows)
+      (tail-stands (payload-tail Client.open' content))))
 
   pub run-stands : Stands opened run-at run-bytes (optionalField b′ 5 rows ++ [])
   run-stands = stands-inside 2 run-bytes (stands-next (numberField 1 0) (bytesField 2 run-bytes) stmt-stands)
 
+  abbrev opening : ℕ → Request
+  opening id =
+      Request.Open
+      (record {
+        cursor = id;
+        rows = given b′ rows;
+        body = record { start = run-at; len = length run-bytes };
+        execute =
+            record {
+              stmt = stmt;
+              compact = given b (cond z 1 0);
+              args = argumentsWithin opened run-at (length run-bytes);
+            };
+      })
+
   pub open-back : length stmt-bytes < 2 ^ 64 → length run-bytes < 2 ^ 64 →
-      openMessage opened
-      ≡ message (length opened) open' stmt cursor (given b′ rows) (given b (cond z 1 0)) 0 (record { start = run-at; len = length run-bytes })
-      (argumentsWithin opened run-at (length run-bytes))
-  unfolding openMessage
+      openFrame opened ≡ Frame.Good (length opened) (opening cursor)
+  unfolding openFrame
   open-back short short-run =
       let at = payload + length (numberField 1 cursor) in
       let far = payload + length (numberField 1 cursor ++ bytesField 4 stmt-bytes) in
-      ap (openWith opened)
+      let run-far = stmt-at + length (numberField 1 0) in
+      ap (openOf opened)
       (whole-good
       (reads-then
-      (reads-then (reads-number (rowsOf open') 1 cursor (kept-open cursor .0) (omega arith) (omega arith) (omega arith))
-      (reads-bytes (rowsOf open') 4 stmt-bytes (kept-open (length stmt-bytes) .1) (omega arith) (omega arith) short))
-      (reads-optional (rowsOf open') b′ 5 rows (kept-open rows .2) (omega arith) (omega arith) small-rows))
-      (payload-tail 43 content) (sym (open-needed cursor at (length stmt-bytes) far b′ rows)))
+      (reads-then (reads-number (rowsOf Client.open') 1 cursor (kept-open cursor .0) (omega arith) (omega arith)
+      (omega arith))
+      (reads-bytes (rowsOf Client.open') 4 stmt-bytes (kept-open (length stmt-bytes) .1) (omega arith) (omega arith)
+      short))
+      (reads-optional (rowsOf Client.open') b′ 5 rows (kept-open rows .2) (omega arith) (omega arith) small-rows))
+      (payload-tail Client.open' content) (sym (open-needed cursor at (length stmt-bytes) far b′ rows)))
       ∙ open-inner opened cursor at (length stmt-bytes) far rows b′
-      ∙ ap (openOf opened (openSlots cursor at (length stmt-bytes) far b′ rows))
+      ∙ ap (openChosen opened cursor (given b′ rows))
       (embedded-good
       (reads-then (reads-number (rowsOf openStmt) 1 0 (kept-open-stmt 0 .0) (omega arith) (omega arith) (omega arith))
-      (reads-bytes (rowsOf openStmt) 2 run-bytes (kept-open-stmt (length run-bytes) .1) (omega arith) (omega arith) short-run))
-      stmt-stands (sym (open-stmt-needed stmt-at (stmt-at + length (numberField 1 0)) (length run-bytes))))
-      ∙ open-taken opened cursor at (length stmt-bytes) far rows b′ stmt-at (stmt-at + length (numberField 1 0)) (length run-bytes)
-      (record { good = true; stmt = stmt; compact = given b (cond z 1 0); args = argumentsWithin opened run-at (length run-bytes) })
-      (execute-is stmt b z args g small run-stands) refl
-      ∙ ap
-      (λ (v : ℕ).
-      message (length opened) open' stmt v (given b′ rows) (given b (cond z 1 0)) 0 (record { start = run-at; len = length run-bytes })
-      (argumentsWithin opened run-at (length run-bytes)))
-      (mod-eq-of-lt small-cursor)
+      (reads-bytes (rowsOf openStmt) 2 run-bytes (kept-open-stmt (length run-bytes) .1) (omega arith) (omega arith)
+      short-run))
+      stmt-stands (sym (open-stmt-needed stmt-at run-far (length run-bytes))))
+      ∙ open-taken opened cursor (given b′ rows) stmt-at run-far (length run-bytes)
+      ∙ ap (openFrom opened cursor (given b′ rows) (record { start = run-at; len = length run-bytes }))
+      (execute-is stmt b z args g small run-stands)
+      ∙ sym (payload-good opened Client.open' (opening (low32 cursor))
+      (args-held stmt b z args g small run-stands .good))
+      ∙ ap (λ (v : ℕ). Frame.Good (length opened) (opening v)) (mod-eq-of-lt small-cursor)

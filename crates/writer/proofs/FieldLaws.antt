@@ -26,11 +26,13 @@ use Rattle.layout.proofs.FieldsLaws.{Listing, starts, ends, goes-on, checked-go
 use Rattle.args.specs.Part.{embedded}
 use Rattle.args.proofs.PartLaws.{part-within}
 use Rattle.writer.specs.Payload.{optionalField}
-use Rattle.writer.proofs.TailLaws.{Stands, stands-length, stands-first, stands-next, stands-cut, Tail, tail-length, tail-stands}
+use Rattle.writer.proofs.TailLaws.{Stands, stands-length, stands-first, stands-next, stands-cut, Tail}
+use Rattle.writer.proofs.TailLaws.{tail-length, tail-stands}
 
 -- ---- one field
 
-pub tag-reads : (g num w at : ℕ) (s q : List ℕ) → g ≡ num * 8 + w → 0 < num → num < 10 → w < 6 → Stands s at (varintBytes g) q →
+pub tag-reads : (g num w at : ℕ) (s q : List ℕ) → g ≡ num * 8 + w → 0 < num → num < 10 → w < 6 →
+    Stands s at (varintBytes g) q →
     tagAt s at ≡ Tag.Field num w (at + length (varintBytes g))
 tag-reads g num w at s q e a b c k =
     ap tagOf (reads-there g at s q (omega arith) (k .there))
@@ -45,23 +47,27 @@ behindTag at g = at + length (varintBytes g)
 
 module _ (num at : ℕ) (s q : List ℕ) (some : 0 < num) (few : num < 10) where
   pub number-reads : (v : ℕ) → v < 2 ^ 64 → Stands s at (numberField num v) q →
-      fieldAt s at ≡ Field.Good num 0 v (behindTag at (num * 8)) (length (varintBytes v)) (at + length (numberField num v))
+      fieldAt s at ≡ Field.Good num 0 v (behindTag at (num * 8)) (length (varintBytes v))
+      (at + length (numberField num v))
   unfolding numberField
   number-reads v h k =
       let g = num * 8 in
       let here = behindTag at g in
       let next = here + length (varintBytes v) in
       let e : next - here ≡ length (varintBytes v) = omega arith in
-      let f : next ≡ at + length (varintBytes g ++ varintBytes v) = omega (arith, length-append (varintBytes g) (varintBytes v)) in
+      let f : next ≡ at + length (varintBytes g ++ varintBytes v) = omega
+      (arith, length-append (varintBytes g) (varintBytes v)) in
       field-tagged s at (Tag.Field num 0 here)
-      (tag-reads g num 0 at s (varintBytes v ++ q) (omega arith) some few (omega arith) (stands-first (varintBytes g) (varintBytes v) k))
+      (tag-reads g num 0 at s (varintBytes v ++ q) (omega arith) some few (omega arith)
+      (stands-first (varintBytes g) (varintBytes v) k))
       ∙ ap (λ (x : Varint). ofValue num 0 (ofVarint here x))
       (reads-there v here s q h (stands-next (varintBytes g) (varintBytes v) k .there))
       ∙ rw (e, f)
 
   pub bytes-reads : (bs : List ℕ) → length bs < 2 ^ 64 → Stands s at (bytesField num bs) q →
       fieldAt s at
-      ≡ Field.Good num 2 (length bs) (behindTag (behindTag at (num * 8 + 2)) (length bs)) (length bs) (at + length (bytesField num bs))
+      ≡ Field.Good num 2 (length bs) (behindTag (behindTag at (num * 8 + 2)) (length bs)) (length bs)
+      (at + length (bytesField num bs))
   unfolding bytesField
   bytes-reads bs h k =
       let g = num * 8 + 2 in
@@ -72,7 +78,8 @@ module _ (num at : ℕ) (s q : List ℕ) (some : 0 < num) (few : num < 10) where
       let f : start + n ≡ at + length (varintBytes g ++ varintBytes n ++ bs) =
       omega (arith, length-append (varintBytes g ++ varintBytes n) bs, length-append (varintBytes g) (varintBytes n)) in
       field-tagged s at (Tag.Field num 2 here)
-      (tag-reads g num 2 at s (varintBytes n ++ (bs ++ q)) refl some few (omega arith) (stands-first (varintBytes g) (varintBytes n) front))
+      (tag-reads g num 2 at s (varintBytes n ++ (bs ++ q)) refl some few (omega arith)
+      (stands-first (varintBytes g) (varintBytes n) front))
       ∙ ap (λ (x : Varint). ofValue num 2 (ofLength s x))
       (reads-there n here s (bs ++ q) h (stands-next (varintBytes g) (varintBytes n) front .there))
       ∙ ap (ofValue num 2) (sym (length-good s n start (omega (arith, stands-length k))))
@@ -80,7 +87,8 @@ module _ (num at : ℕ) (s q : List ℕ) (some : 0 < num) (few : num < 10) where
 
 -- ---- field lists
 
--- wherever these bytes stand in a message with these rows, reading them leads from what was read before, x, to f of the place and x
+-- wherever these bytes stand in a message with these rows, reading them leads from what was read before, x, to f of
+-- the place and x
 pub record Reads (rows : List (List ℕ)) (bs : List ℕ) (f : ℕ → Slots → Slots) : Type 0 where
   pub on : (s : List ℕ) (from at : ℕ) (q : List ℕ) (x : Slots) → Stands s at bs q → Listing rows s from at x →
       Listing rows s from (at + length bs) (f at x)
@@ -92,23 +100,28 @@ withNumber num v at x = noted Use.Kept x num v (behindTag at (num * 8)) (length 
 abbrev pub withBytes : ℕ → ℕ → ℕ → Slots → Slots
 withBytes num n at x = noted Use.Kept x num n (behindTag (behindTag at (num * 8 + 2)) n) n
 
-pub reads-number : (rows : List (List ℕ)) (num v : ℕ) → Use.Kept ≡ useOf rows num 0 v → 0 < num → num < 10 → v < 2 ^ 64 →
+pub reads-number : (rows : List (List ℕ)) (num v : ℕ) → Use.Kept ≡ useOf rows num 0 v → 0 < num → num < 10 →
+    v < 2 ^ 64 →
     Reads rows (numberField num v) (withNumber num v)
 reads-number rows num v u some few h =
     record {
       on = λ s from at q x k l.
-          goes-on l (omega (arith, stands-length k, number-parts num v, varint-length v)) (number-reads num at s q some few v h k) Use.Kept u;
+          goes-on l (omega (arith, stands-length k, number-parts num v, varint-length v))
+          (number-reads num at s q some few v h k) Use.Kept u;
     }
 
-pub reads-bytes : (rows : List (List ℕ)) (num : ℕ) (bs : List ℕ) → Use.Kept ≡ useOf rows num 2 (length bs) → 0 < num → num < 10 → length bs < 2 ^ 64 →
+pub reads-bytes : (rows : List (List ℕ)) (num : ℕ) (bs : List ℕ) → Use.Kept ≡ useOf rows num 2 (length bs) → 0 < num →
+    num < 10 → length bs < 2 ^ 64 →
     Reads rows (bytesField num bs) (withBytes num (length bs))
 reads-bytes rows num bs u some few h =
     record {
       on = λ s from at q x k l.
-          goes-on l (omega (arith, stands-length k, bytes-parts num bs, varint-length (length bs))) (bytes-reads num at s q some few bs h k) Use.Kept u;
+          goes-on l (omega (arith, stands-length k, bytes-parts num bs, varint-length (length bs)))
+          (bytes-reads num at s q some few bs h k) Use.Kept u;
     }
 
-pub reads-optional : (rows : List (List ℕ)) (b : Bool) (num v : ℕ) → Use.Kept ≡ useOf rows num 0 v → 0 < num → num < 10 → v < 2 ^ 64 →
+pub reads-optional : (rows : List (List ℕ)) (b : Bool) (num v : ℕ) → Use.Kept ≡ useOf rows num 0 v → 0 < num →
+    num < 10 → v < 2 ^ 64 →
     Reads rows (optionalField b num v) (λ at x. cond b (withNumber num v at x) x)
 unfolding optionalField
 reads-optional rows true num v u some few h = reads-number rows num v u some few h
@@ -126,11 +139,13 @@ reads-then {rows} {xs} {ys} {f} {g} a b =
       on = λ s from at q x k l.
           let e : at + length xs + length ys ≡ at + length (xs ++ ys) = omega (arith, length-append xs ys) in
           subst (λ (p : ℕ). Listing rows s from p (g (at + length xs) (f at x))) e
-          (b .on s from (at + length xs) q (f at x) (stands-next xs ys k) (a .on s from at (ys ++ q) x (stands-first xs ys k) l));
+          (b .on s from (at + length xs) q (f at x) (stands-next xs ys k)
+          (a .on s from at (ys ++ q) x (stands-first xs ys k) l));
     }
 
 -- the message that these bytes are
-pub reads-whole : {rows : List (List ℕ)} {bs : List ℕ} {f : ℕ → Slots → Slots} {s : List ℕ} {at : ℕ} → Reads rows bs f → Tail s at bs →
+pub reads-whole : {rows : List (List ℕ)} {bs : List ℕ} {f : ℕ → Slots → Slots} {s : List ℕ} {at : ℕ} → Reads rows bs f →
+    Tail s at bs →
     fieldsAt rows s at ≡ checked rows (f at noSlots)
 reads-whole {rows} {bs} {f} {s} {at} r k =
     sym
@@ -138,17 +153,20 @@ reads-whole {rows} {bs} {f} {s} {at} r k =
     (ends (r .on s at at [] noSlots (tail-stands k) (starts rows s at)) (omega (arith, tail-length k))))
 
 -- embedded in another
-pub reads-embedded : {rows : List (List ℕ)} {bs : List ℕ} {f : ℕ → Slots → Slots} {s q : List ℕ} {at : ℕ} → Reads rows bs f → Stands s at bs q →
+pub reads-embedded : {rows : List (List ℕ)} {bs : List ℕ} {f : ℕ → Slots → Slots} {s q : List ℕ} {at : ℕ} →
+    Reads rows bs f → Stands s at bs q →
     embedded rows s at (length bs) ≡ checked rows (f at noSlots)
 reads-embedded {rows} {bs} {f} {s} {q} {at} r k =
     sym (part-within rows s at (length bs) (omega (arith, stands-length k))) ∙ reads-whole r (stands-cut k)
 
 -- where what is required is there
-pub whole-good : {rows : List (List ℕ)} {bs : List ℕ} {f : ℕ → Slots → Slots} {s : List ℕ} {at : ℕ} → Reads rows bs f → Tail s at bs →
+pub whole-good : {rows : List (List ℕ)} {bs : List ℕ} {f : ℕ → Slots → Slots} {s : List ℕ} {at : ℕ} → Reads rows bs f →
+    Tail s at bs →
     hasRequired rows (f at noSlots .count) ≡ true → fieldsAt rows s at ≡ f at noSlots
 whole-good {rows} {f = f} {at = at} r k h = reads-whole r k ∙ sym (checked-good rows (f at noSlots) h)
 
-pub embedded-good : {rows : List (List ℕ)} {bs : List ℕ} {f : ℕ → Slots → Slots} {s q : List ℕ} {at : ℕ} → Reads rows bs f → Stands s at bs q →
+pub embedded-good : {rows : List (List ℕ)} {bs : List ℕ} {f : ℕ → Slots → Slots} {s q : List ℕ} {at : ℕ} →
+    Reads rows bs f → Stands s at bs q →
     hasRequired rows (f at noSlots .count) ≡ true → embedded rows s at (length bs) ≡ f at noSlots
 embedded-good {rows} {f = f} {at = at} r k h = reads-embedded r k ∙ sym (checked-good rows (f at noSlots) h)
 

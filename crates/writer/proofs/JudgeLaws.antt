@@ -1,12 +1,13 @@
--- Judging a stretch of args fields, one turn of the loop at a time; a Prepare; the kinds. Assumes nothing.
+-- Judging a stretch of args fields, one turn of the loop at a time; the types. Assumes nothing.
 use Prim.Native.Nat.{ℕ, zero, suc, _+_, _-_, _≤_, _<_}
 use native.Mathlib.Omega.{arith}
-use mathlib.Core.Bool.{Bool, true, false, not, cond}
+use mathlib.Core.Bool.{true, false, not, cond}
 use mathlib.Core.Path.{_≡_, refl, sym, ap, _∙_}
 use mathlib.Core.List.{List}
 use lib.ListN.{length}
-use lib.Dec.{ltb, eqb}
+use lib.Dec.{eqb}
 use borrow.Author.Tests.{lt-ltb, le-ltb, eq-eqb, ne-eqb}
+use Rattle.protocol.specs.Client as Client
 use Rattle.wire.specs.Field.{fieldAt}
 use Rattle.wire.specs.Past.{PastField}
 use Rattle.wire.specs.declared.field.Field.{Field}
@@ -14,7 +15,8 @@ use Rattle.wire.proofs.PastLaws.{field-past}
 use Rattle.args.specs.Value.{argumentIn}
 use Rattle.args.specs.Arguments.{anyTypeOf}
 use Rattle.args.proofs.PartLaws.{yes, no as without}
-use Rattle.writer.specs.Judge.{isGood, onArg, argsFrom, goodStretch, goodBody, goodPrepare, acceptedAs}
+use Rattle.message.specs.Operation as Operation
+use Rattle.writer.specs.Judge.{isGood, onArg, argsFrom, goodStretch, isType, goodPrepare, acceptedAs}
 
 -- where the loop stands: what is left at p answers for the whole stretch
 pub record Judging (s : List ℕ) (p : ℕ) : Type 0 where
@@ -71,7 +73,8 @@ module _ {s : List ℕ} {p : ℕ} (k : Judging s p) (inside : p < length s) wher
     bad-argument h g b =
         without (argsFrom (k .most - 1) s next) false (ap not (eq-eqb (anyTypeOf (argumentIn s start len)) 0 b))
         ∙ yes (cond (isGood (argumentIn s start len)) (argsFrom (k .most - 1) s next) false) false (eq-eqb wire 2 g)
-        ∙ yes (cond (eqb wire 2) (cond (isGood (argumentIn s start len)) (argsFrom (k .most - 1) s next) false) false) false (eq-eqb number 2 h)
+        ∙ yes (cond (eqb wire 2) (cond (isGood (argumentIn s start len)) (argsFrom (k .most - 1) s next) false) false)
+        false (eq-eqb number 2 h)
         ∙ turn (Field.Good number wire v start len next) e
 
     pub goes-on : number ≡ 2 → wire ≡ 2 → (anyTypeOf (argumentIn s start len) ≡ 0 → ⊥) → Judging s next
@@ -81,32 +84,38 @@ module _ {s : List ℕ} {p : ℕ} (k : Judging s p) (inside : p < length s) wher
           enough = omega (arith, k .enough, advances);
           whole =
               yes (argsFrom (k .most - 1) s next) false (ap not (ne-eqb (anyTypeOf (argumentIn s start len)) 0 b))
-              ∙ yes (cond (isGood (argumentIn s start len)) (argsFrom (k .most - 1) s next) false) false (eq-eqb wire 2 g)
-              ∙ yes (cond (eqb wire 2) (cond (isGood (argumentIn s start len)) (argsFrom (k .most - 1) s next) false) false) false (eq-eqb number 2 h)
+              ∙ yes (cond (isGood (argumentIn s start len)) (argsFrom (k .most - 1) s next) false) false
+              (eq-eqb wire 2 g)
+              ∙ yes (cond (eqb wire 2) (cond (isGood (argumentIn s start len)) (argsFrom (k .most - 1) s next) false)
+              false) false (eq-eqb number 2 h)
               ∙ turn (Field.Good number wire v start len next) e;
         }
 
--- a Prepare
-module _ (t : ℕ) (body : List ℕ) where
-  pub type-three : t ≡ 3 → false ≡ goodPrepare t body
-  type-three h = simp (eq-eqb t 3 h)
+-- a type of a Prepare's statement that is none of the five
+pub type-none : (t : ℕ) → (t ≡ Operation.find → ⊥) → (t ≡ Operation.insert → ⊥) → (t ≡ Operation.update → ⊥) →
+    (t ≡ Operation.delete → ⊥) → (t ≡ Operation.stmtExecute → ⊥) → false ≡ isType t
+type-none t a b c d e =
+    simp (
+      ne-eqb t Operation.find a,
+      ne-eqb t Operation.insert b,
+      ne-eqb t Operation.update c,
+      ne-eqb t Operation.delete d,
+      ne-eqb t Operation.stmtExecute e,
+    )
 
-  pub type-high : (t ≡ 3 → ⊥) → 6 ≤ t → false ≡ goodPrepare t body
-  type-high h g = simp (ne-eqb t 3 h, le-ltb t 6 g)
-
-  pub type-listed : (t ≡ 3 → ⊥) → t < 6 → goodBody t body ≡ goodPrepare t body
-  type-listed h g = yes (goodBody t body) false (ap (λ (b : Bool). cond b false (ltb t 6)) (ne-eqb t 3 h) ∙ lt-ltb t 6 g)
-
--- a type that is none of the eight
-pub kind-none : (kind choice : ℕ) (body args : List ℕ) → (kind ≡ 6 → ⊥) → (kind ≡ 7 → ⊥) → (kind ≡ 40 → ⊥) → (kind ≡ 41 → ⊥) →
-    (kind ≡ 42 → ⊥) → (kind ≡ 43 → ⊥) → (kind ≡ 44 → ⊥) → (kind ≡ 45 → ⊥) → false ≡ acceptedAs kind choice body args
+-- a message type that is none of the eight
+pub kind-none : (kind operation : ℕ) (body args : List ℕ) → (kind ≡ Client.reset → ⊥) →
+    (kind ≡ Client.sessionClose → ⊥) →
+    (kind ≡ Client.prepare → ⊥) → (kind ≡ Client.execute → ⊥) → (kind ≡ Client.deallocate → ⊥) →
+    (kind ≡ Client.open' → ⊥) → (kind ≡ Client.close → ⊥) → (kind ≡ Client.fetch → ⊥) →
+    false ≡ acceptedAs kind operation body args
 unfolding acceptedAs
-kind-none kind choice body args a b c d e f g h =
-    without true _ (ne-eqb kind 45 h)
-    ∙ without true _ (ne-eqb kind 44 g)
-    ∙ without (goodStretch args) _ (ne-eqb kind 43 f)
-    ∙ without true _ (ne-eqb kind 42 e)
-    ∙ without (goodStretch args) _ (ne-eqb kind 41 d)
-    ∙ without (goodPrepare choice body) _ (ne-eqb kind 40 c)
-    ∙ without true _ (ne-eqb kind 7 b)
-    ∙ without true _ (ne-eqb kind 6 a)
+kind-none kind operation body args a b c d e f g h =
+    without true _ (ne-eqb kind Client.fetch h)
+    ∙ without true _ (ne-eqb kind Client.close g)
+    ∙ without (goodStretch args) _ (ne-eqb kind Client.open' f)
+    ∙ without true _ (ne-eqb kind Client.deallocate e)
+    ∙ without (goodStretch args) _ (ne-eqb kind Client.execute d)
+    ∙ without (goodPrepare operation body) _ (ne-eqb kind Client.prepare c)
+    ∙ without true _ (ne-eqb kind Client.sessionClose b)
+    ∙ without true _ (ne-eqb kind Client.reset a)

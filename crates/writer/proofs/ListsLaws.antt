@@ -11,16 +11,19 @@ use Rattle.wire.specs.Field.{fieldAt}
 use Rattle.wire.specs.declared.field.Field.{Field}
 use Rattle.scalar.specs.declared.argument.Argument.{Argument}
 use Rattle.args.specs.Value.{argumentIn}
-use Rattle.args.specs.Arguments.{argPlace, nextArgument, argumentsFrom, argumentsAt, anyTypeOf, badArguments, withType, together}
+use Rattle.args.specs.Arguments.{argPlace, nextArgument, argumentsFrom, argumentsAt, anyTypeOf, badArguments, withType}
+use Rattle.args.specs.Arguments.{together}
 use Rattle.args.specs.declared.arguments.ArgPlace.{ArgPlace}
 use Rattle.args.specs.declared.arguments.NextArgument.{NextArgument}
 use Rattle.args.specs.declared.arguments.Arguments.{Arguments}
-use Rattle.args.proofs.PlaceLaws.{Seeking, starts, ends, no-field, advances, found, other-wire, other-number, next-end, next-placed}
+use Rattle.args.proofs.PlaceLaws.{Seeking, starts, ends, no-field, advances, found, other-wire, other-number, next-end}
+use Rattle.args.proofs.PlaceLaws.{next-placed}
 use Rattle.args.proofs.ArgumentsLaws.{type-good}
 use Rattle.reply.specs.Frame.{numberField}
 use Rattle.writer.specs.Moved.{moved}
 use Rattle.writer.specs.Payload.{optionalField}
-use Rattle.writer.proofs.TailLaws.{less-or-not, Tail, tail-length, tail-stands, Stands, stands-length, stands-first, stands-next}
+use Rattle.writer.proofs.TailLaws.{less-or-not, Tail, tail-length, tail-stands, Stands, stands-length}
+use Rattle.writer.proofs.TailLaws.{stands-first, stands-next}
 use Rattle.writer.proofs.MovedArgLaws.{argument-moved}
 use Rattle.writer.proofs.ArgListLaws.{field-inside, args-none, args-found}
 use Rattle.writer.proofs.FieldLaws.{number-reads}
@@ -34,37 +37,45 @@ next-finds s p {v} {st} {ln} {next} e =
     sym (next-placed s p (ArgPlace.At st ln next) (found (starts s p) (omega arith) e refl refl))
 
 -- the same place is found from two places on
-seek-both : (s : List ℕ) (a b most p : ℕ) → length s ≤ p + most → Seeking s a p → Seeking s b p → argPlace s a ≡ argPlace s b
+seek-both : (s : List ℕ) (a b most p : ℕ) → length s ≤ p + most → Seeking s a p → Seeking s b p →
+    argPlace s a ≡ argPlace s b
 seek-both s a b zero p h f g = sym (ends f (omega arith)) ∙ ends g (omega arith)
 seek-both s a b (suc most) p h f g =
-    less-or-not p (length s) (λ i. by-field i (λ q z. seek-both s a b most q (omega arith)) (fieldAt s p) refl) (λ i. sym (ends f i) ∙ ends g i)
+    less-or-not p (length s) (λ i. by-field i (λ q z. seek-both s a b most q (omega arith)) (fieldAt s p) refl)
+    (λ i. sym (ends f i) ∙ ends g i)
   where
-    by-field : p < length s → ((q : ℕ) → p < q → Seeking s a q → Seeking s b q → argPlace s a ≡ argPlace s b) → (z : Field) → fieldAt s p ≡ z →
+    by-field : p < length s → ((q : ℕ) → p < q → Seeking s a q → Seeking s b q → argPlace s a ≡ argPlace s b) →
+        (z : Field) → fieldAt s p ≡ z →
         argPlace s a ≡ argPlace s b
     by-field i on Field.Bad e = sym (no-field f i e) ∙ no-field g i e
     by-field i on (Field.Good n w v st ln next) e = go (eqb n 2) refl (eqb w 2) refl
       where
         go : (x : Bool) → eqb n 2 ≡ x → (y : Bool) → eqb w 2 ≡ y → argPlace s a ≡ argPlace s b
-        go true x true y = let n2 = eqb-true n 2 x in let w2 = eqb-true w 2 y in sym (found f i e n2 w2) ∙ found g i e n2 w2
+        go true x true y =
+            let n2 = eqb-true n 2 x in let w2 = eqb-true w 2 y in sym (found f i e n2 w2) ∙ found g i e n2 w2
         go true x false y =
             let n2 = eqb-true n 2 x in
             let w2 = eqb-false w 2 y in
             on next (advances f i e) (other-wire f i e n2 w2) (other-wire g i e n2 w2)
-        go false x w2 y = let n2 = eqb-false n 2 x in on next (advances f i e) (other-number f i e n2) (other-number g i e n2)
+        go false x w2 y =
+            let n2 = eqb-false n 2 x in on next (advances f i e) (other-number f i e n2) (other-number g i e n2)
 
 -- any other field is passed over
 pub next-skips : (s : List ℕ) (p : ℕ) {n w v st ln next : ℕ} → (n ≡ 2 → ⊥) → fieldAt s p ≡ Field.Good n w v st ln next →
     nextArgument s p ≡ nextArgument s next
 next-skips s p {n} {w} {v} {st} {ln} {next} z e =
     let inside = field-inside s p e in
-    sym (next-placed s p (argPlace s next) (sym (seek-both s p next (length s) next (omega arith) (other-number (starts s p) (omega arith) e z) (starts s next))))
+    sym (next-placed s p (argPlace s next)
+    (sym (seek-both s p next (length s) next (omega arith) (other-number (starts s p) (omega arith) e z)
+    (starts s next))))
     ∙ next-placed s next (argPlace s next) refl
 
 args-zero : (s : List ℕ) (p : ℕ) → argumentsFrom 0 s p ≡ []
 unfolding argumentsFrom
 args-zero s p = refl
 
-args-skip : (m : ℕ) (s : List ℕ) (p next : ℕ) → nextArgument s p ≡ nextArgument s next → argumentsFrom m s p ≡ argumentsFrom m s next
+args-skip : (m : ℕ) (s : List ℕ) (p next : ℕ) → nextArgument s p ≡ nextArgument s next →
+    argumentsFrom m s p ≡ argumentsFrom m s next
 args-skip m s p next e = go m (nextArgument s next) refl
   where
     go : (m : ℕ) (x : NextArgument) → nextArgument s next ≡ x → argumentsFrom m s p ≡ argumentsFrom m s next
@@ -80,11 +91,16 @@ pub record Lists (bs : List ℕ) (l : ℕ → List Argument) : Type 0 where
 pub lists-number : (num v : ℕ) → 0 < num → num < 10 → (num ≡ 2 → ⊥) → v < 2 ^ 64 → Lists (numberField num v) (λ _. [])
 lists-number num v some few z h =
     record {
-      on = λ s at q m k l.
-          (m, omega arith, args-skip m s at (at + length (numberField num v)) (next-skips s at z (number-reads num at s q some few v h k)));
+      on = λ s at q m k l. (
+        m,
+        omega arith,
+        args-skip m s at (at + length (numberField num v)) (next-skips s at z
+            (number-reads num at s q some few v h k)),
+      );
     }
 
-pub lists-optional : (b : Bool) (num v : ℕ) → 0 < num → num < 10 → (num ≡ 2 → ⊥) → v < 2 ^ 64 → Lists (optionalField b num v) (λ _. [])
+pub lists-optional : (b : Bool) (num v : ℕ) → 0 < num → num < 10 → (num ≡ 2 → ⊥) → v < 2 ^ 64 →
+    Lists (optionalField b num v) (λ _. [])
 unfolding optionalField
 lists-optional true num v some few z h = lists-number num v some few z h
 lists-optional false num v some few z h =
@@ -94,7 +110,8 @@ lists-optional false num v some few z h =
           (m, omega arith, ap (argumentsFrom m s) e);
     }
 
-pub lists-then : {xs ys : List ℕ} {f g : ℕ → List Argument} → Lists xs f → Lists ys g → Lists (xs ++ ys) (λ at. f at ++ g (at + length xs))
+pub lists-then : {xs ys : List ℕ} {f g : ℕ → List Argument} → Lists xs f → Lists ys g →
+    Lists (xs ++ ys) (λ at. f at ++ g (at + length xs))
 lists-then {xs} {ys} {f} {g} a b =
     record {
       on = λ s at q m k l.
@@ -111,23 +128,27 @@ lists-then {xs} {ys} {f} {g} a b =
     }
 
 -- all of them, where the bytes go to the end
-pub lists-whole : {bs : List ℕ} {l : ℕ → List Argument} {s : List ℕ} {at : ℕ} → Lists bs l → Tail s at bs → argumentsAt s at ≡ l at
+pub lists-whole : {bs : List ℕ} {l : ℕ → List Argument} {s : List ℕ} {at : ℕ} → Lists bs l → Tail s at bs →
+    argumentsAt s at ≡ l at
 lists-whole {bs} {l} {s} {at} r k =
     let x = r .on s at [] (length s) (tail-stands k) (omega arith) in
     x .2
-    ∙ ap (λ (y : List Argument). l at ++ y) (args-none (x .0) s (at + length bs) (next-end s (at + length bs) (omega (arith, tail-length k))))
+    ∙ ap (λ (y : List Argument). l at ++ y)
+    (args-none (x .0) s (at + length bs) (next-end s (at + length bs) (omega (arith, tail-length k))))
     ∙ append-nil (l at)
 
 -- ---- a stretch
 
 module _ {s : List ℕ} {at : ℕ} {a q : List ℕ} (k : Stands s at a q) where
   stretch-lists : (i : ℕ) → Stretch a i → (m n : ℕ) → length s ≤ at + i + m → length a ≤ i + n →
-      (r : ℕ) × (length s ≤ at + length a + r) × (argumentsFrom m s (at + i) ≡ map (moved at) (argumentsFrom n a i) ++ argumentsFrom r s (at + length a))
+      (r : ℕ) × (length s ≤ at + length a + r) × (argumentsFrom m s (at + i) ≡ map (moved at)
+      (argumentsFrom n a i) ++ argumentsFrom r s (at + length a))
   stretch-lists i (done e) m n h g = (
     m,
     omega arith,
     ap (λ (p : ℕ). argumentsFrom m s (at + p)) e
-        ∙ ap (λ (l : List Argument). map (moved at) l ++ argumentsFrom m s (at + length a)) (sym (args-none n a i (next-end a i (omega arith)))),
+        ∙ ap (λ (l : List Argument). map (moved at) l ++ argumentsFrom m s (at + length a))
+        (sym (args-none n a i (next-end a i (omega arith)))),
   )
   stretch-lists i (more e b r) zero n h g = let inside = field-inside a i e in absurd (omega (arith, stands-length k))
   stretch-lists i (more e b r) (suc m) zero h g = let inside = field-inside a i e in absurd (omega arith)
@@ -139,7 +160,8 @@ module _ {s : List ℕ} {at : ℕ} {a q : List ℕ} (k : Stands s at a q) where
         args-found m s (at + i) (next-finds s (at + i) (there k i e))
             ∙ ap (λ (y : Argument). y ∷ argumentsFrom m s (at + next)) (argument-moved k st ln (inside .0))
             ∙ ap (λ (l : List Argument). moved at (argumentIn a st ln) ∷ l) (x .2)
-            ∙ ap (λ (l : List Argument). map (moved at) l ++ argumentsFrom (x .0) s (at + length a)) (sym (args-found n a i (next-finds a i e))),
+            ∙ ap (λ (l : List Argument). map (moved at) l ++ argumentsFrom (x .0) s (at + length a))
+            (sym (args-found n a i (next-finds a i e))),
       )
 
 pub lists-stretch : (a : List ℕ) → Stretch a 0 → Lists a (λ at. map (moved at) (argumentsAt a 0))
@@ -171,5 +193,6 @@ stretch-good a i (more e b r) zero h x g = let inside = field-inside a i e in ab
 stretch-good a i (more {st = st} {ln = ln} {next = next} e b r) (suc n) h x g =
     let inside = field-inside a i e in
     let t = anyTypeOf (argumentIn a st ln) in
-    together-more x (argumentIn a st ln) (argumentsFrom n a next) (argumentsFrom (suc n) a i) b (args-found n a i (next-finds a i e))
+    together-more x (argumentIn a st ln) (argumentsFrom n a next) (argumentsFrom (suc n) a i) b
+    (args-found n a i (next-finds a i e))
     ∙ stretch-good a next r n (omega arith) (withType x t) (type-good x t b ∙ g)

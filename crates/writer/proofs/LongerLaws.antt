@@ -24,7 +24,8 @@ use Rattle.writer.proofs.TailLaws.{less-or-not}
 
 module _ (t q : List ℕ) where
   -- there are no groups here, or the same ones
-  groups-longer : {A : Type 0} (n p : ℕ) → (groups n t p ≡ Varint.Bad → A) → (groups n (t ++ q) p ≡ groups n t p → A) → A
+  groups-longer : {A : Type 0} (n p : ℕ) → (groups n t p ≡ Varint.Bad → A) → (groups n (t ++ q) p ≡ groups n t p → A) →
+      A
   groups-longer zero p f g = f (groups-none t p)
   groups-longer (suc n) p f g =
       less-or-not p (length t)

@@ -1,5 +1,5 @@
--- Reading does not depend on where the bytes stand: what is read from a place of a byte string on is what is read of the bytes
--- from there to its end, with every place moved. Assumes nothing.
+-- Reading does not depend on where the bytes stand: what is read from a place of a byte string on is what is read of
+-- the bytes from there to its end, with every place moved. Assumes nothing.
 use Prim.Native.Nat.{ℕ, zero, suc, _+_, _-_, _%_, _≤_, _<_}
 use native.Mathlib.Omega.{arith}
 use mathlib.Core.Bool.{Bool, true, false, cond}
@@ -23,7 +23,8 @@ use Rattle.wire.specs.declared.value.Value.{Value}
 use Rattle.wire.specs.declared.group.Skip.{Skip}
 use Rattle.wire.specs.declared.field.Field.{Field}
 use Rattle.wire.proofs.FieldLaws.{field-tagged}
-use Rattle.wire.proofs.GroupLaws.{Skipping, starts, shut, unended, no-tag, ended, misended, inner-bad, inner-past, inner-on, value-bad, value-past, value-on}
+use Rattle.wire.proofs.GroupLaws.{Skipping, starts, shut, unended, no-tag, ended, misended, inner-bad, inner-past}
+use Rattle.wire.proofs.GroupLaws.{inner-on, value-bad, value-past, value-on}
 use Rattle.writer.proofs.TailLaws.{less-or-not, chosen-alike, leb-add, Tail, tail-length, tail-byte}
 
 abbrev pub movedVarint : ℕ → Varint → Varint
@@ -73,7 +74,8 @@ module _ {s : List ℕ} {d : ℕ} {t : List ℕ} (k : Tail s d t) where
       let e : d + at + 1 ≡ d + (at + 1) = omega arith in
       rw (groups-more n s (d + at) g b, groups-more n t at h a, tail-byte k at, e, groups-moved n (at + 1))
       (onto-moved d (getD t at 0 % 128) 128 (groups n t (at + 1)))))
-      (λ h. groups-end (suc n) s (d + at) (omega (arith, tail-length k)) ∙ sym (ap (movedVarint d) (groups-end (suc n) t at h)))
+      (λ h. groups-end (suc n) s (d + at) (omega (arith, tail-length k))
+      ∙ sym (ap (movedVarint d) (groups-end (suc n) t at h)))
 
   pub varint-moved : (at : ℕ) → varintAt s (d + at) ≡ movedVarint d (varintAt t at)
   varint-moved at = ap low64 (groups-moved 10 at) ∙ low64-moved d (groups 10 t at)
@@ -123,7 +125,8 @@ module _ {s : List ℕ} {d : ℕ} {t : List ℕ} (k : Tail s d t) where
 
   pub value-moved : (wire at : ℕ) → valueAt s wire (d + at) ≡ movedValue d (valueAt t wire at)
   value-moved wire at =
-      chosen-alike (movedValue d) (eqb wire 0) (ap (ofVarint (d + at)) (varint-moved at) ∙ number-moved at (varintAt t at))
+      chosen-alike (movedValue d) (eqb wire 0)
+      (ap (ofVarint (d + at)) (varint-moved at) ∙ number-moved at (varintAt t at))
       (chosen-alike (movedValue d) (eqb wire 1) (fixed-moved 8 at)
       (chosen-alike (movedValue d) (eqb wire 2) (ap (ofLength s) (varint-moved at) ∙ length-moved (varintAt t at))
       (chosen-alike (movedValue d) (eqb wire 5) (fixed-moved 4 at) refl)))
@@ -138,12 +141,14 @@ module _ {s : List ℕ} {d : ℕ} {t : List ℕ} (k : Tail s d t) where
       go Value.Bad = refl
 
   -- two walks through the same group, one in each byte string, come to the same end
-  module _ (depth at number : ℕ) (inner : (p n : ℕ) → groupEnd (depth - 1) s (d + p) n ≡ movedSkip d (groupEnd (depth - 1) t p n)) where
+  module _ (depth at number : ℕ)
+      (inner : (p n : ℕ) → groupEnd (depth - 1) s (d + p) n ≡ movedSkip d (groupEnd (depth - 1) t p n)) where
     abbrev Alike : Type 0
     Alike = groupEnd depth s (d + at) number ≡ movedSkip d (groupEnd depth t at number)
 
     -- one field of the group; `on` goes on from a place further on
-    module _ (p : ℕ) (i : p < length t) (f : Skipping depth t at number p) (g : Skipping depth s (d + at) number (d + p))
+    module _ (p : ℕ) (i : p < length t) (f : Skipping depth t at number p)
+        (g : Skipping depth s (d + at) number (d + p))
         (on : (q : ℕ) → p < q → Skipping depth t at number q → Skipping depth s (d + at) number (d + q) → Alike) where
       j : d + p < length s
       j = omega (arith, tail-length k)
@@ -188,7 +193,8 @@ module _ {s : List ℕ} {d : ℕ} {t : List ℕ} (k : Tail s d t) where
       by-tag Tag.Bad e = sym (no-tag g j (tag-moved p ∙ ap (movedTag d) e)) ∙ ap (movedSkip d) (no-tag f i e)
       by-tag (Tag.Field n w next) e = by-end n w next e (eqb w 4) refl
 
-    walks : (most p : ℕ) → length t ≤ p + most → Skipping depth t at number p → Skipping depth s (d + at) number (d + p) → Alike
+    walks : (most p : ℕ) → length t ≤ p + most → Skipping depth t at number p →
+        Skipping depth s (d + at) number (d + p) → Alike
     walks zero p h f g = sym (unended g (omega (arith, tail-length k))) ∙ ap (movedSkip d) (unended f (omega arith))
     walks (suc most) p h f g =
         less-or-not p (length t) (λ i. by-tag p i f g (λ q a. walks most q (omega arith)) (tagAt t p) refl)
@@ -197,8 +203,10 @@ module _ {s : List ℕ} {d : ℕ} {t : List ℕ} (k : Tail s d t) where
   pub group-moved : (depth at number : ℕ) → groupEnd depth s (d + at) number ≡ movedSkip d (groupEnd depth t at number)
   group-moved zero at number = shut s (d + at) number ∙ sym (ap (movedSkip d) (shut t at number))
   group-moved (suc depth) at number =
-      walks (suc depth) at number (λ p n. less (λ (m : ℕ). groupEnd m s (d + p) n ≡ movedSkip d (groupEnd m t p n)) (group-moved depth p n))
-      (length t) at (omega arith) (starts (suc depth) t at number (omega arith)) (starts (suc depth) s (d + at) number (omega arith))
+      walks (suc depth) at number
+      (λ p n. less (λ (m : ℕ). groupEnd m s (d + p) n ≡ movedSkip d (groupEnd m t p n)) (group-moved depth p n))
+      (length t) at (omega arith) (starts (suc depth) t at number (omega arith))
+      (starts (suc depth) s (d + at) number (omega arith))
     where
       less : (P : ℕ → Type 0) → P depth → P (suc depth - 1)
       less P h = let e : depth ≡ suc depth - 1 = omega arith in subst P e h

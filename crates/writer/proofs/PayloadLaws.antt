@@ -5,6 +5,7 @@ use mathlib.Core.List.{List, [], _++_}
 use native.Mathlib.Nat.{add-zero}
 use lib.ListN.{length}
 use borrow.Author.Tests.{ne-eqb}
+use Rattle.protocol.specs.Client as Client
 use Rattle.reply.specs.Puts.{Puts}
 use Rattle.reply.specs.Frame.{numberField, bytesField}
 use Rattle.reply.proofs.PutsLaws.{puts-then, puts-as}
@@ -14,44 +15,46 @@ use Rattle.writer.specs.Payload.{prefixOf, executePayload, preparePayloa
 use Rattle.writer.proofs.SizeLaws.{bytes-prefixed}
 
 module _ (d : Draft) (body args : List ℕ) {kind : ℕ} where
-  pub as-prepare : kind ≡ 40 → payloadAs kind d body args ≡ preparePayload d body
+  pub as-prepare : kind ≡ Client.prepare → payloadAs kind d body args ≡ preparePayload d body
   unfolding payloadAs
   as-prepare e = ap (λ (k : ℕ). payloadAs k d body args) e
 
-  pub as-execute : kind ≡ 41 → payloadAs kind d body args ≡ executePayload d args
+  pub as-execute : kind ≡ Client.execute → payloadAs kind d body args ≡ executePayload d args
   unfolding payloadAs
   as-execute e = ap (λ (k : ℕ). payloadAs k d body args) e
 
-  pub as-deallocate : kind ≡ 42 → payloadAs kind d body args ≡ numberField 1 (d .stmt)
+  pub as-deallocate : kind ≡ Client.deallocate → payloadAs kind d body args ≡ numberField 1 (d .stmt)
   unfolding payloadAs
   as-deallocate e = ap (λ (k : ℕ). payloadAs k d body args) e
 
-  pub as-open : kind ≡ 43 → payloadAs kind d body args ≡ openPayload d args
+  pub as-open : kind ≡ Client.open' → payloadAs kind d body args ≡ openPayload d args
   unfolding payloadAs
   as-open e = ap (λ (k : ℕ). payloadAs k d body args) e
 
-  pub as-close : kind ≡ 44 → payloadAs kind d body args ≡ numberField 1 (d .cursor)
+  pub as-close : kind ≡ Client.close → payloadAs kind d body args ≡ numberField 1 (d .cursor)
   unfolding payloadAs
   as-close e = ap (λ (k : ℕ). payloadAs k d body args) e
 
-  pub as-fetch : kind ≡ 45 → payloadAs kind d body args ≡ fetchPayload d
+  pub as-fetch : kind ≡ Client.fetch → payloadAs kind d body args ≡ fetchPayload d
   unfolding payloadAs
   as-fetch e = ap (λ (k : ℕ). payloadAs k d body args) e
 
-  pub as-none : (kind ≡ 40 → ⊥) → (kind ≡ 41 → ⊥) → (kind ≡ 42 → ⊥) → (kind ≡ 43 → ⊥) → (kind ≡ 44 → ⊥) → (kind ≡ 45 → ⊥) →
+  pub as-none : (kind ≡ Client.prepare → ⊥) → (kind ≡ Client.execute → ⊥) → (kind ≡ Client.deallocate → ⊥) →
+      (kind ≡ Client.open' → ⊥) → (kind ≡ Client.close → ⊥) → (kind ≡ Client.fetch → ⊥) →
       payloadAs kind d body args ≡ []
   unfolding payloadAs
   as-none a b c e f g =
       sym
-      (without (fetchPayload d) [] (ne-eqb kind 45 g)
-      ∙ without (numberField 1 (d .cursor)) _ (ne-eqb kind 44 f)
-      ∙ without (openPayload d args) _ (ne-eqb kind 43 e)
-      ∙ without (numberField 1 (d .stmt)) _ (ne-eqb kind 42 c)
-      ∙ without (executePayload d args) _ (ne-eqb kind 41 b)
-      ∙ without (preparePayload d body) _ (ne-eqb kind 40 a))
+      (without (fetchPayload d) [] (ne-eqb kind Client.fetch g)
+      ∙ without (numberField 1 (d .cursor)) _ (ne-eqb kind Client.close f)
+      ∙ without (openPayload d args) _ (ne-eqb kind Client.open' e)
+      ∙ without (numberField 1 (d .stmt)) _ (ne-eqb kind Client.deallocate c)
+      ∙ without (executePayload d args) _ (ne-eqb kind Client.execute b)
+      ∙ without (preparePayload d body) _ (ne-eqb kind Client.prepare a))
 
 -- a prefix, and behind it the bytes that it counts
-pub puts-counted : (num : ℕ) {b b₁ b₂ : List ℕ} {at n p q : ℕ} (bs : List ℕ) → n ≡ length bs → Puts b at (prefixOf num n) p b₁ → Puts b₁ p bs q b₂ →
+pub puts-counted : (num : ℕ) {b b₁ b₂ : List ℕ} {at n p q : ℕ} (bs : List ℕ) → n ≡ length bs →
+    Puts b at (prefixOf num n) p b₁ → Puts b₁ p bs q b₂ →
     Puts b at (bytesField num bs) q b₂
 puts-counted num bs e f g =
     puts-as (ap (λ (k : ℕ). prefixOf num k ++ bs) e ∙ bytes-prefixed num bs) (puts-then f g)

@@ -1,5 +1,5 @@
 -- A written Prepare reads back, with its body. Assumes nothing.
-use Prim.Native.Nat.{ℕ, zero, suc, _+_, _-_, _^_, _≤_, _<_}
+use Prim.Native.Nat.{ℕ, _+_, _-_, _^_, _<_}
 use native.Mathlib.Omega.{arith}
 use native.Mathlib.Nat.{mod-eq-of-lt, add-zero}
 use mathlib.Core.Bool.{Bool, true, false, cond}
@@ -8,28 +8,32 @@ use mathlib.Core.List.{List, [], _++_, map}
 use lib.ListN.{length, take}
 use lib.Seq.{length-take-le, take-all}
 use lib.Dec.{eqb}
-use borrow.Author.Tests.{le-ltb, ne-eqb}
 use Rattle.scalar.specs.declared.argument.Argument.{Argument}
 use Rattle.reply.specs.Frame.{frame, numberField, bytesField}
-use Rattle.layout.specs.Table.{rowsOf, prepare, prepareStmt, stmtExecute}
+use Rattle.protocol.specs.Client as Client
+use Rattle.layout.specs.Table.{rowsOf, prepareStmt, stmtExecute}
 use Rattle.layout.specs.Row.{rowFor}
 use Rattle.layout.specs.Slots.{noSlots}
 use Rattle.layout.specs.Fields.{useOf, hasRequired}
 use Rattle.layout.specs.declared.slots.Slots.{Slots}
 use Rattle.layout.specs.declared.fields.Use.{Use}
-use Rattle.args.specs.Part.{embedded}
+use Rattle.args.specs.Part.{embedded, low32}
 use Rattle.args.specs.Arguments.{noArguments, badArguments, together, argumentsAt, argumentsFrom, argumentsIn}
-use Rattle.args.specs.declared.part.Part.{Part}
 use Rattle.args.specs.declared.arguments.Arguments.{Arguments}
-use Rattle.message.specs.Message.{payload, noOptional, message}
+use Rattle.message.specs.Operation as Operation
+use Rattle.message.specs.Payload.{payload}
 use Rattle.message.specs.Execute.{argumentsWithin}
-use Rattle.message.specs.Prepare.{chosen, bodyIn, prepareFrom, prepareOf, prepareWith, prepareMessage}
-use Rattle.message.proofs.MessageLaws.{within-there, prepare-body, body-list, body-list-bad}
+use Rattle.message.specs.Prepare.{bodyIn, prepareFrom, prepareRead, prepareOf, prepareFrame}
+use Rattle.message.specs.declared.request.Request.{Request}
+use Rattle.message.specs.declared.request.Frame.{Frame}
+use Rattle.message.proofs.MessageLaws.{payload-good, within-there, body-list, body-list-bad}
 use Rattle.writer.specs.Moved.{moved}
 use Rattle.writer.specs.Judge.{isType, goodBody}
 use Rattle.writer.proofs.TailLaws.{tail-length, tail-stands, Stands, stands-length, stands-next, stands-cut}
-use Rattle.writer.proofs.FieldLaws.{withNumber, withBytes, reads-number, reads-bytes, reads-then, whole-good, embedded-good, stands-inside}
-use Rattle.writer.proofs.AlikeLaws.{embedded-alike}
+use Rattle.writer.proofs.FieldLaws.{withNumber, withBytes, reads-number, reads-bytes, reads-then, whole-good}
+use Rattle.writer.proofs.FieldLaws.{embedded-good, stands-inside}
+use Rattle.writer.proofs.JudgeLaws.{type-none}
+use Rattle.writer.proofs.AlikeLaws.{same-or-not, embedded-alike}
 use Rattle.writer.proofs.ArgListLaws.{args-moved, together-kept, together-moved}
 use Rattle.writer.proofs.BackLaws.{payload-tail}
 use Rattle.writer.proofs.ExecuteBackLaws.{Held, partStart}
@@ -50,13 +54,13 @@ record Listed (t k : ℕ) : Type 0 where
   type-kept : Use.Kept ≡ useOf (rowsOf prepareStmt) 1 0 t
   body-kept : (n : ℕ) → Use.Kept ≡ useOf (rowsOf prepareStmt) k 2 n
   needed : (at far n : ℕ) → true ≡ hasRequired (rowsOf prepareStmt) (stmtSlots t k at far n .count)
-  taken : (s : List ℕ) (stmt at m at′ far n : ℕ) →
-      prepareOf s (prepareSlots stmt at m) (stmtSlots t k at′ far n)
+  taken : (s : List ℕ) (stmt at far n : ℕ) →
+      prepareRead s stmt (stmtSlots t k at far n)
       ≡ prepareFrom s stmt t (record { start = partStart k far n; len = n }) (bodyIn s t (partStart k far n) n)
 
-listed-0 : Listed 0 2
+listed-find : Listed Operation.find 2
 unfolding rowsOf rowFor hasRequired
-listed-0 =
+listed-find =
     record {
       few = omega arith;
       some = omega arith;
@@ -64,12 +68,12 @@ listed-0 =
       type-kept = refl;
       body-kept = λ n. refl;
       needed = λ at far n. refl;
-      taken = λ s stmt at m at′ far n. refl;
+      taken = λ s stmt at far n. refl;
     }
 
-listed-1 : Listed 1 3
+listed-insert : Listed Operation.insert 3
 unfolding rowsOf rowFor hasRequired
-listed-1 =
+listed-insert =
     record {
       few = omega arith;
       some = omega arith;
@@ -77,12 +81,12 @@ listed-1 =
       type-kept = refl;
       body-kept = λ n. refl;
       needed = λ at far n. refl;
-      taken = λ s stmt at m at′ far n. refl;
+      taken = λ s stmt at far n. refl;
     }
 
-listed-2 : Listed 2 4
+listed-update : Listed Operation.update 4
 unfolding rowsOf rowFor hasRequired
-listed-2 =
+listed-update =
     record {
       few = omega arith;
       some = omega arith;
@@ -90,12 +94,12 @@ listed-2 =
       type-kept = refl;
       body-kept = λ n. refl;
       needed = λ at far n. refl;
-      taken = λ s stmt at m at′ far n. refl;
+      taken = λ s stmt at far n. refl;
     }
 
-listed-4 : Listed 4 5
+listed-delete : Listed Operation.delete 5
 unfolding rowsOf rowFor hasRequired
-listed-4 =
+listed-delete =
     record {
       few = omega arith;
       some = omega arith;
@@ -103,12 +107,12 @@ listed-4 =
       type-kept = refl;
       body-kept = λ n. refl;
       needed = λ at far n. refl;
-      taken = λ s stmt at m at′ far n. refl;
+      taken = λ s stmt at far n. refl;
     }
 
-listed-5 : Listed 5 6
+listed-stmt-execute : Listed Operation.stmtExecute 6
 unfolding rowsOf rowFor hasRequired
-listed-5 =
+listed-stmt-execute =
     record {
       few = omega arith;
       some = omega arith;
@@ -116,31 +120,32 @@ listed-5 =
       type-kept = refl;
       body-kept = λ n. refl;
       needed = λ at far n. refl;
-      taken = λ s stmt at m at′ far n. refl;
+      taken = λ s stmt at far n. refl;
     }
 
 -- each of them
-types : (P : ℕ → Type 0) → P 0 → P 1 → P 2 → P 4 → P 5 → (t : ℕ) → isType t ≡ true → P t
-types P a b c d e zero h = a
-types P a b c d e (suc zero) h = b
-types P a b c d e (suc (suc zero)) h = c
-types P a b c d e (suc (suc (suc zero))) h = absurd (let z : _≡_ {A = ℕ} 0 1 = cc in omega arith)
-types P a b c d e (suc (suc (suc (suc zero)))) h = d
-types P a b c d e (suc (suc (suc (suc (suc zero))))) h = e
-types P a b c d e (suc (suc (suc (suc (suc (suc t)))))) h =
-    absurd (high (suc (suc (suc (suc (suc (suc t)))))) (omega arith) h)
+listed : (t : ℕ) → isType t ≡ true → Listed t (Operation.fieldOf t)
+listed t h =
+    same-or-not t Operation.find (λ e. subst P (sym e) listed-find)
+    (λ n0.
+    same-or-not t Operation.insert (λ e. subst P (sym e) listed-insert)
+    (λ n1.
+    same-or-not t Operation.update (λ e. subst P (sym e) listed-update)
+    (λ n2.
+    same-or-not t Operation.delete (λ e. subst P (sym e) listed-delete)
+    (λ n4.
+    same-or-not t Operation.stmtExecute (λ e. subst P (sym e) listed-stmt-execute)
+    (λ n5. absurd (let f = type-none t n0 n1 n2 n4 n5 in let z : _≡_ {A = ℕ} 0 1 = cc in omega arith))))))
   where
-    high : (t : ℕ) → 6 ≤ t → isType t ≡ true → ⊥
-    high t g h = let f = rw (ne-eqb t 3 (λ z. omega arith), le-ltb t 6 g) at h in let z : _≡_ {A = ℕ} 0 1 = cc in omega arith
+    P : ℕ → Type 0
+    P t = Listed t (Operation.fieldOf t)
 
-listed : (t : ℕ) → isType t ≡ true → Listed t (chosen t)
-listed = types (λ t. Listed t (chosen t)) listed-0 listed-1 listed-2 listed-4 listed-5
-
-kept-prepare : (v : ℕ) → (Use.Kept ≡ useOf (rowsOf prepare) 1 0 v) × (Use.Kept ≡ useOf (rowsOf prepare) 2 2 v)
+kept-prepare : (v : ℕ) →
+    (Use.Kept ≡ useOf (rowsOf Client.prepare) 1 0 v) × (Use.Kept ≡ useOf (rowsOf Client.prepare) 2 2 v)
 unfolding rowsOf rowFor
 kept-prepare v = (refl, refl)
 
-prepare-needed : (stmt at n : ℕ) → true ≡ hasRequired (rowsOf prepare) (prepareSlots stmt at n .count)
+prepare-needed : (stmt at n : ℕ) → true ≡ hasRequired (rowsOf Client.prepare) (prepareSlots stmt at n .count)
 unfolding rowsOf hasRequired
 prepare-needed stmt at n = refl
 
@@ -181,9 +186,10 @@ module _ {s q : List ℕ} {at : ℕ} (body : List ℕ) (k : Stands s at body q) 
   -- judged by itself and where it stands
   pub body-good : (t : ℕ) → bodyIn s t at n .good ≡ goodBody t body
   unfolding bodyIn
-  body-good t = by-type (eqb t 5)
+  body-good t = by-type (eqb t Operation.stmtExecute)
     where
-      choice : (a b : Bool) (u v : Arguments) → a ≡ b → u .good ≡ v .good → cond a u badArguments .good ≡ cond b v badArguments .good
+      choice : (a b : Bool) (u v : Arguments) → a ≡ b → u .good ≡ v .good →
+          cond a u badArguments .good ≡ cond b v badArguments .good
       choice a true u v e f = ap (λ (c : Bool). cond c u badArguments .good) e ∙ f
       choice a false u v e f = ap (λ (c : Bool). cond c u badArguments .good) e
 
@@ -195,35 +201,44 @@ module _ {s q : List ℕ} {at : ℕ} (body : List ℕ) (k : Stands s at body q) 
           (cond (embedded [] body 0 n .good) (noArguments 0 0) badArguments)
           .good
       by-type true =
-          choice (embedded (rowsOf stmtExecute) s at n .good) (embedded (rowsOf stmtExecute) body 0 n .good) (argumentsWithin s at n)
+          choice (embedded (rowsOf stmtExecute) s at n .good) (embedded (rowsOf stmtExecute) body 0 n .good)
+          (argumentsWithin s at n)
           (argumentsWithin body 0 n) (same-good (rowsOf stmtExecute)) within-good
       by-type false =
-          choice (embedded [] s at n .good) (embedded [] body 0 n .good) (noArguments 0 0) (noArguments 0 0) (same-good []) refl
+          choice (embedded [] s at n .good) (embedded [] body 0 n .good) (noArguments 0 0) (noArguments 0 0)
+          (same-good []) refl
 
   -- the arguments of a StmtExecute, and of another body
-  held : goodBody 5 body ≡ true → Held s at n (map (moved at) (argumentsAt body 0)) (bodyIn s 5 at n)
+  held : goodBody Operation.stmtExecute body ≡ true →
+      Held s at n (map (moved at) (argumentsAt body 0)) (bodyIn s Operation.stmtExecute at n)
   unfolding bodyIn
-  held h = go (embedded (rowsOf stmtExecute) s at n .good) (body-good 5 ∙ h)
+  held h = go (embedded (rowsOf stmtExecute) s at n .good) (body-good Operation.stmtExecute ∙ h)
     where
       l : List Argument
       l = map (moved at) (argumentsAt body 0)
 
-      go : (b : Bool) → cond b (argumentsWithin s at n) badArguments .good ≡ true → Held s at n l (cond b (argumentsWithin s at n) badArguments)
+      go : (b : Bool) → cond b (argumentsWithin s at n) badArguments .good ≡ true →
+          Held s at n l (cond b (argumentsWithin s at n) badArguments)
       go true g =
           let fine = sym (ap (λ (a : Arguments). a .good) within-is) ∙ g in
           record {
             good = g;
             start = ap (λ (a : Arguments). a .start) within-is ∙ together-kept x l fine .0;
-            end = ap (λ (a : Arguments). a .end) within-is ∙ together-kept x l fine .1 ∙ length-take-le (at + n) s (omega (arith, stands-length k));
+            end =
+                ap (λ (a : Arguments). a .end) within-is ∙ together-kept x l fine .1
+                ∙ length-take-le (at + n) s (omega (arith, stands-length k));
             list = list-is;
           }
       go false g = absurd (let z : _≡_ {A = ℕ} 0 1 = cc in omega arith)
 
-  pub body-held : (t : ℕ) → t ≡ 5 → goodBody t body ≡ true → Held s at n (map (moved at) (argumentsAt body 0)) (bodyIn s t at n)
+  pub body-held : (t : ℕ) → t ≡ Operation.stmtExecute → goodBody t body ≡ true →
+      Held s at n (map (moved at) (argumentsAt body 0)) (bodyIn s t at n)
   body-held t e =
-      subst (λ (t : ℕ). goodBody t body ≡ true → Held s at n (map (moved at) (argumentsAt body 0)) (bodyIn s t at n)) (sym e) held
+      subst (λ (t : ℕ). goodBody t body ≡ true → Held s at n (map (moved at) (argumentsAt body 0)) (bodyIn s t at n))
+      (sym e) held
 
-  pub body-plain : (t : ℕ) → (t ≡ 5 → ⊥) → goodBody t body ≡ true → bodyIn s t at n ≡ noArguments 0 0
+  pub body-plain : (t : ℕ) → (t ≡ Operation.stmtExecute → ⊥) → goodBody t body ≡ true →
+      bodyIn s t at n ≡ noArguments 0 0
   body-plain t z h = go (embedded [] s at n .good) refl
     where
       go : (b : Bool) → embedded [] s at n .good ≡ b → bodyIn s t at n ≡ noArguments 0 0
@@ -239,49 +254,61 @@ module _ {s q : List ℕ} {at : ℕ} (body : List ℕ) (k : Stands s at body q) 
 
 module _ (stmt t : ℕ) (body : List ℕ) (small : stmt < 2 ^ 32) (is-type : isType t ≡ true) where
   abbrev stmt-bytes : List ℕ
-  stmt-bytes = numberField 1 t ++ bytesField (chosen t) body
+  stmt-bytes = numberField 1 t ++ bytesField (Operation.fieldOf t) body
 
   abbrev content : List ℕ
   content = numberField 1 stmt ++ bytesField 2 stmt-bytes
 
   abbrev prepared : List ℕ
-  prepared = frame 40 content
+  prepared = frame Client.prepare content
 
   abbrev stmt-at : ℕ
   stmt-at = partStart 2 (payload + length (numberField 1 stmt)) (length stmt-bytes)
 
   abbrev pub body-at : ℕ
-  body-at = partStart (chosen t) (stmt-at + length (numberField 1 t)) (length body)
+  body-at = partStart (Operation.fieldOf t) (stmt-at + length (numberField 1 t)) (length body)
 
   pub stmt-stands : Stands prepared stmt-at stmt-bytes []
   stmt-stands =
-      stands-inside 2 stmt-bytes (stands-next (numberField 1 stmt) (bytesField 2 stmt-bytes) (tail-stands (payload-tail 40 content)))
+      stands-inside 2 stmt-bytes
+      (stands-next (numberField 1 stmt) (bytesField 2 stmt-bytes) (tail-stands (payload-tail Client.prepare content)))
 
   pub body-stands : Stands prepared body-at body []
-  body-stands = stands-inside (chosen t) body (stands-next (numberField 1 t) (bytesField (chosen t) body) stmt-stands)
+  body-stands =
+      stands-inside (Operation.fieldOf t) body
+      (stands-next (numberField 1 t) (bytesField (Operation.fieldOf t) body) stmt-stands)
+
+  abbrev preparing : ℕ → Request
+  preparing id =
+      Request.Prepare
+      (record {
+        stmt = id;
+        operation = t;
+        body = record { start = body-at; len = length body };
+        args = bodyIn prepared t body-at (length body);
+      })
 
   pub prepare-back : goodBody t body ≡ true → length stmt-bytes < 2 ^ 64 → length body < 2 ^ 64 →
-      prepareMessage prepared
-      ≡ message (length prepared) prepare stmt 0 noOptional noOptional t (record { start = body-at; len = length body })
-      (bodyIn prepared t body-at (length body))
-  unfolding prepareMessage
+      prepareFrame prepared ≡ Frame.Good (length prepared) (preparing stmt)
+  unfolding prepareFrame
   prepare-back h short short-body =
       let k = listed t is-type in
       let at = payload + length (numberField 1 stmt) in
       let far = stmt-at + length (numberField 1 t) in
-      let part : Part = record { start = body-at; len = length body } in
-      ap (prepareWith prepared)
+      ap (prepareOf prepared)
       (whole-good
-      (reads-then (reads-number (rowsOf prepare) 1 stmt (kept-prepare stmt .0) (omega arith) (omega arith) (omega arith))
-      (reads-bytes (rowsOf prepare) 2 stmt-bytes (kept-prepare (length stmt-bytes) .1) (omega arith) (omega arith) short))
-      (payload-tail 40 content) (sym (prepare-needed stmt at (length stmt-bytes))))
-      ∙ ap (prepareOf prepared (prepareSlots stmt at (length stmt-bytes)))
+      (reads-then (reads-number (rowsOf Client.prepare) 1 stmt (kept-prepare stmt .0) (omega arith) (omega arith)
+      (omega arith))
+      (reads-bytes (rowsOf Client.prepare) 2 stmt-bytes (kept-prepare (length stmt-bytes) .1) (omega arith)
+      (omega arith) short))
+      (payload-tail Client.prepare content) (sym (prepare-needed stmt at (length stmt-bytes))))
+      ∙ ap (prepareRead prepared stmt)
       (embedded-good
-      (reads-then (reads-number (rowsOf prepareStmt) 1 t (k .type-kept) (omega arith) (omega arith) (omega (arith, k .small)))
-      (reads-bytes (rowsOf prepareStmt) (chosen t) body (k .body-kept (length body)) (k .some) (k .few) short-body))
+      (reads-then (reads-number (rowsOf prepareStmt) 1 t (k .type-kept) (omega arith) (omega arith)
+      (omega (arith, k .small)))
+      (reads-bytes (rowsOf prepareStmt) (Operation.fieldOf t) body (k .body-kept (length body)) (k .some) (k .few)
+      short-body))
       stmt-stands (sym (k .needed stmt-at far (length body))))
-      ∙ k .taken prepared stmt at (length stmt-bytes) stmt-at far (length body)
-      ∙ sym (prepare-body prepared stmt t part (bodyIn prepared t body-at (length body)) (body-good body body-stands t ∙ h))
-      ∙ ap
-      (λ (v : ℕ). message (length prepared) prepare v 0 noOptional noOptional t part (bodyIn prepared t body-at (length body)))
-      (mod-eq-of-lt small)
+      ∙ k .taken prepared stmt stmt-at far (length body)
+      ∙ sym (payload-good prepared Client.prepare (preparing (low32 stmt)) (body-good body body-stands t ∙ h))
+      ∙ ap (λ (v : ℕ). Frame.Good (length prepared) (preparing v)) (mod-eq-of-lt small)

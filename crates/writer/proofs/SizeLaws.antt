@@ -9,9 +9,10 @@ use Rattle.varint.specs.Shortest.{varintBytes}
 use Rattle.varint.proofs.VarintLaws.{varint-length}
 use Rattle.reply.specs.Frame.{numberField, bytesField}
 use Rattle.reply.proofs.FrameLaws.{number-parts, bytes-parts}
-use Rattle.message.specs.Prepare.{chosen}
+use Rattle.message.specs.Operation.{fieldOf}
 use Rattle.writer.specs.declared.Draft.{Draft}
-use Rattle.writer.specs.Payload.{optionalField, prefixOf, executePayload, prepareStmtPayload, preparePayload, openStmtPayload, openPayload, fetchPayload}
+use Rattle.writer.specs.Payload.{optionalField, prefixOf, executePayload, prepareStmtPayload, preparePayload}
+use Rattle.writer.specs.Payload.{openStmtPayload, openPayload, fetchPayload}
 
 pub number-short : (num v : ℕ) → length (numberField num v) ≤ 20
 number-short num v = omega (arith, number-parts num v, varint-length (num * 8), varint-length v)
@@ -48,14 +49,19 @@ module _ (d : Draft) (bs : List ℕ) where
 
   pub prepare-stmt-parts :
       length (prepareStmtPayload d bs)
-      ≡ length (numberField 1 (d .choice)) + length (prefixOf (chosen (d .choice)) (length bs)) + length bs
+      ≡ length (numberField 1 (d .operation)) + length (prefixOf (fieldOf (d .operation)) (length bs)) + length bs
   unfolding prepareStmtPayload
   prepare-stmt-parts =
-      omega (arith, length-append (numberField 1 (d .choice)) (bytesField (chosen (d .choice)) bs), bytes-sum (chosen (d .choice)) bs)
+      omega (
+        arith,
+        length-append (numberField 1 (d .operation)) (bytesField (fieldOf (d .operation)) bs),
+        bytes-sum (fieldOf (d .operation)) bs,
+      )
 
   pub prepare-parts :
       length (preparePayload d bs)
-      ≡ length (numberField 1 (d .stmt)) + length (prefixOf 2 (length (prepareStmtPayload d bs))) + length (prepareStmtPayload d bs)
+      ≡ length (numberField 1 (d .stmt)) + length (prefixOf 2 (length (prepareStmtPayload d bs))) + length
+      (prepareStmtPayload d bs)
   unfolding preparePayload
   prepare-parts =
       omega (
@@ -69,17 +75,23 @@ module _ (d : Draft) (bs : List ℕ) where
       ≡ length (numberField 1 0) + length (prefixOf 2 (length (executePayload d bs))) + length (executePayload d bs)
   unfolding openStmtPayload
   open-stmt-parts =
-      omega (arith, length-append (numberField 1 0) (bytesField 2 (executePayload d bs)), bytes-sum 2 (executePayload d bs))
+      omega (
+        arith,
+        length-append (numberField 1 0) (bytesField 2 (executePayload d bs)),
+        bytes-sum 2 (executePayload d bs),
+      )
 
   pub open-parts :
       length (openPayload d bs)
-      ≡ length (numberField 1 (d .cursor)) + length (prefixOf 4 (length (openStmtPayload d bs))) + length (openStmtPayload d bs)
+      ≡ length (numberField 1 (d .cursor)) + length (prefixOf 4 (length (openStmtPayload d bs))) + length
+      (openStmtPayload d bs)
       + length (optionalField (d .hasrows) 5 (d .rows))
   unfolding openPayload
   open-parts =
       omega (
         arith,
-        length-append (numberField 1 (d .cursor) ++ bytesField 4 (openStmtPayload d bs)) (optionalField (d .hasrows) 5 (d .rows)),
+        length-append (numberField 1 (d .cursor) ++ bytesField 4 (openStmtPayload d bs))
+            (optionalField (d .hasrows) 5 (d .rows)),
         length-append (numberField 1 (d .cursor)) (bytesField 4 (openStmtPayload d bs)),
         bytes-sum 4 (openStmtPayload d bs),
       )
@@ -95,7 +107,12 @@ module _ (d : Draft) (bs : List ℕ) where
 
   pub prepare-stmt-short : length (prepareStmtPayload d bs) ≤ length bs + 40
   prepare-stmt-short =
-      omega (arith, prepare-stmt-parts, number-short 1 (d .choice), prefix-short (chosen (d .choice)) (length bs))
+      omega (
+        arith,
+        prepare-stmt-parts,
+        number-short 1 (d .operation),
+        prefix-short (fieldOf (d .operation)) (length bs),
+      )
 
 pub fetch-parts : (d : Draft) →
     length (fetchPayload d) ≡ length (numberField 1 (d .cursor)) + length (optionalField (d .hasrows) 2 (d .rows))

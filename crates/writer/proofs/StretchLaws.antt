@@ -26,21 +26,26 @@ use Rattle.writer.proofs.FieldLaws.{Reads}
 -- good args fields from the place i to the end of a
 pub data Stretch (a : List ℕ) : ℕ → Type 0 where
   done : {i : ℕ} → i ≡ length a → Stretch a i
-  more : {i v st ln next : ℕ} → fieldAt a i ≡ Field.Good 2 2 v st ln next → (anyTypeOf (argumentIn a st ln) ≡ 0 → ⊥) → Stretch a next →
+  more : {i v st ln next : ℕ} → fieldAt a i ≡ Field.Good 2 2 v st ln next → (anyTypeOf (argumentIn a st ln) ≡ 0 → ⊥) →
+      Stretch a next →
       Stretch a i
 
 module _ (a : List ℕ) where
   -- one field that is judged good
-  stretch-on : (m i : ℕ) → ((next : ℕ) → i < next → next ≤ length a → argsFrom m a next ≡ true → Stretch a next) → (f : Field) → fieldAt a i ≡ f →
+  stretch-on : (m i : ℕ) → ((next : ℕ) → i < next → next ≤ length a → argsFrom m a next ≡ true → Stretch a next) →
+      (f : Field) → fieldAt a i ≡ f →
       onArg a (λ next. argsFrom m a next) f ≡ true → Stretch a i
   stretch-on m i on Field.Bad e g = absurd (let z : _≡_ {A = ℕ} 0 1 = cc in omega arith)
-  stretch-on m i on (Field.Good n w v st ln next) e g = go (eqb n 2) refl (eqb w 2) refl (eqb (anyTypeOf (argumentIn a st ln)) 0) refl g
+  stretch-on m i on (Field.Good n w v st ln next) e g =
+      go (eqb n 2) refl (eqb w 2) refl (eqb (anyTypeOf (argumentIn a st ln)) 0) refl g
     where
-      go : (b : Bool) → eqb n 2 ≡ b → (c : Bool) → eqb w 2 ≡ c → (z : Bool) → eqb (anyTypeOf (argumentIn a st ln)) 0 ≡ z →
+      go : (b : Bool) → eqb n 2 ≡ b → (c : Bool) → eqb w 2 ≡ c → (z : Bool) →
+          eqb (anyTypeOf (argumentIn a st ln)) 0 ≡ z →
           cond b (cond c (cond (not z) (argsFrom m a next) false) false) false ≡ true → Stretch a i
       go true en true ew false ez h =
           let inside = field-inside a i e in
-          let args : Field.Good n w v st ln next ≡ Field.Good 2 2 v st ln next = rw (eqb-true n 2 en, eqb-true w 2 ew) in
+          let args : Field.Good n w v st ln next ≡ Field.Good 2 2 v st ln next = rw
+          (eqb-true n 2 en, eqb-true w 2 ew) in
           more (e ∙ args) (eqb-false (anyTypeOf (argumentIn a st ln)) 0 ez) (on next (inside .1) (inside .2) h)
       go true en true ew true ez h = absurd (let z : _≡_ {A = ℕ} 0 1 = cc in omega arith)
       go true en false ew z ez h = absurd (let z : _≡_ {A = ℕ} 0 1 = cc in omega arith)
@@ -51,7 +56,8 @@ module _ (a : List ℕ) where
   stretch-from zero i h g e = let z : i ≡ length a = omega arith in done z
   stretch-from (suc m) i h g e =
       less-or-not i (length a)
-      (λ l. stretch-on m i (λ next b c. stretch-from m next (omega arith) c) (fieldAt a i) refl (rw (lt-ltb i (length a) l) at e))
+      (λ l. stretch-on m i (λ next b c. stretch-from m next (omega arith) c) (fieldAt a i) refl
+      (rw (lt-ltb i (length a) l) at e))
       (λ l. let z : i ≡ length a = omega arith in done z)
 
   pub stretch-of : goodStretch a ≡ true → Stretch a 0
@@ -84,10 +90,13 @@ module _ {s : List ℕ} {at : ℕ} {a q : List ℕ} (k : Stands s at a q) where
   pub there : (i : ℕ) {v st ln next : ℕ} → fieldAt a i ≡ Field.Good 2 2 v st ln next →
       fieldAt s (at + i) ≡ Field.Good 2 2 v (at + st) ln (at + next)
   there i {v} {st} {ln} {next} e =
-      field-moved (record { within = k .within; is = k .there }) i ∙ ap (movedField at) (field-longer a q 2 v st ln next i e)
+      field-moved (record { within = k .within; is = k .there }) i
+      ∙ ap (movedField at) (field-longer a q 2 v st ln next i e)
 
-  listing-stretch : (rows : List (List ℕ)) → ((v : ℕ) → useOf rows 2 2 v ≡ Use.Counted) → (from i : ℕ) (x : Slots) (g : Stretch a i) →
-      Listing rows s from (at + i) x → Listing rows s from (at + length a) (withCount x (bump (fieldCount g) (x .count)))
+  listing-stretch : (rows : List (List ℕ)) → ((v : ℕ) → useOf rows 2 2 v ≡ Use.Counted) →
+      (from i : ℕ) (x : Slots) (g : Stretch a i) →
+      Listing rows s from (at + i) x →
+      Listing rows s from (at + length a) (withCount x (bump (fieldCount g) (x .count)))
   unfolding bump
   listing-stretch rows c from i x (done e) l = subst (λ (p : ℕ). Listing rows s from (at + p) x) e l
   listing-stretch rows c from i x (more {v = v} {st = st} {ln = ln} {next = next} e b g) l =
@@ -95,7 +104,8 @@ module _ {s : List ℕ} {at : ℕ} {a q : List ℕ} (k : Stands s at a q) where
       listing-stretch rows c from next (noted Use.Counted x 2 v (at + st) ln) g
       (goes-on l (omega (arith, stands-length k)) (there i e) Use.Counted (sym (c v)))
 
-pub reads-stretch : (rows : List (List ℕ)) → ((v : ℕ) → useOf rows 2 2 v ≡ Use.Counted) → (a : List ℕ) (g : Stretch a 0) →
+pub reads-stretch : (rows : List (List ℕ)) → ((v : ℕ) → useOf rows 2 2 v ≡ Use.Counted) →
+    (a : List ℕ) (g : Stretch a 0) →
     Reads rows a (λ at x. withCount x (bump (fieldCount g) (x .count)))
 reads-stretch rows c a g =
     record {

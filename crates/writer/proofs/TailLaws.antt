@@ -20,7 +20,8 @@ less-or-not {A} a b f g = go (ltb a b) refl
     go false e = g (ltb-false a b e)
 
 -- a choice between two, each the image of another
-pub chosen-alike : {A B : Type 0} (f : A → B) (b : Bool) {x y : A} {u v : B} → u ≡ f x → v ≡ f y → cond b u v ≡ f (cond b x y)
+pub chosen-alike : {A B : Type 0} (f : A → B) (b : Bool) {x y : A} {u v : B} → u ≡ f x → v ≡ f y →
+    cond b u v ≡ f (cond b x y)
 chosen-alike f true p q = p
 chosen-alike f false p q = q
 
@@ -100,7 +101,8 @@ pub stands-as : {s : List ℕ} {at : ℕ} {bs cs q : List ℕ} → bs ≡ cs →
 stands-as {q = q} e k = record { within = k .within; there = k .there ∙ ap (λ (l : List ℕ). l ++ q) e }
 
 -- cut off behind some of the bytes
-pub stands-take : {s : List ℕ} {at : ℕ} {bs q : List ℕ} → Stands s at bs q → (n : ℕ) → n ≤ length bs → Tail (take (at + n) s) at (take n bs)
+pub stands-take : {s : List ℕ} {at : ℕ} {bs q : List ℕ} → Stands s at bs q → (n : ℕ) → n ≤ length bs →
+    Tail (take (at + n) s) at (take n bs)
 stands-take {s} {at} {bs} {q} k n h =
     record {
       within = omega (arith, length-take (at + n) s, stands-length k);

@@ -13,9 +13,9 @@ use Rattle.varint.proofs.PutLaws.{put-fits}
 use Rattle.reply.specs.Puts.{Puts}
 use Rattle.reply.specs.Frame.{fourBytes, frame}
 use Rattle.reply.proofs.PutsLaws.{puts-then, puts-as}
-use Rattle.layout.specs.Table.{prepare, execute, deallocate, open', close, fetch}
+use Rattle.protocol.specs.Client as Client
+use Rattle.protocol.specs.Reason as Reason
 use Rattle.message.specs.Head.{maxLength}
-use Rattle.message.specs.Frame.{reset, sessionClose}
 use Rattle.args.proofs.PartLaws.{yes, no as without}
 use Rattle.writer.specs.declared.Draft.{Draft}
 use Rattle.writer.specs.declared.Sent.{Sent}
@@ -24,24 +24,24 @@ use Rattle.writer.specs.Payload.{payloadOf}
 use Rattle.writer.specs.Write.{frameBytes, draftReason, sent, sentOf, leftOf}
 
 -- a type that is accepted is one of the eight, and fits a byte
-pub accepted-kind : (kind choice : ℕ) (body args : List ℕ) → acceptedAs kind choice body args ≡ true → kind < 256
+pub accepted-kind : (kind operation : ℕ) (body args : List ℕ) → acceptedAs kind operation body args ≡ true → kind < 256
 unfolding acceptedAs
-accepted-kind kind choice body args =
-    both P (eqb kind reset) _ _ (λ e _. omega (arith, eqb-true kind reset e))
+accepted-kind kind operation body args =
+    both P (eqb kind Client.reset) _ _ (λ e _. omega (arith, eqb-true kind Client.reset e))
     (λ _.
-    both P (eqb kind sessionClose) _ _ (λ e _. omega (arith, eqb-true kind sessionClose e))
+    both P (eqb kind Client.sessionClose) _ _ (λ e _. omega (arith, eqb-true kind Client.sessionClose e))
     (λ _.
-    both P (eqb kind prepare) _ _ (λ e _. omega (arith, eqb-true kind prepare e))
+    both P (eqb kind Client.prepare) _ _ (λ e _. omega (arith, eqb-true kind Client.prepare e))
     (λ _.
-    both P (eqb kind execute) _ _ (λ e _. omega (arith, eqb-true kind execute e))
+    both P (eqb kind Client.execute) _ _ (λ e _. omega (arith, eqb-true kind Client.execute e))
     (λ _.
-    both P (eqb kind deallocate) _ _ (λ e _. omega (arith, eqb-true kind deallocate e))
+    both P (eqb kind Client.deallocate) _ _ (λ e _. omega (arith, eqb-true kind Client.deallocate e))
     (λ _.
-    both P (eqb kind open') _ _ (λ e _. omega (arith, eqb-true kind open' e))
+    both P (eqb kind Client.open') _ _ (λ e _. omega (arith, eqb-true kind Client.open' e))
     (λ _.
-    both P (eqb kind close) _ _ (λ e _. omega (arith, eqb-true kind close e))
+    both P (eqb kind Client.close) _ _ (λ e _. omega (arith, eqb-true kind Client.close e))
     (λ _.
-    both P (eqb kind fetch) _ _ (λ e _. omega (arith, eqb-true kind fetch e))
+    both P (eqb kind Client.fetch) _ _ (λ e _. omega (arith, eqb-true kind Client.fetch e))
     (λ _ g. absurd (let z : _≡_ {A = ℕ} 0 1 = cc in omega arith)))))))))
   where
     P : Bool → Type 0
@@ -51,58 +51,72 @@ pub frame-length : (kind : ℕ) (payload : List ℕ) → length (frame kind payl
 frame-length kind payload = omega arith
 
 module _ (d : Draft) (body args : List ℕ) where
-  pub reason-six : accepted d body args ≡ false → draftReason d body args ≡ 6
+  pub reason-bad : accepted d body args ≡ false → draftReason d body args ≡ Reason.badPayload
   unfolding draftReason
-  reason-six e = sym (without (cond (leb (length (payloadOf d body args) + 1) maxLength) 0 2) 6 e)
+  reason-bad e =
+      sym (without (cond (leb (length (payloadOf d body args) + 1) maxLength) Reason.accepted Reason.badLength)
+      Reason.badPayload e)
 
-  pub reason-two : accepted d body args ≡ true → maxLength ≤ length (payloadOf d body args) → draftReason d body args ≡ 2
+  pub reason-long : accepted d body args ≡ true → maxLength ≤ length (payloadOf d body args) →
+      draftReason d body args ≡ Reason.badLength
   unfolding draftReason
-  reason-two e h =
+  reason-long e h =
       sym
-      (without 0 2 (lt-leb (length (payloadOf d body args) + 1) maxLength (omega arith))
-      ∙ yes (cond (leb (length (payloadOf d body args) + 1) maxLength) 0 2) 6 e)
+      (without Reason.accepted Reason.badLength (lt-leb (length (payloadOf d body args) + 1) maxLength (omega arith))
+      ∙ yes (cond (leb (length (payloadOf d body args) + 1) maxLength) Reason.accepted Reason.badLength)
+      Reason.badPayload e)
 
-  pub reason-none : accepted d body args ≡ true → length (payloadOf d body args) < maxLength → draftReason d body args ≡ 0
+  pub reason-none : accepted d body args ≡ true → length (payloadOf d body args) < maxLength →
+      draftReason d body args ≡ Reason.accepted
   unfolding draftReason
   reason-none e h =
       sym
-      (yes 0 2 (le-leb (length (payloadOf d body args) + 1) maxLength (omega arith))
-      ∙ yes (cond (leb (length (payloadOf d body args) + 1) maxLength) 0 2) 6 e)
+      (yes Reason.accepted Reason.badLength (le-leb (length (payloadOf d body args) + 1) maxLength (omega arith))
+      ∙ yes (cond (leb (length (payloadOf d body args) + 1) maxLength) Reason.accepted Reason.badLength)
+      Reason.badPayload e)
 
   module _ (b : List ℕ) where
     -- the two equations of the contract
     abbrev pub Wrote : Sent → List ℕ → Type 0
     Wrote r b₁ = (r ≡ sentOf d body args (length b)) × (b₁ ≡ leftOf d body args b)
 
-    pub wrote-six : accepted d body args ≡ false → Wrote (sent 6 0) b
+    pub wrote-bad : accepted d body args ≡ false → Wrote (sent Reason.badPayload 0) b
     unfolding sentOf leftOf
-    wrote-six e = rw (reason-six e) (refl, refl)
+    wrote-bad e = rw (reason-bad e) (refl, refl)
 
-    pub wrote-two : accepted d body args ≡ true → maxLength ≤ length (payloadOf d body args) → Wrote (sent 2 0) b
+    pub wrote-long : accepted d body args ≡ true → maxLength ≤ length (payloadOf d body args) →
+        Wrote (sent Reason.badLength 0) b
     unfolding sentOf leftOf
-    wrote-two e h = rw (reason-two e h) (refl, refl)
+    wrote-long e h = rw (reason-long e h) (refl, refl)
 
     module _ (e : accepted d body args ≡ true) (h : length (payloadOf d body args) < maxLength) where
-      pub wrote-three : length b < length (payloadOf d body args) + 5 → Wrote (sent 3 0) b
+      pub wrote-short : length b < length (payloadOf d body args) + 5 → Wrote (sent Reason.noRoom 0) b
       unfolding sentOf leftOf
-      wrote-three g =
-          rw (reason-none e h, lt-leb (length (frameBytes d body args)) (length b) (omega (arith, frame-length (d .kind) (payloadOf d body args))))
+      wrote-short g =
+          rw (
+            reason-none e h,
+            lt-leb (length (frameBytes d body args)) (length b)
+                (omega (arith, frame-length (d .kind) (payloadOf d body args))),
+          )
           (refl, refl)
 
       -- the head, and behind it the payload
       pub wrote-all : {b₁ b₂ : List ℕ} {p q : ℕ} → length (payloadOf d body args) + 5 ≤ length b →
-          Puts b 0 (fourBytes (length (payloadOf d body args) + 1) ++ (d .kind % 256 ∷ [])) p b₁ → Puts b₁ p (payloadOf d body args) q b₂ →
-          Wrote (sent 0 q) b₂
+          Puts b 0 (fourBytes (length (payloadOf d body args) + 1) ++ (d .kind % 256 ∷ [])) p b₁ →
+          Puts b₁ p (payloadOf d body args) q b₂ →
+          Wrote (sent Reason.accepted q) b₂
       unfolding sentOf leftOf
       wrote-all {b₁} {b₂} {p} {q} g f t =
-          rw (reason-none e h, le-leb (length (frameBytes d body args)) (length b) (omega (arith, room)))
-          (ap (λ (n : ℕ). sent 0 n) (whole .behind ∙ zero), whole .stored ∙ put-fits b 0 (frameBytes d body args) room .1)
+          rw (reason-none e h, le-leb (length (frameBytes d body args)) (length b) (omega (arith, room))) (
+            ap (λ (n : ℕ). sent Reason.accepted n) (whole .behind ∙ zero),
+            whole .stored ∙ put-fits b 0 (frameBytes d body args) room .1,
+          )
         where
           whole : Puts b 0 (frameBytes d body args) q b₂
           whole =
               puts-as
               (ap (λ (k : ℕ). fourBytes (length (payloadOf d body args) + 1) ++ (k ∷ payloadOf d body args))
-              (mod-eq-of-lt (accepted-kind (d .kind) (d .choice) body args e)))
+              (mod-eq-of-lt (accepted-kind (d .kind) (d .operation) body args e)))
               (puts-then f t)
 
           room : 0 + length (frameBytes d body args) ≤ length b

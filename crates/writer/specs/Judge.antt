@@ -1,18 +1,18 @@
--- What a draft may hold (document 01, "Writer"): arguments come as one stretch of good args fields, tags included, and nothing
+-- What a draft may hold (C3, C4, C5): arguments come as one stretch of good args fields, tags included, and nothing
 -- else; a Prepare's body is handed in encoded, with its type.
 use Prim.Native.Nat.{ℕ, zero, suc}
-use mathlib.Core.Bool.{Bool, true, false, not, cond}
+use mathlib.Core.Bool.{Bool, true, false, not, cond, _||_}
 use mathlib.Core.List.{List}
 use lib.ListN.{length}
 use lib.Dec.{ltb, eqb}
 use Rattle.wire.specs.Field.{fieldAt}
 use Rattle.wire.specs.declared.field.Field.{Field}
 use Rattle.scalar.specs.declared.argument.Argument.{Argument}
-use Rattle.layout.specs.Table.{prepare, execute, deallocate, open', close, fetch}
+use Rattle.protocol.specs.Client as Client
 use Rattle.args.specs.Value.{argumentIn}
 use Rattle.args.specs.Arguments.{anyTypeOf}
+use Rattle.message.specs.Operation as Operation
 use Rattle.message.specs.Prepare.{bodyIn}
-use Rattle.message.specs.Frame.{reset, sessionClose}
 use Rattle.writer.specs.declared.Draft.{Draft}
 
 -- an argument that the reader takes; objects and arrays are well encoded too
@@ -36,28 +36,30 @@ argsFrom (suc most) s at =
 abbrev pub goodStretch : List ℕ → Bool
 goodStretch s = argsFrom (length s) s 0
 
--- Prepare types 0, 1, 2, 4, 5; there is no 3
+-- the types of a Prepare's statement
 abbrev pub isType : ℕ → Bool
-isType t = cond (eqb t 3) false (ltb t 6)
+isType t =
+    eqb t Operation.find || eqb t Operation.insert || eqb t Operation.update || eqb t Operation.delete || eqb t
+    Operation.stmtExecute
 
--- a body by the reader's rules: of type 5 a good StmtExecute, of any other a good field list
+-- a body by the reader's rules: a good StmtExecute, or of any other type a good field list
 abbrev pub goodBody : ℕ → List ℕ → Bool
 goodBody t body = bodyIn body t 0 (length body) .good
 
 abbrev pub goodPrepare : ℕ → List ℕ → Bool
 goodPrepare t body = cond (isType t) (goodBody t body) false
 
--- a draft of this kind can be written, its length apart. `body` and the type count for a Prepare alone, `args` for Execute and
--- Open alone; a kind that is none of the eight cannot be written
+-- a draft of this kind can be written, its length apart. `body` and the type count for a Prepare alone, `args` for
+-- Execute and Open alone; a kind that is none of the eight cannot be written
 unfoldable pub acceptedAs : ℕ → ℕ → List ℕ → List ℕ → Bool
-acceptedAs kind choice body args =
-    cond (eqb kind reset) true
-    (cond (eqb kind sessionClose) true
-    (cond (eqb kind prepare) (goodPrepare choice body)
-    (cond (eqb kind execute) (goodStretch args)
-    (cond (eqb kind deallocate) true
-    (cond (eqb kind open') (goodStretch args)
-    (cond (eqb kind close) true (cond (eqb kind fetch) true false)))))))
+acceptedAs kind operation body args =
+    cond (eqb kind Client.reset) true
+    (cond (eqb kind Client.sessionClose) true
+    (cond (eqb kind Client.prepare) (goodPrepare operation body)
+    (cond (eqb kind Client.execute) (goodStretch args)
+    (cond (eqb kind Client.deallocate) true
+    (cond (eqb kind Client.open') (goodStretch args)
+    (cond (eqb kind Client.close) true (cond (eqb kind Client.fetch) true false)))))))
 
 abbrev pub accepted : Draft → List ℕ → List ℕ → Bool
-accepted d body args = acceptedAs (d .kind) (d .choice) body args
+accepted d body args = acceptedAs (d .kind) (d .operation) body args

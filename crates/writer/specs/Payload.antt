@@ -1,13 +1,13 @@
--- The payload of each message as it is written (document 01, "Writer" and "Layouts"): known fields in number order, shortest
--- varints, absent optionals left out.
+-- The payload of each message as it is written (C2, L1): known fields in number order, shortest varints, absent
+-- optionals left out.
 use Prim.Native.Nat.{ℕ, _+_, _*_}
 use mathlib.Core.Bool.{Bool, cond}
 use mathlib.Core.List.{List, [], _++_}
 use lib.Dec.{eqb}
 use Rattle.varint.specs.Shortest.{varintBytes}
 use Rattle.reply.specs.Frame.{numberField, bytesField}
-use Rattle.layout.specs.Table.{prepare, execute, deallocate, open', close, fetch}
-use Rattle.message.specs.Prepare.{chosen}
+use Rattle.protocol.specs.Client as Client
+use Rattle.message.specs.Operation.{fieldOf}
 use Rattle.writer.specs.declared.Draft.{Draft}
 
 -- a field with a number, where it is present
@@ -25,7 +25,7 @@ executePayload d args =
 
 -- stmt_id, and the statement: its type and the body that it chooses
 unfoldable pub prepareStmtPayload : Draft → List ℕ → List ℕ
-prepareStmtPayload d body = numberField 1 (d .choice) ++ bytesField (chosen (d .choice)) body
+prepareStmtPayload d body = numberField 1 (d .operation) ++ bytesField (fieldOf (d .operation)) body
 
 unfoldable pub preparePayload : Draft → List ℕ → List ℕ
 preparePayload d body = numberField 1 (d .stmt) ++ bytesField 2 (prepareStmtPayload d body)
@@ -42,14 +42,14 @@ openPayload d args =
 unfoldable pub fetchPayload : Draft → List ℕ
 fetchPayload d = numberField 1 (d .cursor) ++ optionalField (d .hasrows) 2 (d .rows)
 
--- Reset and Session close have no fields
+-- Reset and Session close have no fields (L2)
 unfoldable pub payloadAs : ℕ → Draft → List ℕ → List ℕ → List ℕ
 payloadAs kind d body args =
-    cond (eqb kind prepare) (preparePayload d body)
-    (cond (eqb kind execute) (executePayload d args)
-    (cond (eqb kind deallocate) (numberField 1 (d .stmt))
-    (cond (eqb kind open') (openPayload d args)
-    (cond (eqb kind close) (numberField 1 (d .cursor)) (cond (eqb kind fetch) (fetchPayload d) [])))))
+    cond (eqb kind Client.prepare) (preparePayload d body)
+    (cond (eqb kind Client.execute) (executePayload d args)
+    (cond (eqb kind Client.deallocate) (numberField 1 (d .stmt))
+    (cond (eqb kind Client.open') (openPayload d args)
+    (cond (eqb kind Client.close) (numberField 1 (d .cursor)) (cond (eqb kind Client.fetch) (fetchPayload d) [])))))
 
 abbrev pub payloadOf : Draft → List ℕ → List ℕ → List ℕ
 payloadOf d body args = payloadAs (d .kind) d body args

@@ -1,15 +1,19 @@
--- A written message reads back as itself.
+-- A written message reads back as itself (C10, D2).
 use Prim.Native.Nat.{ℕ, _^_, _<_}
 use mathlib.Core.Path.{_≡_}
 use mathlib.Core.Bool.{Bool, true, cond, _||_}
 use mathlib.Core.List.{List, [], _++_}
 use lib.ListN.{length, take, drop}
 use lib.Dec.{eqb}
-use Rattle.layout.specs.Table.{prepare, execute, deallocate, open', close, fetch}
+use Rattle.protocol.specs.Client as Client
+use Rattle.protocol.specs.Reason as Reason
 use Rattle.args.specs.Arguments.{nthArgument}
-use Rattle.message.specs.Message.{noOptional}
-use Rattle.message.specs.Frame.{messageOf, bodyOf, argumentOf}
-use Rattle.message.specs.declared.message.Optional.{Optional}
+use Rattle.message.specs.Operation as Operation
+use Rattle.message.specs.Request.{kindOf, stmtOf, cursorOf, rowsOf, compactOf, operationOf, noOptional}
+use Rattle.message.specs.Frame.{frameOf, bodyOf, argumentOf}
+use Rattle.message.specs.declared.request.Optional.{Optional}
+use Rattle.message.specs.declared.request.Request.{Request}
+use Rattle.message.specs.declared.request.Frame.{Frame}
 use Rattle.writer.specs.declared.Draft.{Draft}
 use Rattle.writer.specs.Moved.{moved}
 use Rattle.writer.specs.Payload.{executePayload}
@@ -21,42 +25,44 @@ pub record Sized (d : Draft) : Type 0 where
   pub cursor : d .cursor < 2 ^ 32
   pub rows : d .rows < 2 ^ 64
 
--- what the kinds have (document 01, "Layouts")
+-- what the kinds have (L1, C7)
 abbrev pub hasStmt : ℕ → Bool
-hasStmt kind = eqb kind prepare || eqb kind execute || eqb kind deallocate || eqb kind open'
+hasStmt kind = eqb kind Client.prepare || eqb kind Client.execute || eqb kind Client.deallocate || eqb kind Client.open'
 
 abbrev pub hasCursor : ℕ → Bool
-hasCursor kind = eqb kind open' || eqb kind close || eqb kind fetch
+hasCursor kind = eqb kind Client.open' || eqb kind Client.close || eqb kind Client.fetch
 
 abbrev pub hasRows : ℕ → Bool
-hasRows kind = eqb kind open' || eqb kind fetch
+hasRows kind = eqb kind Client.open' || eqb kind Client.fetch
 
 abbrev pub hasArgs : ℕ → Bool
-hasArgs kind = eqb kind execute || eqb kind open'
+hasArgs kind = eqb kind Client.execute || eqb kind Client.open'
 
 -- an optional field, present or absent
 abbrev pub given : Bool → ℕ → Optional
 given present value = cond present (record { present = true; value = value }) noOptional
 
--- the bytes that hold the arguments: the stretch, or the body of a Prepare of type 5
+-- the bytes that hold the arguments: the stretch, or the StmtExecute of a Prepare
 abbrev pub argsBytes : Draft → List ℕ → List ℕ → List ℕ
 argsBytes d body args =
-    cond (hasArgs (d .kind)) args (cond (eqb (d .kind) prepare) (cond (eqb (d .choice) 5) body []) [])
+    cond (hasArgs (d .kind)) args
+    (cond (eqb (d .kind) Client.prepare) (cond (eqb (d .operation) Operation.stmtExecute) body []) [])
 
 -- these bytes read, by the reader's definitions, as the draft
 pub record ReadsAs (d : Draft) (body args bytes : List ℕ) : Type 0 where
-  -- it is accepted, and the frame and nothing else is used
-  pub reason : messageOf bytes .reason ≡ 0
-  pub used : messageOf bytes .used ≡ length (frameBytes d body args)
+  -- they hold a request, and the frame and nothing else is used
+  pub request : Request
+  pub good : frameOf bytes ≡ Frame.Good (length (frameBytes d body args)) request
   -- each field is the draft's, where the kind has it
-  pub kind : messageOf bytes .kind ≡ d .kind
-  pub stmt : messageOf bytes .stmt ≡ cond (hasStmt (d .kind)) (d .stmt) 0
-  pub cursor : messageOf bytes .cursor ≡ cond (hasCursor (d .kind)) (d .cursor) 0
-  pub rows : messageOf bytes .rows ≡ cond (hasRows (d .kind)) (given (d .hasrows) (d .rows)) noOptional
-  pub compact : messageOf bytes .compact ≡ cond (hasArgs (d .kind)) (given (d .hascompact) (cond (d .compact) 1 0)) noOptional
-  pub choice : messageOf bytes .choice ≡ cond (eqb (d .kind) prepare) (d .choice) 0
+  pub kind : kindOf request ≡ d .kind
+  pub stmt : stmtOf request ≡ cond (hasStmt (d .kind)) (d .stmt) 0
+  pub cursor : cursorOf request ≡ cond (hasCursor (d .kind)) (d .cursor) 0
+  pub rows : rowsOf request ≡ cond (hasRows (d .kind)) (given (d .hasrows) (d .rows)) noOptional
+  pub compact : compactOf request ≡ cond (hasArgs (d .kind)) (given (d .hascompact) (cond (d .compact) 1 0)) noOptional
+  pub operation : operationOf request ≡ cond (eqb (d .kind) Client.prepare) (d .operation) 0
   -- the chosen body is the one handed in; Open's is its Execute
-  pub chosen : bodyOf bytes ≡ cond (eqb (d .kind) prepare) body (cond (eqb (d .kind) open') (executePayload d args) [])
+  pub chosen : bodyOf bytes ≡
+      cond (eqb (d .kind) Client.prepare) body (cond (eqb (d .kind) Client.open') (executePayload d args) [])
   -- the arguments' bytes stand at a place, and each argument reads as it does in them
   pub place : ℕ
   pub stands : take (length (argsBytes d body args)) (drop place bytes) ≡ argsBytes d body args
@@ -65,9 +71,11 @@ pub record ReadsAs (d : Draft) (body args bytes : List ℕ) : Type 0 where
 -- every draft that is not refused 6 or 2 is read back from its frame, whatever bytes stand behind it
 abbrev pub RoundTrip : Type 0
 RoundTrip =
-    (d : Draft) (body args rest : List ℕ) → Sized d → draftReason d body args ≡ 0 → ReadsAs d body args (frameBytes d body args ++ rest)
+    (d : Draft) (body args rest : List ℕ) → Sized d → draftReason d body args ≡ Reason.accepted →
+    ReadsAs d body args (frameBytes d body args ++ rest)
 
 -- so does the buffer that it was written to
 abbrev pub WrittenReads : Type 0
 WrittenReads =
-    (d : Draft) (body args buf : List ℕ) → Sized d → writeReason d body args (length buf) ≡ 0 → ReadsAs d body args (leftOf d body args buf)
+    (d : Draft) (body args buf : List ℕ) → Sized d → writeReason d body args (length buf) ≡ Reason.accepted →
+    ReadsAs d body args (leftOf d body args buf)

@@ -1,7 +1,9 @@
 // Whether a draft can be written: its arguments, its body and its types are good.
 ghost use mathlib.Core.Path.{_≡_};
-ghost use Rattle.writer.specs.Judge.{accepted, goodPrepare, goodStretch};
+ghost use Rattle.writer.specs.Judge.{accepted, goodPrepare, goodStretch, isType};
 use crate::Draft;
+use message::operation;
+use protocol::client;
 use wire::field::Field;
 
 // Whether s is a stretch of good args fields and nothing else.
@@ -36,17 +38,28 @@ fn is_stretch(s: &[u8]) -> bool
     true
 }
 
-// Whether a Prepare's type is listed and its body good.
-fn is_prepare(choice: u64, body: &[u8]) -> bool
-    ensures { λ r. ⌜ r ≡ goodPrepare choice (now (body .entry)) ⌝ }
+// Whether the type of a Prepare's statement is listed.
+fn is_type(t: u64) -> bool
+    ensures { λ r. ⌜ r ≡ isType t ⌝ }
 {
-    if choice == 3 {
+    match t {
+        operation::FIND => true,
+        operation::INSERT => true,
+        operation::UPDATE => true,
+        operation::DELETE => true,
+        operation::STMT_EXECUTE => true,
+        _ => false,
+    }
+}
+
+// Whether a Prepare's type is listed and its body good.
+fn is_prepare(operation: u64, body: &[u8]) -> bool
+    ensures { λ r. ⌜ r ≡ goodPrepare operation (now (body .entry)) ⌝ }
+{
+    if !is_type(operation) {
         return false;
     }
-    if 6 <= choice {
-        return false;
-    }
-    let b = message::prepare::read_body(body, choice, 0, body.len());
+    let b = message::prepare::read_body(body, operation, 0, body.len());
     b.good
 }
 
@@ -55,14 +68,14 @@ pub(crate) fn is_accepted(draft: Draft, body: &[u8], args: &[u8]) -> bool
 {
     let kind = draft.kind;
     match kind {
-        6 => true,
-        7 => true,
-        40 => is_prepare(draft.choice, body),
-        41 => is_stretch(args),
-        42 => true,
-        43 => is_stretch(args),
-        44 => true,
-        45 => true,
+        client::RESET => true,
+        client::SESSION_CLOSE => true,
+        client::PREPARE => is_prepare(draft.operation, body),
+        client::EXECUTE => is_stretch(args),
+        client::DEALLOCATE => true,
+        client::OPEN => is_stretch(args),
+        client::CLOSE => true,
+        client::FETCH => true,
         _ => false,
     }
 }

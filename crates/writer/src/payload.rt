@@ -5,7 +5,8 @@ ghost use Prim.Native.Nat.{_+_, _≤_};
 ghost use mathlib.Core.Bool.{cond};
 ghost use lib.ListN.{length};
 ghost use Rattle.reply.specs.Puts.{Puts};
-ghost use Rattle.writer.specs.Payload.{executePayload, fetchPayload, openPayload, openStmtPayload, payloadOf, preparePayload, prepareStmtPayload};
+ghost use Rattle.writer.specs.Payload.{executePayload, openPayload, openStmtPayload};
+ghost use Rattle.writer.specs.Payload.{fetchPayload, payloadOf, preparePayload, prepareStmtPayload};
 use crate::Draft;
 use crate::fields::number_len;
 use crate::fields::optional_len;
@@ -14,7 +15,8 @@ use crate::fields::put_number;
 use crate::fields::put_optional;
 use crate::fields::put_prefix;
 use crate::fields::put_slice;
-use message::prepare::chosen_field;
+use message::operation::field_of;
+use protocol::client;
 
 // A bool as 0 or 1.
 fn bit(b: bool) -> u64
@@ -51,8 +53,8 @@ fn open_len(draft: Draft, args: &[u8]) -> usize
 fn prepare_stmt_len(draft: Draft, body: &[u8]) -> usize
     ensures { λ r. ⌜ r ≡ length (prepareStmtPayload draft (now (body .entry))) ⌝ }
 {
-    let k = chosen_field(draft.choice) as u64;
-    number_len(1, draft.choice) + prefix_len(k, body.len()) + body.len()
+    let k = field_of(draft.operation) as u64;
+    number_len(1, draft.operation) + prefix_len(k, body.len()) + body.len()
 }
 
 fn prepare_len(draft: Draft, body: &[u8]) -> usize
@@ -73,12 +75,12 @@ pub(crate) fn payload_len(draft: Draft, body: &[u8], args: &[u8]) -> usize
 {
     let kind = draft.kind;
     match kind {
-        40 => prepare_len(draft, body),
-        41 => execute_len(draft, args),
-        42 => number_len(1, draft.stmt as u64),
-        43 => open_len(draft, args),
-        44 => number_len(1, draft.cursor as u64),
-        45 => fetch_len(draft),
+        client::PREPARE => prepare_len(draft, body),
+        client::EXECUTE => execute_len(draft, args),
+        client::DEALLOCATE => number_len(1, draft.stmt as u64),
+        client::OPEN => open_len(draft, args),
+        client::CLOSE => number_len(1, draft.cursor as u64),
+        client::FETCH => fetch_len(draft),
         _ => 0,
     }
 }
@@ -115,8 +117,8 @@ fn put_prepare_stmt(draft: Draft, body: &[u8], buf: &mut [u8], at: usize) -> usi
     requires { ⌜ at + length (prepareStmtPayload draft (now body)) ≤ length (now buf) ⌝ }
     ensures { λ r. ⌜ Puts (now (buf .entry)) at (prepareStmtPayload draft (now (body .entry))) r (now (buf .exit)) ⌝ }
 {
-    let k = chosen_field(draft.choice) as u64;
-    let p = put_number(buf, at, 1, draft.choice);
+    let k = field_of(draft.operation) as u64;
+    let p = put_number(buf, at, 1, draft.operation);
     let q = put_prefix(buf, p, k, body.len());
     put_slice(buf, q, body)
 }
@@ -146,16 +148,18 @@ pub(crate) fn put_payload(
     at: usize,
 ) -> usize
     requires { ⌜ at + length (payloadOf draft (now body) (now args)) ≤ length (now buf) ⌝ }
-    ensures { λ r. ⌜ Puts (now (buf .entry)) at (payloadOf draft (now (body .entry)) (now (args .entry))) r (now (buf .exit)) ⌝ }
+    ensures { λ r. ⌜
+        Puts (now (buf .entry)) at (payloadOf draft (now (body .entry)) (now (args .entry))) r (now (buf .exit))
+        ⌝ }
 {
     let kind = draft.kind;
     match kind {
-        40 => put_prepare(draft, body, buf, at),
-        41 => put_execute(draft, args, buf, at),
-        42 => put_number(buf, at, 1, draft.stmt as u64),
-        43 => put_open(draft, args, buf, at),
-        44 => put_number(buf, at, 1, draft.cursor as u64),
-        45 => put_fetch(draft, buf, at),
+        client::PREPARE => put_prepare(draft, body, buf, at),
+        client::EXECUTE => put_execute(draft, args, buf, at),
+        client::DEALLOCATE => put_number(buf, at, 1, draft.stmt as u64),
+        client::OPEN => put_open(draft, args, buf, at),
+        client::CLOSE => put_number(buf, at, 1, draft.cursor as u64),
+        client::FETCH => put_fetch(draft, buf, at),
         _ => at,
     }
 }

@@ -14,7 +14,7 @@ fn draft(kind: u64, stmt: u32, cursor: u32) -> Draft {
         rows: 0,
         hascompact: false,
         compact: false,
-        choice: 0,
+        operation: 0,
     }
 }
 
@@ -73,11 +73,11 @@ fn print_execute(seven: &[u8]) {
 
 fn print_prepare() {
     let mut d = draft(40, 1, 9);
-    d.choice = 5;
+    d.operation = 5;
     print_message(d, b"\x0a\x01S", b"");
-    d.choice = 0;
+    d.operation = 0;
     print_message(d, b"", b"");
-    d.choice = 4;
+    d.operation = 4;
     print_message(d, b"\x08\x01", b"");
 }
 
@@ -85,9 +85,9 @@ fn print_prepare() {
 fn print_bad() {
     print_message(draft(8, 1, 1), b"", b"");
     let mut d = draft(40, 1, 9);
-    d.choice = 3;
+    d.operation = 3;
     print_message(d, b"", b"");
-    d.choice = 5;
+    d.operation = 5;
     print_message(d, b"", b"");
     print_message(draft(41, 1, 1), b"", b"\x18\x01");
     print_message(

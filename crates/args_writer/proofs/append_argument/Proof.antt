@@ -1,5 +1,5 @@
--- `args_writer::append_argument` meets its contract. Assumes nothing.
-use Rattle.args_writer.proofs.AppendLaws.{part-within, did-six, did-three, did-all}
+-- Each way out is one of appendReason; the form names the part of the source that the field holds.
+use Rattle.args_writer.proofs.AppendLaws.{part-within, did-bad, did-full, did-all}
 use borrow.Author.Tests.{not-true, not-false}
 use mathlib.Core.Path.{refl}
 use native.Mathlib.Omega.{arith}
@@ -11,13 +11,17 @@ returns : tie.Need-returns
 returns c =
     let a = c .before .before .before .before .before .args in
     let f = c .before .before .form-of in
-    did-six (a .a) (a .src .now) (a .buf .now) (a .at) (f .result) (f .ensures) (not-true _ (c .if1 .taken))
+    did-bad (a .a) (a .src .now) (a .buf .now) (a .at) (f .result) (f .ensures) (not-true _ (c .if1 .taken))
 
 add-end : tie.Need-add-end
 add-end c =
     let a = c .before .before .before .before .before .before .args in
     let f = c .before .before .before .form-of in
-    omega (arith, part-within (a .a) (a .src .now) (a .buf .now) (a .at) (f .result) (f .ensures) (not-false _ (c .before .if1 .left)))
+    omega (
+      arith,
+      part-within (a .a) (a .src .now) (a .buf .now) (a .at) (f .result) (f .ensures) (not-false _
+          (c .before .if1 .left)),
+    )
 
 part-bytes-end : tie.Need-part-bytes-end
 part-bytes-end c =
@@ -29,14 +33,16 @@ returns-2 : tie.Need-returns-2
 returns-2 c =
     let a = c .before .before .before .before .before .before .before .before .before .args in
     let f = c .before .before .before .before .before .before .form-of in
-    did-three (a .a) (a .src .now) (a .buf .now) (a .at) (f .result) (f .ensures) (not-false _ (c .before .before .before .before .if1 .left)) _ refl
+    did-full (a .a) (a .src .now) (a .buf .now) (a .at) (f .result) (f .ensures)
+    (not-false _ (c .before .before .before .before .if1 .left)) _ refl
     (c .before .field-len .ensures) (omega arith)
 
 returns-3 : tie.Need-returns-3
 returns-3 c =
     let a = c .before .before .before .before .before .before .before .before .before .before .args in
     let f = c .before .before .before .before .before .before .before .form-of in
-    did-three (a .a) (a .src .now) (a .buf .now) (a .at) (f .result) (f .ensures) (not-false _ (c .before .before .before .before .before .if1 .left)) _ refl
+    did-full (a .a) (a .src .now) (a .buf .now) (a .at) (f .result) (f .ensures)
+    (not-false _ (c .before .before .before .before .before .if1 .left)) _ refl
     (c .before .before .field-len .ensures) (omega arith)
 
 returns-4 : tie.Need-returns-4
@@ -44,7 +50,8 @@ returns-4 c =
     let g = c .before .before in
     let a = g .before .before .before .before .before .before .before .before .before .before .before .before .args in
     let f = g .before .before .before .before .before .before .before .before .before .form-of in
-    did-all (a .a) (a .src .now) (a .buf .now) (a .at) (f .result) (f .ensures) (not-false _ (g .before .before .before .before .before .before .before .if1 .left)) _ refl
+    did-all (a .a) (a .src .now) (a .buf .now) (a .at) (f .result) (f .ensures)
+    (not-false _ (g .before .before .before .before .before .before .before .if1 .left)) _ refl
     (omega (arith, g .before .before .before .before .field-len .ensures)) (g .put-field .ensures)
 
 pub append-argument-spec : {M : Type 1} → statement M

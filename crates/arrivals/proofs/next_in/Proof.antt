@@ -1,10 +1,11 @@
 -- `arrivals::next_in` meets its contract: a reader that is no part of the store waits; else the head of the bytes held
 -- decides. Assumes nothing.
-use Prim.Native.Nat.{ℕ, _≤_}
+use Prim.Native.Nat.{ℕ}
 use native.Mathlib.Omega.{arith}
-use mathlib.Core.Path.{_≡_, sym, ap, _∙_}
+use mathlib.Core.Path.{sym, ap, _∙_}
 use lib.ListN.{length}
 use borrow.Author.Needs.{needs}
+use Rattle.protocol.specs.Reason as Reason
 use Rattle.message.specs.declared.head.Head.{Head}
 use Rattle.streams.specs.Reader.{nextBy}
 use Rattle.streams.specs.declared.Reader.{Reader}
@@ -56,10 +57,11 @@ returns-3 c =
     let k = c .before .before .before in
     let e = k .before .before .before .before in
     let a = e .before .before .before .args in
-    ap (λ (r : Reader). answer 0 (a .reader .start) (k .kind .given .0 .1 .0) r (c .wide .result))
+    ap (λ (r : Reader). answer Reason.accepted (a .reader .start) (k .kind .given .0 .1 .0) r (c .wide .result))
     (c .before .settle .ensures)
     ∙ ap (λ (n : ℕ). nextBy (a .store .now) (a .reader) (Head.Frame n (k .kind .given .0 .1 .0))) (c .wide .ensures)
-    ∙ next-by (a .store .now) (a .reader) (is-part (length (a .store .now)) (a .reader) (e .before .if1 .left) (e .if2 .left))
+    ∙ next-by (a .store .now) (a .reader)
+    (is-part (length (a .store .now)) (a .reader) (e .before .if1 .left) (e .if2 .left))
     (sym (k .kind .given .1) ∙ k .before .before .read-head .ensures)
 
 returns-4 : tie.Need-returns-4
@@ -68,7 +70,8 @@ returns-4 c =
     let e = k .before .before .before .before in
     let a = e .before .before .before .args in
     ap (λ (r : Reader). answer (k .reason .given .0 .0) 0 0 r 0) (c .settle2 .ensures)
-    ∙ next-by (a .store .now) (a .reader) (is-part (length (a .store .now)) (a .reader) (e .before .if1 .left) (e .if2 .left))
+    ∙ next-by (a .store .now) (a .reader)
+    (is-part (length (a .store .now)) (a .reader) (e .before .if1 .left) (e .if2 .left))
     (sym (k .reason .given .1) ∙ k .before .before .read-head .ensures)
 
 pub next-in-spec : {M : Type 1} → statement M

@@ -1,6 +1,7 @@
 -- `arrivals::waiting` meets its contract: of nothing, nothing is handed out. Assumes nothing.
 use mathlib.Core.Path.{ap}
 use borrow.Author.Needs.{needs}
+use Rattle.protocol.specs.Reason as Reason
 use Rattle.streams.specs.Reader.{standsFirst}
 use Rattle.streams.specs.declared.Reader.{Reader}
 use Rattle.streams.specs.declared.NextFrame.{NextFrame}
@@ -8,7 +9,7 @@ use Rattle.arrivals.proofs.waiting.Statement.{statement}
 use Rattle.arrivals.proofs.waiting.Tie as tie
 
 abbrev at : Reader → NextFrame
-at r = record { reader = r; reason = 1; start = 0; len = 0; kind = 0 }
+at r = record { reader = r; reason = Reason.notAllThere; start = 0; len = 0; kind = 0 }
 
 returns : tie.Need-returns
 unfolding standsFirst

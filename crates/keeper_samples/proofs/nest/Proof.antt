@@ -29,8 +29,6 @@ nest-spec =
     (λ c. search needs)
     (λ c. search needs)
     (λ c. search needs)
-    (λ c κs. search needs)
     (λ c. simp length-set (omega arith))
-    (λ c κs. search needs)
     (λ c κs. search needs)
     (λ c. search needs))

@@ -1,4 +1,4 @@
--- `trace::flush` meets its contract. Assumes nothing.
+-- `trace::flush` meets its contract: what is lent is as long as it says. Assumes nothing.
 use mathlib.Core.Path.{sym}
 use lib.Seq.{length-take-le}
 use borrow.Author.Needs.{needs}
@@ -10,4 +10,5 @@ slice-aggregate-write-all c =
     let a = c .before .before .before .args in sym (length-take-le (a .to) (a .out .now) (c .before .if1 .taken))
 
 pub flush-spec : {M : Type 1} → statement M
-flush-spec = tie.close (tie.spec slice-aggregate-write-all (λ c κs. search needs) (λ c. search needs) (λ c. search needs))
+flush-spec =
+    tie.close (tie.spec slice-aggregate-write-all (λ c κs. search needs) (λ c. search needs) (λ c. search needs))

@@ -1,8 +1,7 @@
 -- `trace::keep_rest` meets its contract. The loop's invariant: the buffer keeps its length. Assumes nothing.
 use Prim.Native.Nat.{_-_}
 use borrow.Author.Needs.{needs}
-use native.Mathlib.Omega.{arith}
-use mathlib.Core.Path.{_≡_, refl}
+use mathlib.Core.Path.{_≡_}
 use lib.ListN.{length, length-set}
 use Rattle.trace.proofs.keep_rest.Statement.{statement}
 use Rattle.trace.proofs.keep_rest.Tie as tie

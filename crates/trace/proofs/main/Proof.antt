@@ -4,10 +4,10 @@ use Rattle.trace.proofs.main.Statement.{statement}
 use Rattle.trace.proofs.main.Tie as tie
 
 abbrev Inv-loop : tie.InvT-loop
-Inv-loop input₀ out₀ to p₀ left₀ input out p left = Unit {0}
+Inv-loop input₀ out₀ to words₀ p₀ left₀ input out words p left = Unit {0}
 
 abbrev μ-loop : tie.MeasureT-loop
-μ-loop input₀ out₀ to p₀ left₀ input out p left = left
+μ-loop input₀ out₀ to words₀ p₀ left₀ input out words p left = left
 
 pub main-spec : {M : Type 1} → statement M
 main-spec =

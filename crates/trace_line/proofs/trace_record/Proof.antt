@@ -1,6 +1,8 @@
--- `trace_line::trace_record` meets its contract. Assumes nothing.
+-- `trace_line::trace_record` meets its contract: a whole record's frame lies within the bytes, and else nothing is
+-- done. Assumes nothing.
 use borrow.Author.Needs.{needs}
 use native.Mathlib.Omega.{arith}
+use Rattle.session.specs.Words.{sessionOf}
 use Rattle.trace_line.proofs.TraceLaws.{gives, gives-as, traced, whole-traced, whole-within}
 use Rattle.trace_line.proofs.trace_record.Statement.{statement}
 use Rattle.trace_line.proofs.trace_record.Tie as tie
@@ -13,30 +15,37 @@ add-end c =
 
 part-trace-frame-end : tie.Need-part-trace-frame-end
 part-trace-frame-end c =
-    let r = c .before .before .before in
+    let k = c .before in
+    let r = k .before .before .before in
     let a = r .before .before .before .args in
-    omega (arith, whole-within (a .s .now) (a .at) (c .before .start .given .1) (r .read-record .ensures))
+    omega (arith, whole-within (a .s .now) (a .at) (k .before .start .given .1) (r .read-record .ensures))
 
 returns : tie.Need-returns
 returns c =
     let f = c .before .before in
-    let k = f .before .before .before in
+    let k = f .before .before .before .before in
     let r = k .before .before .before in
     let a = r .before .before .before .args in
-    gives-as (whole-traced (a .session) (a .n) (a .s .now) (a .at) (a .out .now) (a .to) (k .before .start .given .1) (r .read-record .ensures))
+    gives-as
+    (whole-traced (sessionOf (a .words .now)) (a .n) (a .s .now) (a .at) (a .out .now) (a .to)
+    (k .before .start .given .1) (r .read-record .ensures))
     (f .trace-frame .ensures)
 
 returns-2 : tie.Need-returns-2
 returns-2 c =
     let r = c .before .before in
     let a = r .before .before .before .args in
-    gives (traced (a .session) (a .n) (a .s .now) (a .at) (a .out .now) (a .to) (c .enum-told .given .1) (r .read-record .ensures))
+    gives
+    (traced (sessionOf (a .words .now)) (a .n) (a .s .now) (a .at) (a .out .now) (a .to) (c .enum-told .given .1)
+    (r .read-record .ensures))
 
 returns-3 : tie.Need-returns-3
 returns-3 c =
     let r = c .before .before in
     let a = r .before .before .before .args in
-    gives (traced (a .session) (a .n) (a .s .now) (a .at) (a .out .now) (a .to) (c .enum-told2 .given .1) (r .read-record .ensures))
+    gives
+    (traced (sessionOf (a .words .now)) (a .n) (a .s .now) (a .at) (a .out .now) (a .to) (c .enum-told2 .given .1)
+    (r .read-record .ensures))
 
 pub trace-record-spec : {M : Type 1} → statement M
 trace-record-spec =

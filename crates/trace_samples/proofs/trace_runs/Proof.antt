@@ -1,4 +1,4 @@
--- `trace_samples::trace_runs` meets its contract. Assumes nothing.
+-- `trace_samples::trace_runs` meets its contract: each run ends behind its start. Assumes nothing.
 use Prim.Native.Nat.{_-_}
 use lib.ListN.{length}
 use borrow.Author.Needs.{needs}

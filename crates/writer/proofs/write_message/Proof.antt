@@ -1,7 +1,7 @@
--- `writer::write_message` meets its contract. Assumes nothing.
+-- Each way out is one of draftReason or writeReason; what is put is the head, and behind it the payload.
 use Rattle.reply.specs.Frame.{fourBytes}
 use Rattle.reply.proofs.PutsLaws.{puts-as}
-use Rattle.writer.proofs.WriteLaws.{wrote-six, wrote-two, wrote-three, wrote-all}
+use Rattle.writer.proofs.WriteLaws.{wrote-bad, wrote-long, wrote-short, wrote-all}
 use borrow.Author.Tests.{not-true, not-false}
 use mathlib.Core.List.{[], _∷_, _++_}
 use Prim.Native.Nat.{ℕ, _+_, _%_}
@@ -14,28 +14,32 @@ use Rattle.writer.proofs.write_message.Tie as tie
 returns : tie.Need-returns
 returns c =
     let a = c .before .before .before .before .before .args in
-    wrote-six (a .draft) (a .body .now) (a .args .now) (a .buf .now) (sym (c .before .is-accepted .ensures) ∙ not-true _ (c .if1 .taken))
+    wrote-bad (a .draft) (a .body .now) (a .args .now) (a .buf .now)
+    (sym (c .before .is-accepted .ensures) ∙ not-true _ (c .if1 .taken))
 
 returns-2 : tie.Need-returns-2
 returns-2 c =
     let a = c .before .before .before .before .before .before .before .args in
-    wrote-two (a .draft) (a .body .now) (a .args .now) (a .buf .now) (sym (c .before .before .before .is-accepted .ensures) ∙ not-false _
+    wrote-long (a .draft) (a .body .now) (a .args .now) (a .buf .now)
+    (sym (c .before .before .before .is-accepted .ensures) ∙ not-false _
     (c .before .before .if1 .left)) (omega (arith, c .before .payload-len .ensures))
 
 returns-3 : tie.Need-returns-3
 returns-3 c =
     let a = c .before .before .before .before .before .before .before .before .args in
-    wrote-three (a .draft) (a .body .now) (a .args .now) (a .buf .now) (sym (c .before .before .before .before .is-accepted .ensures) ∙ not-false _
+    wrote-short (a .draft) (a .body .now) (a .args .now) (a .buf .now)
+    (sym (c .before .before .before .before .is-accepted .ensures) ∙ not-false _
     (c .before .before .before .if1 .left))
     (omega (arith, c .before .before .payload-len .ensures)) (omega (arith, c .before .before .payload-len .ensures))
 
 returns-4 : tie.Need-returns-4
 returns-4 c =
-    let a = c .before .before .before .before .before .before .before .before .before .before .before .before .before .before .before .before .args in
-    let n = c .before .before .before .before .before .before .before .before .before .before .payload-len in
+    let far = c .before .before .before .before .before .before .before .before in
+    let a = far .before .before .before .before .before .before .before .before .args in
+    let n = far .before .before .payload-len in
     wrote-all (a .draft) (a .body .now) (a .args .now) (a .buf .now) (sym
-    (c .before .before .before .before .before .before .before .before .before .before .before .before .is-accepted .ensures) ∙ not-false _
-    (c .before .before .before .before .before .before .before .before .before .before .before .if1 .left))
+    (far .before .before .before .before .is-accepted .ensures) ∙ not-false _
+    (far .before .before .before .if1 .left))
     (omega (arith, n .ensures)) (omega (arith, n .ensures))
     (puts-as (ap (λ (m : ℕ). fourBytes (m + 1) ++ (a .draft .kind % 256 ∷ [])) (n .ensures))
     (c .before .before .before .before .before .before .put-head .ensures))

@@ -2,7 +2,6 @@
 -- move. Assumes nothing.
 use Prim.Native.Nat.{_-_}
 use borrow.Author.Needs.{needs}
-use native.Mathlib.Omega.{arith}
 use Rattle.arrivals.proofs.RoomLaws.{Moving, move-starts, moves-on, move-ends}
 use Rattle.arrivals.proofs.room.move_front.Statement.{statement}
 use Rattle.arrivals.proofs.room.move_front.Tie as tie

@@ -1,26 +1,35 @@
-use Rattle.keeper.proofs.ReasonLaws.{limits-columns, limits-rows, limits-some, limits-none}
+-- Each test is one part of `isResult`. Assumes nothing.
+use Rattle.keeper.proofs.ReasonLaws.{result-not, result-wide, result-long, result-some, result-none}
 use Rattle.keeper.proofs.refusal.is_result.Statement.{statement}
 use Rattle.keeper.proofs.refusal.is_result.Tie as tie
 
 returns : tie.Need-returns
-returns c = let a = c .before .args in limits-columns (a .columns) (a .rows) (c .if1 .taken)
+returns c = result-not (c .before .before .args .r) (c .if1 .taken)
 
 returns-2 : tie.Need-returns-2
-returns-2 c = let a = c .before .before .args in limits-rows (a .columns) (a .rows) (c .before .if1 .left) (c .if2 .taken)
+returns-2 c =
+    let l = c .before .before in
+    result-wide (l .before .before .args .r) (l .if1 .left) (c .if2 .taken)
 
 returns-3 : tie.Need-returns-3
 returns-3 c =
-    let a = c .before .before .before .args in
-    limits-some (a .columns) (a .rows) (c .before .before .if1 .left) (c .before .if2 .left) (c .if3 .taken)
+    let k = c .before .before in
+    let l = k .before .before in
+    result-long (l .before .before .args .r) (l .if1 .left) (k .if2 .left) (c .if3 .taken)
 
 returns-4 : tie.Need-returns-4
-returns-4 c = let a = c .before .before .before .args in limits-none (a .columns) (a .rows) (c .before .if2 .left) (c .if3 .left)
+returns-4 c =
+    let j = c .before .before in
+    let k = j .before .before in
+    let l = k .before .before in
+    result-some (l .before .before .args .r) (l .if1 .left) (k .if2 .left) (j .if3 .left) (c .if4 .taken)
+
+returns-5 : tie.Need-returns-5
+returns-5 c =
+    let i = c .before in
+    let j = i .before .before in
+    let l = j .before .before .before .before in
+    result-none (l .before .before .args .r) (l .if1 .left) (j .if3 .left) (i .if4 .left)
 
 pub is-result-spec : {M : Type 1} → statement M
-is-result-spec =
-    tie.close
-    (tie.spec
-    returns
-    returns-2
-    returns-3
-    returns-4)
+is-result-spec = tie.close (tie.spec returns returns-2 returns-3 returns-4 returns-5)

@@ -1,14 +1,21 @@
-use Rattle.keeper.proofs.RowsLaws.{fetch-rows}
+-- An absent fetch_rows means all that remain. Assumes nothing.
+use Rattle.keeper.proofs.RowsLaws.{fetch-some, fetch-rest}
 use borrow.Author.Needs.{needs}
 use Rattle.keeper.proofs.rows.fetch_count.Statement.{statement}
 use Rattle.keeper.proofs.rows.fetch_count.Tie as tie
 
 returns : tie.Need-returns
 returns c =
-    let a = c .before .before .before .args in
-    let l = c .before .before .remaining in
-    let q = c .before .rows-asked in
-    fetch-rows (a .cursor) (a .m) (l .result) (q .result) (c .least .result) (l .ensures .0) (l .ensures .1) (q .ensures) (c .least .ensures)
+    let l = c .before .before in
+    let a = l .before .args in
+    fetch-some (a .cursor) (a .rows) (l .remaining .result) (l .remaining .ensures .0)
+    (c .least .result) (c .before .if1 .taken) (c .least .ensures)
+
+returns-2 : tie.Need-returns-2
+returns-2 c =
+    let l = c .before in
+    let a = l .before .args in
+    fetch-rest (a .cursor) (a .rows) (l .remaining .result) (l .remaining .ensures .0) (c .if1 .left)
 
 pub fetch-count-spec : {M : Type 1} → statement M
 fetch-count-spec =
@@ -16,5 +23,5 @@ fetch-count-spec =
     (tie.spec
     (λ c κs. search needs)
     (λ c κs. search needs)
-    (λ c κs. search needs)
-    returns)
+    returns
+    returns-2)

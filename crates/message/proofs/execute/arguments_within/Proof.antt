@@ -1,11 +1,11 @@
--- `message::execute::arguments_within` meets its contract. Assumes nothing.
-use mathlib.Core.Path.{sym, _∙_}
-use Rattle.message.proofs.MessageLaws.{within-past, within-there}
-use native.Mathlib.Omega.{arith}
+-- Past the end of s they are bad; where there are none, as the caller says, nothing is read.
 use Prim.Native.Nat.{_+_}
+use native.Mathlib.Omega.{arith}
+use mathlib.Core.Path.{sym, _∙_}
 use lib.Seq.{length-take-le}
-use borrow.Author.Needs.{needs}
 use borrow.Author.Tests.{not-true}
+use Rattle.message.proofs.MessageLaws.{within-past, within-there}
+use borrow.Author.Needs.{needs}
 use Rattle.message.proofs.execute.arguments_within.Statement.{statement}
 use Rattle.message.proofs.execute.arguments_within.Tie as tie
 
@@ -20,7 +20,8 @@ returns-2 c =
     c .bad2 .ensures ∙ within-past (a .s .now) (a .at) (a .n) (omega arith)
 
 returns-3 : tie.Need-returns-3
-returns-3 c = c .none .ensures ∙ sym (c .before .before .before .before .before .pre (not-true _ (c .before .if3 .taken)))
+returns-3 c =
+    c .none .ensures ∙ sym (c .before .before .before .before .before .pre (not-true _ (c .before .if3 .taken)))
 
 slice-aggregate-read-arguments : tie.Need-slice-aggregate-read-arguments
 slice-aggregate-read-arguments c =

@@ -1,12 +1,11 @@
--- `message::execute::read_open` meets its contract. Assumes nothing.
+-- The arrays hold the message's fields; the statement stands in field 4.
 use mathlib.Core.Path.{ap, _∙_}
+use lib.ListN.{getD}
 use borrow.Author.Tests.{not-true, not-false}
 use Rattle.layout.proofs.ArrayLaws.{holds-lent}
-use Rattle.message.specs.Message.{payload}
-use Rattle.message.specs.Message.{optionalBy}
-use Rattle.message.specs.Inside.{openInside}
-use lib.ListN.{getD}
-use Rattle.message.specs.declared.message.Optional.{Optional}
+use Rattle.message.specs.Payload.{payload}
+use Rattle.message.specs.Execute.{openInside}
+use Rattle.message.specs.declared.request.Optional.{Optional}
 use Rattle.message.proofs.ArrayLaws.{open-refused, open-whole}
 use borrow.Author.Needs.{needs}
 use Rattle.message.proofs.execute.read_open.Statement.{statement}
@@ -14,11 +13,10 @@ use Rattle.message.proofs.execute.read_open.Tie as tie
 
 returns : tie.Need-returns
 returns c =
-    let f = c .before .before in
+    let f = c .before in
     let r = f .before .before .before .before .before in
     let s = r .before .before .args .s .now in
-    c .refused .ensures
-    ∙ open-refused s (holds-lent (r .open-rows .ensures) s payload (f .fill-fields .ensures)) (not-true _ (c .before .if1 .taken))
+    open-refused s (holds-lent (r .open-rows .ensures) s payload (f .fill-fields .ensures)) (not-true _ (c .if1 .taken))
 
 returns-2 : tie.Need-returns-2
 returns-2 c =
@@ -27,8 +25,10 @@ returns-2 c =
     let s = r .before .before .args .s .now in
     let l = f .fill-fields .last .1 .1 .1 .1 in
     c .open-inside .ensures
-    ∙ ap (λ (o : Optional). openInside s (getD (l .1 .0) 1 0) o (getD (l .1 .1 .0) 4 0) (getD (l .1 .0) 4 0)) (c .before .read-optional .ensures)
-    ∙ open-whole s (holds-lent (r .open-rows .ensures) s payload (f .fill-fields .ensures)) (not-false _ (c .before .before .if1 .left))
+    ∙ ap (λ (o : Optional). openInside s (getD (l .1 .0) 1 0) o (getD (l .1 .1 .0) 4 0) (getD (l .1 .0) 4 0))
+    (c .before .read-optional .ensures)
+    ∙ open-whole s (holds-lent (r .open-rows .ensures) s payload (f .fill-fields .ensures))
+    (not-false _ (c .before .before .if1 .left))
 
 pub read-open-spec : {M : Type 1} → statement M
 read-open-spec =
@@ -36,7 +36,6 @@ read-open-spec =
     (tie.spec
     (λ c κs. search needs)
     (λ c. search needs)
-    (λ c κs. search needs)
     (λ c κs. search needs)
     returns
     (λ c. search needs)

@@ -1,39 +1,67 @@
--- `message::frame::argument` meets its contract. Assumes nothing.
+-- Each arm is one clause of argumentIn, and the arguments lie within the frame.
+use native.Mathlib.Omega.{arith}
 use mathlib.Core.Path.{sym, ap, _∙_}
 use lib.Seq.{length-take-le}
-use Rattle.message.specs.Frame.{argumentIn}
-use Rattle.message.proofs.MessageLaws.{argument-refused, argument-asked}
+use Rattle.args.specs.declared.arguments.Arguments.{Arguments}
+use Rattle.message.specs.Frame.{argumentAt, argumentIn}
 use Rattle.message.proofs.WithinLaws.{read-within}
 use borrow.Author.Needs.{needs}
 use Rattle.message.proofs.frame.argument.Statement.{statement}
 use Rattle.message.proofs.frame.argument.Tie as tie
 
-returns : tie.Need-returns
-returns c =
-    let a = c .before .before .before .args in
-    let m = c .before .read-message in
-    argument-refused (a .s .now) (a .index) (m .result) (c .if1 .taken) ∙ ap (argumentIn (a .s .now) (a .index)) (m .ensures)
-
 slice-aggregate-nth-argument : tie.Need-slice-aggregate-nth-argument
 slice-aggregate-nth-argument c =
-    let s = c .before .before .before .before .before .args .s .now in
-    let m = c .before .before .before .read-message in
-    sym (length-take-le (m .result .args .end) s (read-within s (m .result) (m .ensures) .args))
+    let r = c .before in
+    let s = r .before .before .before .before .before .before .args .s .now in
+    let a = r .args-of in
+    let w = read-within s _
+    (sym (r .before .before .request .given .1) ∙ r .before .before .before .before .read-frame .ensures) in
+    sym (length-take-le (a .result .end) s (omega (arith, ap (λ (y : Arguments). y .end) (a .ensures), w .args)))
+
+returns : tie.Need-returns
+returns c =
+    let a = c .before .before .before .before .args in
+    ap (argumentIn (a .s .now) (a .index)) (sym (c .enum-told .given .1) ∙ c .before .before .read-frame .ensures)
 
 returns-2 : tie.Need-returns-2
 returns-2 c =
-    let a = c .before .before .before .before .before .before .args in
-    let m = c .before .before .before .before .read-message in
+    let a = c .before .before .before .before .args in
+    ap (argumentIn (a .s .now) (a .index)) (sym (c .enum-told2 .given .1) ∙ c .before .before .read-frame .ensures)
+
+returns-3 : tie.Need-returns-3
+returns-3 c =
+    let a = c .before .before .before .before .args in
+    ap (argumentIn (a .s .now) (a .index)) (sym (c .enum-told3 .given .1) ∙ c .before .before .read-frame .ensures)
+
+returns-4 : tie.Need-returns-4
+returns-4 c =
+    let a = c .before .before .before .before .args in
+    ap (argumentIn (a .s .now) (a .index)) (sym (c .enum-told4 .given .1) ∙ c .before .before .read-frame .ensures)
+
+returns-5 : tie.Need-returns-5
+returns-5 c =
+    let a = c .before .before .before .before .before .before .before .before .args in
     c .nth-argument .ensures
-    ∙ argument-asked (a .s .now) (a .index) (m .result) (c .before .before .before .if1 .left)
-    ∙ ap (argumentIn (a .s .now) (a .index)) (m .ensures)
+    ∙ ap (argumentAt (a .s .now) (a .index)) (c .before .before .args-of .ensures)
+    ∙ ap (argumentIn (a .s .now) (a .index))
+    (sym (c .before .before .before .before .request .given .1)
+    ∙ c .before .before .before .before .before .before .read-frame .ensures)
 
 pub argument-spec : {M : Type 1} → statement M
 argument-spec =
     tie.close
     (tie.spec
     (λ c κs. search needs)
-    returns
+    (λ c. search needs)
+    (λ c. search needs)
+    (λ c. search needs)
+    (λ c. search needs)
+    (λ c. search needs)
+    (λ c κs. search needs)
     slice-aggregate-nth-argument
     (λ c κs. search needs)
-    returns-2)
+    returns
+    returns-2
+    returns-3
+    returns-4
+    returns-5)

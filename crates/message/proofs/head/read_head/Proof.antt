@@ -1,4 +1,4 @@
--- `message::head::read_head` meets its contract. Assumes nothing.
+-- Each test of the code is one of headOf's, in its order.
 use mathlib.Core.Path.{sym, _∙_}
 use Rattle.message.proofs.HeadLaws.{head-short, head-empty, head-large, head-cut, head-whole}
 use borrow.Author.Needs.{needs}
@@ -11,18 +11,30 @@ returns c =
     (sym (c .enum-told .given .1) ∙ c .before .before .read-fixed32 .ensures)
 
 returns-2 : tie.Need-returns-2
-returns-2 c = head-empty (c .before .before .before .before .before .before .args .s .now) (sym (c .before .before .value .given .1) ∙ c .before .before .before .before .read-fixed32 .ensures) (c .if1 .taken)
+returns-2 c =
+    head-empty (c .before .before .before .before .before .before .args .s .now)
+    (sym (c .before .before .value .given .1) ∙ c .before .before .before .before .read-fixed32 .ensures)
+    (c .if1 .taken)
 
 returns-3 : tie.Need-returns-3
-returns-3 c = head-large (c .before .before .before .before .before .before .before .args .s .now) (sym (c .before .before .before .value .given .1) ∙ c .before .before .before .before .before .read-fixed32 .ensures) (c .before .if1 .left) (c .if2 .taken)
+returns-3 c =
+    head-large (c .before .before .before .before .before .before .before .args .s .now)
+    (sym (c .before .before .before .value .given .1)
+    ∙ c .before .before .before .before .before .read-fixed32 .ensures) (c .before .if1 .left) (c .if2 .taken)
 
 returns-4 : tie.Need-returns-4
 returns-4 c =
-    head-cut (c .before .before .before .before .before .before .before .before .args .s .now) (sym (c .before .before .before .before .value .given .1) ∙ c .before .before .before .before .before .before .read-fixed32 .ensures) (c .before .before .if1 .left) (c .before .if2 .left) (c .if3 .taken)
+    let f = c .before .before .before .before in
+    head-cut (f .before .before .before .before .args .s .now)
+    (sym (f .value .given .1) ∙ f .before .before .read-fixed32 .ensures) (c .before .before .if1 .left)
+    (c .before .if2 .left) (c .if3 .taken)
 
 returns-5 : tie.Need-returns-5
 returns-5 c =
-    head-whole (c .before .before .before .before .before .before .before .before .before .args .s .now) (sym (c .before .before .before .before .before .value .given .1) ∙ c .before .before .before .before .before .before .before .read-fixed32 .ensures) (c .before .before .before .if1 .left) (c .before .before .if2 .left) (c .before .if3 .left)
+    let f = c .before .before .before .before .before in
+    head-whole (f .before .before .before .before .args .s .now)
+    (sym (f .value .given .1) ∙ f .before .before .read-fixed32 .ensures) (c .before .before .before .if1 .left)
+    (c .before .before .if2 .left) (c .before .if3 .left)
 
 pub read-head-spec : {M : Type 1} → statement M
 read-head-spec =

@@ -1,20 +1,27 @@
--- `message::prepare::prepare_from` meets its contract. Assumes nothing.
-use mathlib.Core.Path.{_∙_}
+-- Its body's arguments tell whether a Prepare is good.
 use borrow.Author.Tests.{not-true, not-false}
-use Rattle.message.proofs.MessageLaws.{prepare-body-bad, prepare-body}
+use Rattle.protocol.specs.Client as Client
+use Rattle.args.specs.Part.{low32}
+use Rattle.message.specs.declared.request.Request.{Request}
+use Rattle.message.proofs.MessageLaws.{payload-bad, payload-good}
 use borrow.Author.Needs.{needs}
 use Rattle.message.proofs.prepare.prepare_from.Statement.{statement}
 use Rattle.message.proofs.prepare.prepare_from.Tie as tie
 
 returns : tie.Need-returns
 returns c =
-    let a = c .before .before .before .before .args in
-    c .refused .ensures ∙ prepare-body-bad (a .s .now) (a .id) (a .t) (a .body) (a .b) (not-true _ (c .before .if1 .taken))
+    let a = c .before .before .before .args in
+    payload-bad (a .s .now) Client.prepare
+    (Request.Prepare (record { stmt = low32 (a .id); operation = a .operation; body = a .body; args = a .args }))
+    {good = a .args .good} (not-true _ (c .if1 .taken))
 
 returns-2 : tie.Need-returns-2
 returns-2 c =
     let a = c .before .before .before .before .args in
-    rw (c .blank .ensures) (prepare-body (a .s .now) (a .id) (a .t) (a .body) (a .b) (not-false _ (c .before .if1 .left)))
+    rw (c .low .ensures)
+    (payload-good (a .s .now) Client.prepare
+    (Request.Prepare (record { stmt = low32 (a .id); operation = a .operation; body = a .body; args = a .args }))
+    {good = a .args .good} (not-false _ (c .before .if1 .left)))
 
 pub prepare-from-spec : {M : Type 1} → statement M
-prepare-from-spec = tie.close (tie.spec (λ c κs. search needs) returns (λ c κs. search needs) returns-2)
+prepare-from-spec = tie.close (tie.spec returns (λ c κs. search needs) returns-2)

@@ -1,4 +1,4 @@
--- `message::prepare::quick_inside` meets its contract. Assumes nothing.
+-- Two short fields are read by their bytes alone, to the slots that the rows give; anything else goes the long way.
 use Prim.Native.Nat.{ℕ}
 use native.Mathlib.Omega.{arith}
 use mathlib.Core.Path.{refl, sym, ap, _∙_}
@@ -9,34 +9,42 @@ use Rattle.layout.specs.Table.{rowsOf, prepareStmt}
 use Rattle.layout.specs.Row.{rowFor}
 use Rattle.layout.specs.Fields.{hasRequired}
 use Rattle.args.proofs.PairLaws.{named-short, pair-bytes}
-use Rattle.message.specs.Prepare.{prepareFrom}
-use Rattle.message.specs.Inside.{prepareRead, prepareInside}
+use Rattle.message.specs.Operation as Operation
+use Rattle.message.specs.Prepare.{prepareFrom, prepareRead, prepareInside}
 use borrow.Author.Needs.{needs}
 use Rattle.message.proofs.prepare.quick_inside.Statement.{statement}
 use Rattle.message.proofs.prepare.quick_inside.Tie as tie
 
 mul-if1 : tie.Need-mul-if1
 mul-if1 c =
-    let a = c .before .before .before .before .before .args in
-    omega (arith, named-short (a .s .now) (a .at) (a .n) (c .before .first .given .1) (c .before .before .before .read-pair .ensures))
+    let r = c .before .before .before in
+    let a = r .before .before .args in
+    omega (arith, named-short (a .s .now) (a .at) (a .n) (c .before .first .given .1) (r .read-pair .ensures))
 
 add-if1 : tie.Need-add-if1
 add-if1 c =
-    let a = c .before .before .before .before .before .args in
-    omega (arith, named-short (a .s .now) (a .at) (a .n) (c .before .first .given .1) (c .before .before .before .read-pair .ensures))
+    let r = c .before .before .before in
+    let a = r .before .before .args in
+    omega (arith, named-short (a .s .now) (a .at) (a .n) (c .before .first .given .1) (r .read-pair .ensures))
 
 returns : tie.Need-returns
 unfolding rowsOf rowFor hasRequired
 returns c =
     let a = c .before .before .before .before .before .before .before .before .args in
     let f = c .before .before .before .before .first .given in
+    let v = f .0 .1 .1 in
     c .prepare-from .ensures
-    ∙ ap (prepareFrom (a .s .now) (a .id) 5 (record { start = f .0 .1 .1 .1 .0; len = f .0 .1 .1 .0 })) (c .before .read-body .ensures)
+    ∙ ap (prepareFrom (a .s .now) (a .id) Operation.stmtExecute (record { start = v .1 .0; len = v .0 }))
+    (c .before .read-body .ensures)
     ∙ ap (prepareRead (a .s .now) (a .id))
-    (pair-bytes (a .s .now) (a .at) (a .n) (f .1) (c .before .before .before .before .before .before .read-pair .ensures) (rowsOf prepareStmt) 5 50 (c .before .before .if1 .taken) (omega arith) refl refl refl)
+    (pair-bytes (a .s .now) (a .at) (a .n) (f .1)
+    (c .before .before .before .before .before .before .read-pair .ensures) (rowsOf prepareStmt) 5 50
+    (c .before .before .if1 .taken) (omega arith) refl refl
+    refl)
 
 slice-aggregate-prepare-inside : tie.Need-slice-aggregate-prepare-inside
-slice-aggregate-prepare-inside c = let a = c .before .before .before .before .args in sym (ap length (take-length (a .s .now)))
+slice-aggregate-prepare-inside c =
+    let a = c .before .before .before .before .args in sym (ap length (take-length (a .s .now)))
 
 returns-2 : tie.Need-returns-2
 returns-2 c =

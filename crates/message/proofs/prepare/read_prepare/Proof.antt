@@ -1,8 +1,8 @@
--- `message::prepare::read_prepare` meets its contract. Assumes nothing.
-use mathlib.Core.Path.{ap, _∙_}
+-- The arrays hold the message's fields; the statement stands in field 2.
+use mathlib.Core.Path.{_∙_}
 use borrow.Author.Tests.{not-true, not-false}
 use Rattle.layout.proofs.ArrayLaws.{holds-lent}
-use Rattle.message.specs.Message.{payload}
+use Rattle.message.specs.Payload.{payload}
 use Rattle.message.proofs.ArrayLaws.{prepare-refused, prepare-whole}
 use borrow.Author.Needs.{needs}
 use Rattle.message.proofs.prepare.read_prepare.Statement.{statement}
@@ -10,11 +10,11 @@ use Rattle.message.proofs.prepare.read_prepare.Tie as tie
 
 returns : tie.Need-returns
 returns c =
-    let f = c .before .before in
+    let f = c .before in
     let r = f .before .before .before .before .before in
     let s = r .before .before .args .s .now in
-    c .refused .ensures
-    ∙ prepare-refused s (holds-lent (r .prepare-rows .ensures) s payload (f .fill-fields .ensures)) (not-true _ (c .before .if1 .taken))
+    prepare-refused s (holds-lent (r .prepare-rows .ensures) s payload (f .fill-fields .ensures))
+    (not-true _ (c .if1 .taken))
 
 returns-2 : tie.Need-returns-2
 returns-2 c =
@@ -22,7 +22,8 @@ returns-2 c =
     let r = f .before .before .before .before .before in
     let s = r .before .before .args .s .now in
     c .quick-inside .ensures
-    ∙ prepare-whole s (holds-lent (r .prepare-rows .ensures) s payload (f .fill-fields .ensures)) (not-false _ (c .before .if1 .left))
+    ∙ prepare-whole s (holds-lent (r .prepare-rows .ensures) s payload (f .fill-fields .ensures))
+    (not-false _ (c .before .if1 .left))
 
 pub read-prepare-spec : {M : Type 1} → statement M
 read-prepare-spec =
@@ -30,7 +31,6 @@ read-prepare-spec =
     (tie.spec
     (λ c κs. search needs)
     (λ c. search needs)
-    (λ c κs. search needs)
     (λ c κs. search needs)
     returns
     (λ c. search needs)

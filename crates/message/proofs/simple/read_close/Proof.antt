@@ -1,12 +1,33 @@
--- `message::simple::read_close` meets its contract. Assumes nothing.
-use Rattle.message.specs.Simple.{closeMessage}
+-- The arrays hold the message's fields.
+use borrow.Author.Tests.{not-true, not-false}
+use Rattle.protocol.specs.Client as Client
+use Rattle.layout.proofs.ArrayLaws.{holds-lent}
+use Rattle.message.specs.Payload.{payload}
+use Rattle.message.specs.Simple.{closeFrame}
+use Rattle.message.specs.declared.request.Request.{Request}
+use Rattle.message.proofs.ArrayLaws.{named-spoiled, named-held}
 use borrow.Author.Needs.{needs}
 use Rattle.message.proofs.simple.read_close.Statement.{statement}
 use Rattle.message.proofs.simple.read_close.Tie as tie
 
 returns : tie.Need-returns
-unfolding closeMessage
-returns c = rw (c .before .before .close-rows .ensures) at (c .cursor-message .ensures)
+unfolding closeFrame
+returns c =
+    let f = c .before in
+    let r = f .before .before .before .before .before in
+    let s = r .before .before .args .s .now in
+    named-spoiled s Client.close Request.Close (holds-lent (r .close-rows .ensures) s payload (f .fill-fields .ensures))
+    (not-true _ (c .if1 .taken))
+
+returns-2 : tie.Need-returns-2
+unfolding closeFrame
+returns-2 c =
+    let f = c .before .before in
+    let r = f .before .before .before .before .before in
+    let s = r .before .before .args .s .now in
+    rw (c .low .ensures)
+    (named-held s Client.close Request.Close (holds-lent (r .close-rows .ensures) s payload (f .fill-fields .ensures))
+    (not-false _ (c .before .if1 .left)))
 
 pub read-close-spec : {M : Type 1} → statement M
 read-close-spec =
@@ -15,4 +36,7 @@ read-close-spec =
     (λ c κs. search needs)
     (λ c. search needs)
     (λ c κs. search needs)
-    returns)
+    returns
+    (λ c. search needs)
+    (λ c κs. search needs)
+    returns-2)

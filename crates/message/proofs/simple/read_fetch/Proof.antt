@@ -1,12 +1,27 @@
--- `message::simple::read_fetch` meets its contract. Assumes nothing.
-use Rattle.message.specs.Simple.{fetchMessage}
+-- Two short fields are read by their bytes alone, to the slots that the rows give; anything else goes the long way.
+use mathlib.Core.Path.{sym, ap, _∙_}
+use lib.ListN.{length}
+use lib.Seq.{take-length}
+use Rattle.message.specs.Simple.{fetchFrame}
+use Rattle.message.proofs.PairedLaws.{fetch-paired}
 use borrow.Author.Needs.{needs}
 use Rattle.message.proofs.simple.read_fetch.Statement.{statement}
 use Rattle.message.proofs.simple.read_fetch.Tie as tie
 
 returns : tie.Need-returns
-unfolding fetchMessage
-returns c = rw (c .before .before .fetch-rows .ensures) at (c .cursor-message .ensures)
+returns c =
+    let p = c .before .before .before .before .before .before in
+    fetch-paired (p .before .before .before .args .s .now) (c .before .before .before .before .first .given .1)
+    (p .before .if1 .taken) (p .read-pair .ensures) (c .before .before .if2 .taken) (c .low .result) (c .low .ensures)
+    (c .before .read-optional .result) (c .before .read-optional .ensures)
+
+slice-aggregate-long-fetch : tie.Need-slice-aggregate-long-fetch
+slice-aggregate-long-fetch c =
+    let s = c .before .before .before .args .s .now in sym (ap length (take-length s))
+
+returns-2 : tie.Need-returns-2
+returns-2 c =
+    let s = c .before .before .before .before .args .s .now in c .long-fetch .ensures ∙ ap fetchFrame (take-length s)
 
 pub read-fetch-spec : {M : Type 1} → statement M
 read-fetch-spec =
@@ -15,4 +30,9 @@ read-fetch-spec =
     (λ c κs. search needs)
     (λ c. search needs)
     (λ c κs. search needs)
-    returns)
+    (λ c κs. search needs)
+    returns
+    (λ c. search needs)
+    slice-aggregate-long-fetch
+    (λ c κs. search needs)
+    returns-2)

@@ -1,29 +1,17 @@
--- `session::Session::open` meets its contract. Assumes nothing.
+-- The place is the one that the search finds. Assumes nothing.
+use mathlib.Core.Path.{ap, _∙_}
 use borrow.Author.Needs.{needs}
-use Rattle.session.proofs.LoopLaws.{length-mapped}
-use Rattle.session.proofs.StepLaws.{opens, opens-past}
+use Rattle.session.specs.Tables.{openedAt}
+use Rattle.session.specs.Words.{sessionOf}
 use Rattle.session.proofs.Session.open.Statement.{statement}
 use Rattle.session.proofs.Session.open.Tie as tie
 
 returns : tie.Need-returns
-returns c = let a = c .before .before .before .before .args in opens (a .t1) (a .id) (a .stmt) (a .rows) (a .sent) (a .place) _ (c .before .before .place .given .1)
-
-returns-2 : tie.Need-returns-2
-returns-2 c =
-    let a = c .before .before .before .before .args in
-    opens-past (a .t1) (a .id) (a .stmt) (a .rows) (a .sent) (a .place) _ (c .before .before .place .given .1) (search length-mapped) (c .if1 .left)
-
-returns-3 : tie.Need-returns-3
-returns-3 c = let a = c .before .before .args in opens (a .t1) (a .id) (a .stmt) (a .rows) (a .sent) (a .place) _ (c .enum-told .given .1)
+returns c =
+    let f = c .before .before in
+    let a = f .before .before .before .args in
+    c .open .ensures
+    ∙ ap (λ p. openedAt (sessionOf (a .t1 .words)) p (a .id) (a .stmt) (a .rows) (a .sent)) (f .cursor-place .ensures)
 
 pub open-spec : {M : Type 1} → statement M
-open-spec =
-    tie.close
-    (tie.spec
-    (λ c. search needs)
-    (λ c. search needs)
-    (λ c. search needs)
-    (λ c. search needs)
-    returns
-    returns-2
-    returns-3)
+open-spec = tie.close (tie.spec (λ c κs. search needs) (λ c κs. search needs) returns)

@@ -1,4 +1,4 @@
--- `trace_line::line::letter_of` meets its contract. Assumes nothing.
+-- `trace_line::line::letter_of` meets its contract: each arm computes. Assumes nothing.
 use mathlib.Core.Path.{sym, ap}
 use Rattle.trace_line.proofs.LineLaws.{letter-none}
 use Rattle.trace_line.specs.Line.{letterOf}

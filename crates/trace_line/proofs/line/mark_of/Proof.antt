@@ -1,4 +1,4 @@
--- `trace_line::line::mark_of` meets its contract. Assumes nothing.
+-- `trace_line::line::mark_of` meets its contract: there is no frame, or the first one tells. Assumes nothing.
 use borrow.Author.Needs.{needs}
 use mathlib.Core.Path.{_∙_}
 use Rattle.trace_line.proofs.LineLaws.{mark-none, mark-letter}

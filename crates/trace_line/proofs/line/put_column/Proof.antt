@@ -1,4 +1,4 @@
--- `trace_line::line::put_column` meets its contract. Assumes nothing.
+-- `trace_line::line::put_column` meets its contract: a decimal, and one byte behind it. Assumes nothing.
 use borrow.Author.Needs.{needs}
 use native.Mathlib.Omega.{arith}
 use Rattle.trace_line.proofs.LineLaws.{puts-one}

@@ -1,4 +1,4 @@
--- `trace_line::line::put_decimal` meets its contract. Assumes nothing.
+-- `trace_line::line::put_decimal` meets its contract: 20 bytes are enough for a decimal. Assumes nothing.
 use borrow.Author.Needs.{needs}
 use native.Mathlib.Omega.{arith}
 use Rattle.reply.specs.Decimal.{decimal}
@@ -12,7 +12,9 @@ returns c =
     let w = c .before .write-decimal in
     let a = c .before .before .before .args in
     let d = decimal-within (a .v) in
-    let p = puts-behind {b = a .t .now} {bs = decimal (a .v)} {at = a .at} (omega arith) (w .ensures .0) (c .place-behind .ensures) (w .ensures .1) in
+    let p =
+    puts-behind {b = a .t .now} {bs = decimal (a .v)} {at = a .at} (omega arith) (w .ensures .0)
+    (c .place-behind .ensures) (w .ensures .1) in
     (p, omega (arith, p .behind))
 
 pub put-decimal-spec : {M : Type 1} → statement M

@@ -1,5 +1,5 @@
--- `trace_line::line::write_line` meets its contract: the line stands at the front of the array, and what is lent of it is
--- the line. Assumes nothing.
+-- `trace_line::line::write_line` meets its contract: the line stands at the front of the array, and what is lent of it
+-- is the line. Assumes nothing.
 use Prim.Native.Nat.{ℕ, _≤_}
 use borrow.Author.Needs.{needs}
 use native.Mathlib.Omega.{arith}
@@ -24,7 +24,9 @@ array-share-prefix-text c =
 slice-aggregate-write-bytes : tie.Need-slice-aggregate-write-bytes
 slice-aggregate-write-bytes c =
     let p = c .before .before in
-    sym (length-take-le (p .put-line .result) _ (front-within (room (p .before .before .before .args .l)) (p .put-line .ensures)))
+    sym
+    (length-take-le (p .put-line .result) _
+    (front-within (room (p .before .before .before .args .l)) (p .put-line .ensures)))
 
 returns : tie.Need-returns
 returns c =

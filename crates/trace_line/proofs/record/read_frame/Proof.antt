@@ -1,4 +1,4 @@
--- `trace_line::record::read_frame` meets its contract. Assumes nothing.
+-- `trace_line::record::read_frame` meets its contract: it is too long, not all there, or whole. Assumes nothing.
 use borrow.Author.Needs.{needs}
 use native.Mathlib.Omega.{arith}
 use mathlib.Core.Path.{_∙_}
@@ -10,10 +10,14 @@ returns : tie.Need-returns
 returns c = let a = c .before .before .args in frame-bad (a .s .now) (a .len) (a .start) (c .if1 .taken)
 
 returns-2 : tie.Need-returns-2
-returns-2 c = let a = c .before .before .before .args in frame-short (a .s .now) (a .len) (a .start) (c .before .if1 .left) (omega arith)
+returns-2 c =
+    let a = c .before .before .before .args in
+    frame-short (a .s .now) (a .len) (a .start) (c .before .if1 .left) (omega arith)
 
 returns-3 : tie.Need-returns-3
-returns-3 c = let a = c .before .before .before .before .args in frame-short (a .s .now) (a .len) (a .start) (c .before .before .if1 .left) (omega arith)
+returns-3 c =
+    let a = c .before .before .before .before .args in
+    frame-short (a .s .now) (a .len) (a .start) (c .before .before .if1 .left) (omega arith)
 
 returns-4 : tie.Need-returns-4
 returns-4 c =

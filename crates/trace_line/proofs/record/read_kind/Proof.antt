@@ -1,4 +1,4 @@
--- `trace_line::record::read_kind` meets its contract. Assumes nothing.
+-- `trace_line::record::read_kind` meets its contract: the report stands behind the frame. Assumes nothing.
 use borrow.Author.Needs.{needs}
 use mathlib.Core.Path.{_∙_}
 use Rattle.trace_line.proofs.RecordLaws.{then-value, then-short, then-bad}
@@ -12,21 +12,25 @@ returns c =
     let k = c .before in
     let r = k .before .before .before in
     let a = r .before .before .args in
-    c .read-report .ensures ∙ then-value (λ v next. reportAt (a .s .now) (a .start) (a .len) v next) (k .before .value .given .1) (r .read-number .ensures)
+    c .read-report .ensures
+    ∙ then-value (λ v next. reportAt (a .s .now) (a .start) (a .len) v next) (k .before .value .given .1)
+    (r .read-number .ensures)
 
 returns-2 : tie.Need-returns-2
 unfolding kindAt
 returns-2 c =
     let r = c .before .before in
     let a = r .before .before .args in
-    then-short (λ v next. reportAt (a .s .now) (a .start) (a .len) v next) (c .enum-told .given .1) (r .read-number .ensures)
+    then-short (λ v next. reportAt (a .s .now) (a .start) (a .len) v next) (c .enum-told .given .1)
+    (r .read-number .ensures)
 
 returns-3 : tie.Need-returns-3
 unfolding kindAt
 returns-3 c =
     let r = c .before .before in
     let a = r .before .before .args in
-    then-bad (λ v next. reportAt (a .s .now) (a .start) (a .len) v next) (c .enum-told2 .given .1) (r .read-number .ensures)
+    then-bad (λ v next. reportAt (a .s .now) (a .start) (a .len) v next) (c .enum-told2 .given .1)
+    (r .read-number .ensures)
 
 pub read-kind-spec : {M : Type 1} → statement M
 read-kind-spec =

@@ -1,4 +1,4 @@
--- `trace_line::record::read_number` meets its contract. Assumes nothing.
+-- `trace_line::record::read_number` meets its contract: a varint, or why none stands there. Assumes nothing.
 use borrow.Author.Needs.{needs}
 use mathlib.Core.Path.{sym, _∙_}
 use Rattle.trace_line.proofs.RecordLaws.{number-is}
@@ -15,7 +15,8 @@ returns-2 : tie.Need-returns-2
 returns-2 c =
     let r = c .before .before .before in
     let a = r .before .before .args in
-    c .why-unended .ensures ∙ number-is (a .s .now) (a .at) (sym (c .before .enum-told .given .1) ∙ r .read-varint .ensures)
+    c .why-unended .ensures
+    ∙ number-is (a .s .now) (a .at) (sym (c .before .enum-told .given .1) ∙ r .read-varint .ensures)
 
 pub read-number-spec : {M : Type 1} → statement M
 read-number-spec =

@@ -1,4 +1,4 @@
--- `trace_line::record::read_record` meets its contract. Assumes nothing.
+-- `trace_line::record::read_record` meets its contract: its first number is the length of its frame. Assumes nothing.
 use borrow.Author.Needs.{needs}
 use mathlib.Core.Path.{_∙_}
 use Rattle.trace_line.proofs.RecordLaws.{then-value, then-short, then-bad}
@@ -12,7 +12,9 @@ returns c =
     let k = c .before in
     let r = k .before .before .before in
     let a = r .before .before .args in
-    c .read-frame .ensures ∙ then-value (λ v next. frameAt (a .s .now) v next) (k .before .value .given .1) (r .read-number .ensures)
+    c .read-frame .ensures
+    ∙ then-value (λ v next. frameAt (a .s .now) v next) (k .before .value .given .1)
+    (r .read-number .ensures)
 
 returns-2 : tie.Need-returns-2
 unfolding recordAt

@@ -6,22 +6,24 @@ use Rattle.trace_line.proofs.record.read_report.Statement.{statement}
 use Rattle.trace_line.proofs.record.read_report.Tie as tie
 
 returns : tie.Need-returns
-returns c = let a = c .before .before .args in report-bad (a .s .now) (a .start) (a .len) (a .kind) (a .at) (c .if1 .taken)
+returns c =
+    let a = c .before .before .args in
+    report-bad (a .s .now) (a .start) (a .len) (a .kind) (a .at) (c .if1 .taken)
 
 returns-2 : tie.Need-returns-2
 returns-2 c =
     let a = c .before .before .before .before .args in
-    c .read-one .ensures ∙ report-prepared (a .s .now) (a .start) (a .len) (a .at) (c .before .match .keys1)
+    c .read-prepared .ensures ∙ report-prepared (a .s .now) (a .start) (a .len) (a .at) (c .before .match .keys1)
 
 returns-3 : tie.Need-returns-3
 returns-3 c =
     let a = c .before .before .before .before .args in
-    c .read-two .ensures ∙ report-result (a .s .now) (a .start) (a .len) (a .at) (c .before .match .keys2)
+    c .read-result .ensures ∙ report-result (a .s .now) (a .start) (a .len) (a .at) (c .before .match .keys2)
 
 returns-4 : tie.Need-returns-4
 returns-4 c =
     let a = c .before .before .before .before .args in
-    c .read-one2 .ensures ∙ report-failed (a .s .now) (a .start) (a .len) (a .at) (c .before .match .keys3)
+    c .read-failed .ensures ∙ report-failed (a .s .now) (a .start) (a .len) (a .at) (c .before .match .keys3)
 
 returns-5 : tie.Need-returns-5
 returns-5 c =

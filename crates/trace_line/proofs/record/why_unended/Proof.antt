@@ -1,4 +1,4 @@
--- `trace_line::record::why_unended` meets its contract. Assumes nothing.
+-- `trace_line::record::why_unended` meets its contract: there are ten bytes, or fewer. Assumes nothing.
 use borrow.Author.Needs.{needs}
 use native.Mathlib.Omega.{arith}
 use Rattle.trace_line.proofs.RecordLaws.{unended-short, unended-bad}

@@ -1,4 +1,4 @@
--- `writer::fields::number_len` meets its contract. Assumes nothing.
+-- The lengths of two varints.
 use Prim.Native.Nat.{_*_}
 use Rattle.reply.proofs.FrameLaws.{number-parts}
 use Rattle.varint.proofs.VarintLaws.{varint-length}

@@ -1,4 +1,4 @@
--- `writer::fields::optional_len` meets its contract. Assumes nothing.
+-- A field that is absent has no byte.
 use Rattle.writer.specs.Payload.{optionalField}
 use mathlib.Core.Bool.{Bool}
 use lib.ListN.{length}

@@ -1,4 +1,4 @@
--- `writer::fields::prefix_len` meets its contract. Assumes nothing.
+-- The lengths of two varints.
 use Prim.Native.Nat.{_+_, _*_}
 use Rattle.writer.proofs.SizeLaws.{prefix-parts}
 use Rattle.varint.proofs.VarintLaws.{varint-length}

@@ -1,4 +1,4 @@
--- `writer::fields::put_head` meets its contract. Assumes nothing.
+-- Five stores from place 0 on.
 use lib.ListN.{length-set}
 use native.Mathlib.Omega.{arith}
 use borrow.Author.Needs.{needs}

@@ -1,4 +1,4 @@
--- `writer::fields::put_number` meets its contract. Assumes nothing.
+-- Two varints, one behind the other.
 use Rattle.reply.specs.Frame.{numberField}
 use Rattle.reply.proofs.PutsLaws.{puts-then}
 use Rattle.reply.proofs.FrameLaws.{number-parts}

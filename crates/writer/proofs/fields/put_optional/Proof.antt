@@ -1,4 +1,4 @@
--- `writer::fields::put_optional` meets its contract. Assumes nothing.
+-- A field that is absent puts nothing.
 use borrow.Author.Needs.{needs}
 use Rattle.reply.proofs.PutsLaws.{puts-as}
 use Rattle.writer.proofs.PayloadLaws.{puts-empty}

@@ -1,4 +1,4 @@
--- `writer::fields::put_prefix` meets its contract. Assumes nothing.
+-- Two varints, one behind the other.
 use Rattle.reply.proofs.PutsLaws.{puts-then}
 use Rattle.writer.proofs.SizeLaws.{prefix-parts}
 use native.Mathlib.Omega.{arith}

@@ -1,11 +1,13 @@
--- `writer::fields::put_varint` meets its contract. Assumes nothing.
+-- write_varint puts it where it fits, and varint_len is its length.
 use Rattle.reply.proofs.PutsLaws.{fitted}
 use borrow.Author.Needs.{needs}
 use Rattle.writer.proofs.fields.put_varint.Statement.{statement}
 use Rattle.writer.proofs.fields.put_varint.Tie as tie
 
 returns : tie.Need-returns
-returns c = let w = c .before .before .before in fitted (w .before .before .before .pre) (c .varint-len .ensures) (w .write-varint .ensures .1)
+returns c =
+    let w = c .before .before .before in
+    fitted (w .before .before .before .pre) (c .varint-len .ensures) (w .write-varint .ensures .1)
 
 pub put-varint-spec : {M : Type 1} → statement M
 put-varint-spec =

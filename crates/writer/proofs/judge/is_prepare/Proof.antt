@@ -1,26 +1,26 @@
--- `writer::judge::is_prepare` meets its contract. Assumes nothing.
+-- The two tests are goodPrepare's: the type, then the body.
+use mathlib.Core.Bool.{false}
+use mathlib.Core.Path.{sym, ap, _∙_}
+use borrow.Author.Tests.{not-true, not-false}
 use borrow.Author.Needs.{needs}
 use Rattle.args.specs.declared.arguments.Arguments.{Arguments}
-use mathlib.Core.Path.{ap, _∙_}
-use Rattle.writer.proofs.JudgeLaws.{type-three, type-high, type-listed}
+use Rattle.args.proofs.PartLaws.{yes, no as without}
+use Rattle.writer.specs.Judge.{goodBody}
 use Rattle.writer.proofs.judge.is_prepare.Statement.{statement}
 use Rattle.writer.proofs.judge.is_prepare.Tie as tie
 
 returns : tie.Need-returns
 returns c =
-    let a = c .before .before .args in
-    type-three (a .choice) (a .body .now) (c .if1 .taken)
+    let a = c .before .before .before .args in
+    without (goodBody (a .operation) (a .body .now)) false
+    (sym (c .before .is-type .ensures) ∙ not-true _ (c .if1 .taken))
 
 returns-2 : tie.Need-returns-2
 returns-2 c =
-    let a = c .before .before .before .args in
-    type-high (a .choice) (a .body .now) (c .before .if1 .left) (c .if2 .taken)
-
-returns-3 : tie.Need-returns-3
-returns-3 c =
     let a = c .before .before .before .before .args in
     ap (λ (x : Arguments). x .good) (c .read-body .ensures)
-    ∙ type-listed (a .choice) (a .body .now) (c .before .before .if1 .left) (c .before .if2 .left)
+    ∙ yes (goodBody (a .operation) (a .body .now)) false
+    (sym (c .before .before .is-type .ensures) ∙ not-false _ (c .before .if1 .left))
 
 pub is-prepare-spec : {M : Type 1} → statement M
-is-prepare-spec = tie.close (tie.spec returns returns-2 (λ c κs. search needs) returns-3)
+is-prepare-spec = tie.close (tie.spec (λ c κs. search needs) returns (λ c κs. search needs) returns-2)

@@ -1,11 +1,12 @@
--- `writer::judge::is_stretch` meets its contract. Assumes nothing.
+-- What is left from the place on answers for the whole stretch.
 use Rattle.args.specs.Arguments.{anyTypeOf}
 use borrow.Author.Needs.{needs}
 use Prim.Native.Nat.{_-_}
 use lib.ListN.{length}
 use native.Mathlib.Omega.{arith}
 use mathlib.Core.Path.{sym, ap, _∙_}
-use Rattle.writer.proofs.JudgeLaws.{Judging, starts, ends, no-field, advances, other-number, other-wire, bad-argument, goes-on}
+use Rattle.writer.proofs.JudgeLaws.{Judging, starts, ends, no-field, advances, other-number, other-wire}
+use Rattle.writer.proofs.JudgeLaws.{bad-argument, goes-on}
 use Rattle.writer.proofs.judge.is_stretch.Statement.{statement}
 use Rattle.writer.proofs.judge.is_stretch.Tie as tie
 
@@ -25,23 +26,27 @@ returns c =
 
 returns-2 : tie.Need-returns-2 Inv-loop μ-loop
 returns-2 c =
-    other-number (c .before .before .before .before .before .before .loop .inv) (c .before .before .before .before .before .loop-test .taken)
+    other-number (c .before .before .before .before .before .before .loop .inv)
+    (c .before .before .before .before .before .loop-test .taken)
     (sym (c .before .before .before .before .read-field .ensures) ∙ c .before .before .number .given .1) (c .if1 .taken)
 
 returns-3 : tie.Need-returns-3 Inv-loop μ-loop
 returns-3 c =
     other-wire (c .before .before .before .before .before .before .before .loop .inv)
     (c .before .before .before .before .before .before .loop-test .taken)
-    (sym (c .before .before .before .before .before .read-field .ensures) ∙ c .before .before .before .number .given .1) (c .before .if1 .left)
+    (sym (c .before .before .before .before .before .read-field .ensures) ∙ c .before .before .before .number .given .1)
+    (c .before .if1 .left)
     (c .if2 .taken)
 
 returns-4 : tie.Need-returns-4 Inv-loop μ-loop
 returns-4 c =
     bad-argument (c .before .before .before .before .before .before .before .before .before .before .loop .inv)
     (c .before .before .before .before .before .before .before .before .before .loop-test .taken)
-    (sym (c .before .before .before .before .before .before .before .before .read-field .ensures) ∙ c .before .before .before .before .before .before .number .given .1)
+    (sym (c .before .before .before .before .before .before .before .before .read-field .ensures)
+    ∙ c .before .before .before .before .before .before .number .given .1)
     (c .before .before .before .before .if1 .left) (c .before .before .before .if2 .left)
-    (ap anyTypeOf (sym (c .before .before .read-argument .ensures)) ∙ sym (c .before .any-type .ensures) ∙ c .if3 .taken)
+    (ap anyTypeOf (sym (c .before .before .read-argument .ensures)) ∙ sym (c .before .any-type .ensures)
+    ∙ c .if3 .taken)
 
 loop-less : tie.Need-loop-less Inv-loop μ-loop
 loop-less c =
@@ -49,14 +54,16 @@ loop-less c =
       arith,
       advances (c .before .before .before .before .before .before .before .before .before .before .loop .inv)
           (c .before .before .before .before .before .before .before .before .before .loop-test .taken) (sym
-          (c .before .before .before .before .before .before .before .before .read-field .ensures) ∙ c .before .before .before .before .before .before .number .given .1),
+          (c .before .before .before .before .before .before .before .before .read-field .ensures)
+          ∙ c .before .before .before .before .before .before .number .given .1),
     )
 
 loop-again : tie.Need-loop-again Inv-loop μ-loop
 loop-again c =
     goes-on (c .before .before .before .before .before .before .before .before .before .before .loop .inv)
     (c .before .before .before .before .before .before .before .before .before .loop-test .taken)
-    (sym (c .before .before .before .before .before .before .before .before .read-field .ensures) ∙ c .before .before .before .before .before .before .number .given .1)
+    (sym (c .before .before .before .before .before .before .before .before .read-field .ensures)
+    ∙ c .before .before .before .before .before .before .number .given .1)
     (c .before .before .before .before .if1 .left) (c .before .before .before .if2 .left)
     (λ z. c .if3 .left (c .before .any-type .ensures ∙ ap anyTypeOf (c .before .before .read-argument .ensures) ∙ z))
 

@@ -1,4 +1,4 @@
--- `writer::payload::execute_len` meets its contract. Assumes nothing.
+-- The sum of its fields' lengths.
 use Rattle.writer.specs.Payload.{optionalField}
 use Rattle.writer.proofs.SizeLaws.{execute-parts, number-short, optional-short}
 use Prim.Native.Nat.{ℕ}

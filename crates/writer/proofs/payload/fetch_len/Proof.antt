@@ -1,4 +1,4 @@
--- `writer::payload::fetch_len` meets its contract. Assumes nothing.
+-- The sum of its fields' lengths.
 use Rattle.writer.proofs.SizeLaws.{fetch-parts, number-short, optional-short}
 use native.Mathlib.Omega.{arith}
 use borrow.Author.Needs.{needs}

@@ -1,4 +1,4 @@
--- `writer::payload::open_len` meets its contract. Assumes nothing.
+-- The sum of its fields' lengths.
 use Rattle.writer.specs.Payload.{prefixOf}
 use Rattle.writer.proofs.SizeLaws.{open-parts, open-stmt-short, number-short, prefix-short, optional-short}
 use Prim.Native.Nat.{ℕ}

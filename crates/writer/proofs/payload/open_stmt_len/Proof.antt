@@ -1,4 +1,4 @@
--- `writer::payload::open_stmt_len` meets its contract. Assumes nothing.
+-- The sum of its fields' lengths.
 use Rattle.writer.specs.Payload.{prefixOf}
 use Rattle.writer.proofs.SizeLaws.{open-stmt-parts, execute-short, number-short, prefix-short}
 use Prim.Native.Nat.{ℕ}
@@ -17,12 +17,21 @@ add-result c =
 add-result-2 : tie.Need-add-result-2
 add-result-2 c =
     let a = c .before .before .before .before .args in
-    omega (arith, number-short 1 0, prefix-short 2 (c .before .before .execute-len .result), execute-short (a .draft) (a .args .now))
+    omega (
+      arith,
+      number-short 1 0,
+      prefix-short 2 (c .before .before .execute-len .result),
+      execute-short (a .draft) (a .args .now),
+    )
 
 returns : tie.Need-returns
 returns c =
     let a = c .before .before .before .before .args in
-    omega (arith, open-stmt-parts (a .draft) (a .args .now), ap (λ (n : ℕ). length (prefixOf 2 n)) (c .before .before .execute-len .ensures))
+    omega (
+      arith,
+      open-stmt-parts (a .draft) (a .args .now),
+      ap (λ (n : ℕ). length (prefixOf 2 n)) (c .before .before .execute-len .ensures),
+    )
 
 pub open-stmt-len-spec : {M : Type 1} → statement M
 open-stmt-len-spec =

@@ -1,5 +1,6 @@
--- `writer::payload::payload_len` meets its contract. Assumes nothing.
-use Rattle.writer.proofs.PayloadLaws.{as-prepare, as-execute, as-deallocate, as-open, as-close, as-fetch, as-none}
+-- Each arm is payloadAs at its message type.
+use Rattle.writer.proofs.PayloadLaws.{as-prepare, as-execute, as-deallocate, as-open, as-close, as-fetch}
+use Rattle.writer.proofs.PayloadLaws.{as-none}
 use lib.ListN.{length}
 use mathlib.Core.Path.{sym, ap, _∙_}
 use borrow.Author.Needs.{needs}
@@ -9,17 +10,20 @@ use Rattle.writer.proofs.payload.payload_len.Tie as tie
 returns : tie.Need-returns
 returns c =
     let a = c .before .before .before .before .args in
-    c .prepare-len .ensures ∙ ap length (sym (as-prepare (a .draft) (a .body .now) (a .args .now) (c .before .match .keys1)))
+    c .prepare-len .ensures
+    ∙ ap length (sym (as-prepare (a .draft) (a .body .now) (a .args .now) (c .before .match .keys1)))
 
 returns-2 : tie.Need-returns-2
 returns-2 c =
     let a = c .before .before .before .before .args in
-    c .execute-len .ensures ∙ ap length (sym (as-execute (a .draft) (a .body .now) (a .args .now) (c .before .match .keys2)))
+    c .execute-len .ensures
+    ∙ ap length (sym (as-execute (a .draft) (a .body .now) (a .args .now) (c .before .match .keys2)))
 
 returns-3 : tie.Need-returns-3
 returns-3 c =
     let a = c .before .before .before .before .before .args in
-    c .number-len .ensures ∙ ap length (sym (as-deallocate (a .draft) (a .body .now) (a .args .now) (c .before .before .match .keys3)))
+    c .number-len .ensures
+    ∙ ap length (sym (as-deallocate (a .draft) (a .body .now) (a .args .now) (c .before .before .match .keys3)))
 
 returns-4 : tie.Need-returns-4
 returns-4 c =
@@ -29,17 +33,20 @@ returns-4 c =
 returns-5 : tie.Need-returns-5
 returns-5 c =
     let a = c .before .before .before .before .before .args in
-    c .number-len2 .ensures ∙ ap length (sym (as-close (a .draft) (a .body .now) (a .args .now) (c .before .before .match .keys5)))
+    c .number-len2 .ensures
+    ∙ ap length (sym (as-close (a .draft) (a .body .now) (a .args .now) (c .before .before .match .keys5)))
 
 returns-6 : tie.Need-returns-6
 returns-6 c =
     let a = c .before .before .before .before .args in
-    c .fetch-len .ensures ∙ ap length (sym (as-fetch (a .draft) (a .body .now) (a .args .now) (c .before .match .keys6)))
+    c .fetch-len .ensures
+    ∙ ap length (sym (as-fetch (a .draft) (a .body .now) (a .args .now) (c .before .match .keys6)))
 
 returns-7 : tie.Need-returns-7
 returns-7 c =
     let a = c .before .before .before .args in
-    ap length (sym (as-none (a .draft) (a .body .now) (a .args .now) (c .match .rest .0 .0 .0 .0 .0 .1) (c .match .rest .0 .0 .0 .0 .1)
+    ap length (sym (as-none (a .draft) (a .body .now) (a .args .now) (c .match .rest .0 .0 .0 .0 .0 .1)
+    (c .match .rest .0 .0 .0 .0 .1)
     (c .match .rest .0 .0 .0 .1) (c .match .rest .0 .0 .1) (c .match .rest .0 .1) (c .match .rest .1)))
 
 pub payload-len-spec : {M : Type 1} → statement M

@@ -1,4 +1,4 @@
--- `writer::payload::prepare_len` meets its contract. Assumes nothing.
+-- The sum of its fields' lengths.
 use Rattle.writer.specs.Payload.{prefixOf}
 use Rattle.writer.proofs.SizeLaws.{prepare-parts, prepare-stmt-short, number-short, prefix-short}
 use Prim.Native.Nat.{ℕ}

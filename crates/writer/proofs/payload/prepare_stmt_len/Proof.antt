@@ -1,4 +1,4 @@
--- `writer::payload::prepare_stmt_len` meets its contract. Assumes nothing.
+-- The sum of its fields' lengths.
 use Rattle.writer.specs.Payload.{prefixOf}
 use Rattle.writer.proofs.SizeLaws.{prepare-stmt-parts, number-short, prefix-short}
 use Prim.Native.Nat.{ℕ}
@@ -12,12 +12,20 @@ use Rattle.writer.proofs.payload.prepare_stmt_len.Tie as tie
 add-result : tie.Need-add-result
 add-result c =
     let a = c .before .before .before .before .args in
-    omega (arith, number-short 1 (a .draft .choice), prefix-short (c .before .before .chosen-field .result) (length (a .body .now)))
+    omega (
+      arith,
+      number-short 1 (a .draft .operation),
+      prefix-short (c .before .before .field-of .result) (length (a .body .now)),
+    )
 
 add-result-2 : tie.Need-add-result-2
 add-result-2 c =
     let a = c .before .before .before .before .args in
-    omega (arith, number-short 1 (a .draft .choice), prefix-short (c .before .before .chosen-field .result) (length (a .body .now)))
+    omega (
+      arith,
+      number-short 1 (a .draft .operation),
+      prefix-short (c .before .before .field-of .result) (length (a .body .now)),
+    )
 
 returns : tie.Need-returns
 returns c =
@@ -26,7 +34,7 @@ returns c =
       arith,
       prepare-stmt-parts (a .draft) (a .body .now),
       ap (λ (k : ℕ). length (prefixOf k (length (a .body .now))))
-          (c .before .before .chosen-field .ensures .0),
+          (c .before .before .field-of .ensures .0),
     )
 
 pub prepare-stmt-len-spec : {M : Type 1} → statement M

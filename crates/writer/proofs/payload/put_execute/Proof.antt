@@ -1,4 +1,4 @@
--- `writer::payload::put_execute` meets its contract. Assumes nothing.
+-- The id, the stretch of arguments and compact_metadata, one behind the other.
 use Rattle.writer.specs.Payload.{optionalField, executePayload}
 use Rattle.reply.proofs.PutsLaws.{puts-then, puts-as}
 use Rattle.writer.proofs.SizeLaws.{execute-parts}
@@ -22,7 +22,8 @@ put-slice-requires c κs =
 
 put-optional-requires : tie.Need-put-optional-requires
 put-optional-requires c κs =
-    let a = c .before .before .before .before .before .before .before .before .before .before .before .before .before .args in (
+    let far = c .before .before .before .before .before .before .before .before in
+    let a = far .before .before .before .before .before .args in (
       search needs,
       omega (
         arith,
@@ -35,8 +36,10 @@ put-optional-requires c κs =
 returns : tie.Need-returns
 unfolding executePayload
 returns c =
-    let a = c .before .before .before .before .before .before .before .before .before .before .before .before .before .before .before .before .args in
-    puts-then (puts-then (c .before .before .before .before .before .before .before .before .before .before .before .put-number .ensures)
+    let far = c .before .before .before .before .before .before .before .before in
+    let a = far .before .before .before .before .before .before .before .before .args in
+    puts-then (puts-then
+    (far .before .before .before .put-number .ensures)
     (c .before .before .before .before .before .before .before .put-slice .ensures))
     (puts-as (ap (λ (v : ℕ). optionalField (a .draft .hascompact) 3 v) (c .before .before .before .bit .ensures))
     (c .before .before .put-optional .ensures))

@@ -1,4 +1,4 @@
--- `writer::payload::put_fetch` meets its contract. Assumes nothing.
+-- The cursor id, then fetch_rows.
 use Rattle.writer.specs.Payload.{fetchPayload}
 use Rattle.reply.proofs.PutsLaws.{puts-then}
 use Rattle.writer.proofs.SizeLaws.{fetch-parts}
@@ -19,7 +19,9 @@ put-optional-requires c κs =
 
 returns : tie.Need-returns
 unfolding fetchPayload
-returns c = puts-then (c .before .before .before .before .before .before .put-number .ensures) (c .before .before .put-optional .ensures)
+returns c =
+    puts-then (c .before .before .before .before .before .before .put-number .ensures)
+    (c .before .before .put-optional .ensures)
 
 pub put-fetch-spec : {M : Type 1} → statement M
 put-fetch-spec =

@@ -1,4 +1,4 @@
--- `writer::payload::put_open` meets its contract. Assumes nothing.
+-- The cursor id, the statement with its length before it and fetch_rows, one behind the other.
 use Rattle.writer.specs.Payload.{openPayload, openStmtPayload, prefixOf}
 use Rattle.writer.proofs.PayloadLaws.{puts-counted}
 use Rattle.reply.proofs.PutsLaws.{puts-then}
@@ -19,11 +19,16 @@ put-number-requires c κs =
 put-prefix-requires : tie.Need-put-prefix-requires
 put-prefix-requires c κs =
     let a = c .before .before .before .before .before .before .before .before .before .args in
-    omega (arith, open-parts (a .draft) (a .args .now), ap (λ (n : ℕ). length (prefixOf 4 n)) (c .open-stmt-len .ensures))
+    omega (
+      arith,
+      open-parts (a .draft) (a .args .now),
+      ap (λ (n : ℕ). length (prefixOf 4 n)) (c .open-stmt-len .ensures),
+    )
 
 put-open-stmt-requires : tie.Need-put-open-stmt-requires
 put-open-stmt-requires c κs =
-    let a = c .before .before .before .before .before .before .before .before .before .before .before .before .before .args in
+    let far = c .before .before .before .before .before .before .before .before in
+    let a = far .before .before .before .before .before .args in
     omega (
       arith,
       open-parts (a .draft) (a .args .now),
@@ -33,23 +38,25 @@ put-open-stmt-requires c κs =
 
 put-optional-requires : tie.Need-put-optional-requires
 put-optional-requires c κs =
-    let a = c .before .before .before .before .before .before .before .before .before .before .before .before .before .before .before .before .before .args in
+    let far = c .before .before .before .before .before .before .before .before in
+    let a = far .before .before .before .before .before .before .before .before .before .args in
     omega (
       arith,
       open-parts (a .draft) (a .args .now),
       ap (λ (n : ℕ). length (prefixOf 4 n))
-          (c .before .before .before .before .before .before .before .before .open-stmt-len .ensures),
+          (far .open-stmt-len .ensures),
     )
 
 returns : tie.Need-returns
 unfolding openPayload
 returns c =
-    let a = c .before .before .before .before .before .before .before .before .before .before .before .before .before .before .before .before .before .before .before .before .args in
+    let far = c .before .before .before .before .before .before .before .before in
+    let a = far .before .before .before .before .before .before .before .before .before .before .before .before .args in
     puts-then
-    (puts-then (c .before .before .before .before .before .before .before .before .before .before .before .before .before .before .before .put-number .ensures)
+    (puts-then (far .before .before .before .before .before .before .before .put-number .ensures)
     (puts-counted 4 (openStmtPayload (a .draft) (a .args .now))
-    (c .before .before .before .before .before .before .before .before .before .before .before .open-stmt-len .ensures)
-    (c .before .before .before .before .before .before .before .before .before .before .put-prefix .ensures)
+    (far .before .before .before .open-stmt-len .ensures)
+    (far .before .before .put-prefix .ensures)
     (c .before .before .before .before .before .before .put-open-stmt .ensures)))
     (c .before .before .put-optional .ensures)
 

@@ -1,4 +1,4 @@
--- `writer::payload::put_open_stmt` meets its contract. Assumes nothing.
+-- The type, then the Execute with its length before it, one behind the other.
 use Rattle.writer.specs.Payload.{openStmtPayload, executePayload, prefixOf}
 use Rattle.writer.proofs.PayloadLaws.{puts-counted}
 use Rattle.reply.proofs.PutsLaws.{puts-then}
@@ -19,7 +19,11 @@ put-number-requires c κs =
 put-prefix-requires : tie.Need-put-prefix-requires
 put-prefix-requires c κs =
     let a = c .before .before .before .before .before .before .before .before .args in
-    omega (arith, open-stmt-parts (a .draft) (a .args .now), ap (λ (n : ℕ). length (prefixOf 2 n)) (c .execute-len .ensures))
+    omega (
+      arith,
+      open-stmt-parts (a .draft) (a .args .now),
+      ap (λ (n : ℕ). length (prefixOf 2 n)) (c .execute-len .ensures),
+    )
 
 put-execute-requires : tie.Need-put-execute-requires
 put-execute-requires c κs =
@@ -34,9 +38,11 @@ put-execute-requires c κs =
 returns : tie.Need-returns
 unfolding openStmtPayload
 returns c =
-    let a = c .before .before .before .before .before .before .before .before .before .before .before .before .before .before .before .args in
-    puts-then (c .before .before .before .before .before .before .before .before .before .before .before .put-number .ensures)
-    (puts-counted 2 (executePayload (a .draft) (a .args .now)) (c .before .before .before .before .before .before .before .execute-len .ensures)
+    let far = c .before .before .before .before .before .before .before .before in
+    let a = far .before .before .before .before .before .before .before .args in
+    puts-then (far .before .before .before .put-number .ensures)
+    (puts-counted 2 (executePayload (a .draft) (a .args .now))
+    (c .before .before .before .before .before .before .before .execute-len .ensures)
     (c .before .before .before .before .before .before .put-prefix .ensures) (c .before .before .put-execute .ensures))
 
 pub put-open-stmt-spec : {M : Type 1} → statement M

@@ -1,5 +1,6 @@
--- `writer::payload::put_payload` meets its contract. Assumes nothing.
-use Rattle.writer.proofs.PayloadLaws.{as-prepare, as-execute, as-deallocate, as-open, as-close, as-fetch, as-none, puts-empty}
+-- Each arm is payloadAs at its message type.
+use Rattle.writer.proofs.PayloadLaws.{as-prepare, as-execute, as-deallocate, as-open, as-close, as-fetch}
+use Rattle.writer.proofs.PayloadLaws.{as-none, puts-empty}
 use Rattle.reply.proofs.PutsLaws.{puts-as}
 use lib.ListN.{length}
 use mathlib.Core.Path.{sym, ap}
@@ -41,19 +42,22 @@ put-fetch-requires c κs =
 returns : tie.Need-returns
 returns c =
     let a = c .before .before .before .before .before .before .before .before .args in
-    puts-as (sym (as-prepare (a .draft) (a .body .now) (a .args .now) (c .before .before .before .before .match .keys1)))
+    puts-as (sym (as-prepare (a .draft) (a .body .now) (a .args .now)
+    (c .before .before .before .before .match .keys1)))
     (c .before .before .put-prepare .ensures)
 
 returns-2 : tie.Need-returns-2
 returns-2 c =
     let a = c .before .before .before .before .before .before .before .before .args in
-    puts-as (sym (as-execute (a .draft) (a .body .now) (a .args .now) (c .before .before .before .before .match .keys2)))
+    puts-as (sym (as-execute (a .draft) (a .body .now) (a .args .now)
+    (c .before .before .before .before .match .keys2)))
     (c .before .before .put-execute .ensures)
 
 returns-3 : tie.Need-returns-3
 returns-3 c =
     let a = c .before .before .before .before .before .before .before .before .before .args in
-    puts-as (sym (as-deallocate (a .draft) (a .body .now) (a .args .now) (c .before .before .before .before .before .match .keys3)))
+    puts-as (sym (as-deallocate (a .draft) (a .body .now) (a .args .now)
+    (c .before .before .before .before .before .match .keys3)))
     (c .before .before .put-number .ensures)
 
 returns-4 : tie.Need-returns-4
@@ -65,7 +69,8 @@ returns-4 c =
 returns-5 : tie.Need-returns-5
 returns-5 c =
     let a = c .before .before .before .before .before .before .before .before .before .args in
-    puts-as (sym (as-close (a .draft) (a .body .now) (a .args .now) (c .before .before .before .before .before .match .keys5)))
+    puts-as (sym (as-close (a .draft) (a .body .now) (a .args .now)
+    (c .before .before .before .before .before .match .keys5)))
     (c .before .before .put-number2 .ensures)
 
 returns-6 : tie.Need-returns-6
@@ -77,7 +82,8 @@ returns-6 c =
 returns-7 : tie.Need-returns-7
 returns-7 c =
     let a = c .before .before .before .before .args in
-    puts-as (sym (as-none (a .draft) (a .body .now) (a .args .now) (c .match .rest .0 .0 .0 .0 .0 .1) (c .match .rest .0 .0 .0 .0 .1)
+    puts-as (sym (as-none (a .draft) (a .body .now) (a .args .now) (c .match .rest .0 .0 .0 .0 .0 .1)
+    (c .match .rest .0 .0 .0 .0 .1)
     (c .match .rest .0 .0 .0 .1) (c .match .rest .0 .0 .1) (c .match .rest .0 .1) (c .match .rest .1)))
     (puts-empty (a .buf .now) (a .at))
 

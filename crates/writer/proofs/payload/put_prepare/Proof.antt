@@ -1,4 +1,4 @@
--- `writer::payload::put_prepare` meets its contract. Assumes nothing.
+-- The id, then the statement with its length before it, one behind the other.
 use Rattle.writer.specs.Payload.{preparePayload, prepareStmtPayload, prefixOf}
 use Rattle.writer.proofs.PayloadLaws.{puts-counted}
 use Rattle.reply.proofs.PutsLaws.{puts-then}
@@ -19,11 +19,16 @@ put-number-requires c κs =
 put-prefix-requires : tie.Need-put-prefix-requires
 put-prefix-requires c κs =
     let a = c .before .before .before .before .before .before .before .before .before .args in
-    omega (arith, prepare-parts (a .draft) (a .body .now), ap (λ (n : ℕ). length (prefixOf 2 n)) (c .prepare-stmt-len .ensures))
+    omega (
+      arith,
+      prepare-parts (a .draft) (a .body .now),
+      ap (λ (n : ℕ). length (prefixOf 2 n)) (c .prepare-stmt-len .ensures),
+    )
 
 put-prepare-stmt-requires : tie.Need-put-prepare-stmt-requires
 put-prepare-stmt-requires c κs =
-    let a = c .before .before .before .before .before .before .before .before .before .before .before .before .before .args in
+    let far = c .before .before .before .before .before .before .before .before in
+    let a = far .before .before .before .before .before .args in
     omega (
       arith,
       prepare-parts (a .draft) (a .body .now),
@@ -34,11 +39,13 @@ put-prepare-stmt-requires c κs =
 returns : tie.Need-returns
 unfolding preparePayload
 returns c =
-    let a = c .before .before .before .before .before .before .before .before .before .before .before .before .before .before .before .before .args in
-    puts-then (c .before .before .before .before .before .before .before .before .before .before .before .put-number .ensures)
+    let far = c .before .before .before .before .before .before .before .before in
+    let a = far .before .before .before .before .before .before .before .before .args in
+    puts-then (far .before .before .before .put-number .ensures)
     (puts-counted 2 (prepareStmtPayload (a .draft) (a .body .now))
     (c .before .before .before .before .before .before .before .prepare-stmt-len .ensures)
-    (c .before .before .before .before .before .before .put-prefix .ensures) (c .before .before .put-prepare-stmt .ensures))
+    (c .before .before .before .before .before .before .put-prefix .ensures)
+    (c .before .before .put-prepare-stmt .ensures))
 
 pub put-prepare-spec : {M : Type 1} → statement M
 put-prepare-spec =

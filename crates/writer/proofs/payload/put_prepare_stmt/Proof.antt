@@ -1,4 +1,4 @@
--- `writer::payload::put_prepare_stmt` meets its contract. Assumes nothing.
+-- The type, then the body in the field that it chooses, one behind the other.
 use Rattle.writer.specs.Payload.{prepareStmtPayload, prefixOf}
 use Rattle.writer.proofs.PayloadLaws.{puts-counted}
 use Rattle.reply.proofs.PutsLaws.{puts-then, puts-as}
@@ -24,26 +24,29 @@ put-prefix-requires c κs = let a = c .before .before .before .before .before .b
       arith,
       prepare-stmt-parts (a .draft) (a .body .now),
       ap (λ (k : ℕ). length (prefixOf k (length (a .body .now))))
-          (c .before .before .before .before .before .chosen-field .ensures .0),
+          (c .before .before .before .before .before .field-of .ensures .0),
     )
 
 put-slice-requires : tie.Need-put-slice-requires
-put-slice-requires c κs = let a = c .before .before .before .before .before .before .before .before .before .before .before .before .args in
+put-slice-requires c κs =
+    let a = c .before .before .before .before .before .before .before .before .before .before .before .before .args in
     omega (
       arith,
       prepare-stmt-parts (a .draft) (a .body .now),
       ap (λ (k : ℕ). length (prefixOf k (length (a .body .now))))
-          (c .before .before .before .before .before .before .before .before .before .chosen-field .ensures .0),
+          (c .before .before .before .before .before .before .before .before .before .field-of .ensures .0),
     )
 
 returns : tie.Need-returns
 unfolding prepareStmtPayload
 returns c =
-    let a = c .before .before .before .before .before .before .before .before .before .before .before .before .before .before .before .args in
-    let k = c .before .before .before .before .before .before .before .before .before .before .before .before .chosen-field in
-    puts-as (ap (λ (n : ℕ). numberField 1 (a .draft .choice) ++ bytesField n (a .body .now)) (k .ensures .0))
-    (puts-then (c .before .before .before .before .before .before .before .before .before .before .put-number .ensures)
-    (puts-counted (k .result) (a .body .now) refl (c .before .before .before .before .before .before .put-prefix .ensures)
+    let far = c .before .before .before .before .before .before .before .before in
+    let a = far .before .before .before .before .before .before .before .args in
+    let k = far .before .before .before .before .field-of in
+    puts-as (ap (λ (n : ℕ). numberField 1 (a .draft .operation) ++ bytesField n (a .body .now)) (k .ensures .0))
+    (puts-then (far .before .before .put-number .ensures)
+    (puts-counted (k .result) (a .body .now) refl
+    (c .before .before .before .before .before .before .put-prefix .ensures)
     (c .before .before .put-slice .ensures)))
 
 pub put-prepare-stmt-spec : {M : Type 1} → statement M

@@ -1,0 +1,53 @@
+-- Calls that are related by the contract are a run, so that what holds of runs holds of them. Assumes nothing.
+use Prim.Native.Nat.{ℕ}
+use mathlib.Core.Path.{_≡_, refl, sym, ap, subst, _∙_}
+use mathlib.Core.List.{List, [], _∷_}
+use lib.ListN.{take}
+use Rattle.session.specs.Session.{Session}
+use Rattle.session.specs.Tables.{fresh}
+use Rattle.session.specs.Words.{sessionOf}
+use Rattle.rules.specs.declared.Answer.{Answer}
+use Rattle.rules.specs.Step.{Step, stepOf}
+use Rattle.history.specs.Run.{Input, run, leaves, Told, told}
+use Rattle.history.specs.History.{State, Kept, reached}
+use Rattle.history.specs.Calls.{Call, Contract, Called, wordsAfter, toldOf, toldBy, Demand3Exported}
+use Rattle.history.proofs.HistoryLaws.{demand-3}
+
+abbrev input : Call → Input
+input c = record { frame = c .frame; report = c .report; buffer = c .buffer }
+
+unfoldable inputs : List Call → List Input
+inputs [] = []
+inputs (c ∷ cs) = input c ∷ inputs cs
+
+abbrev ran : Session → Call → Step
+ran s c = stepOf s (c .frame) (c .report) (c .buffer)
+
+abbrev toldAs : Call → Answer → List ℕ → Told
+toldAs c a reply = record { frame = c .frame; report = c .report; answer = a; reply = take (a .reply) reply }
+
+record Runs (words : List ℕ) (cs : List Call) (s : Session) : Type 0 where
+  last : sessionOf (wordsAfter words cs) ≡ leaves s (run s (inputs cs))
+  same : toldBy cs ≡ told (inputs cs) (run s (inputs cs))
+
+runs : (words : List ℕ) (cs : List Call) (s : Session) → sessionOf words ≡ s → Called words cs → Runs words cs s
+unfolding Called wordsAfter toldBy inputs run leaves told
+runs words [] s e h = record { last = e; same = refl }
+runs words (c ∷ cs) s e h =
+    let k : Contract words c = h .0 in
+    let is : ran (sessionOf words) c ≡ ran s c = ap (λ z. ran z c) e in
+    let more = runs (c .words) cs (ran s c .session) (k .session ∙ ap (λ y. y .session) is) (h .1) in
+    record {
+      last = more .last;
+      same =
+          ap (λ y. y ∷ toldBy cs)
+          (ap (λ a. toldAs c a (c .reply)) (k .answer ∙ ap (λ y. y .answer) is)
+          ∙ ap (toldAs c (ran s c .answer)) (k .buffer ∙ ap (λ y. y .buffer) is))
+          ∙ ap (λ ys. toldAs c (ran s c .answer) (ran s c .buffer) ∷ ys) (more .same);
+    }
+
+pub demand-3-exported : Demand3Exported
+demand-3-exported words e calls h =
+    let r = runs words calls fresh e h in
+    subst (λ y. Kept (record { session = y; told = toldBy calls })) (sym (r .last))
+    (subst (λ t. Kept (record { session = leaves fresh (run fresh (inputs calls)); told = t })) (sym (r .same)) (demand-3 (inputs calls)))

@@ -1,0 +1,15 @@
+-- `karramotx::told::blank` meets its contract: the type is put into a message that has nothing. Assumes nothing.
+use borrow.Author.Needs.{needs}
+use mathlib.Core.Path.{refl}
+use Rattle.karramotx.proofs.told.blank.Statement.{statement}
+use Rattle.karramotx.proofs.told.blank.Tie as tie
+
+returns : tie.Need-returns
+returns c = rw (c .refused .ensures) refl
+
+pub blank-spec : {M : Type 1} → statement M
+blank-spec =
+    tie.close
+    (tie.spec
+    (λ c κs. search needs)
+    returns)

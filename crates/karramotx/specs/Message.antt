@@ -1,0 +1,50 @@
+-- A frame as one struct. What its message does not have is 0, absent or none.
+use Prim.Native.Nat.{ℕ}
+use Rattle.protocol.specs.Reason as Reason
+use Rattle.args.specs.Arguments.{noArguments}
+use Rattle.message.specs.Request.{noOptional, noPart, kindOf, stmtOf, cursorOf, rowsOf, compactOf, operationOf, bodyOf, argsOf}
+use Rattle.message.specs.declared.request.Frame.{Frame}
+use Rattle.message.specs.declared.request.Frame.the-variants.{NotAllThere, BadLength, UnknownType, BadPayload, Good}
+use Rattle.karramotx.specs.declared.told.Message.{Message}
+
+-- a message of this type with nothing in it
+abbrev pub bare : ℕ → ℕ → ℕ → Message
+bare reason used kind =
+    record {
+      reason = reason;
+      used = used;
+      kind = kind;
+      stmt = 0;
+      cursor = 0;
+      rows = noOptional;
+      compact = noOptional;
+      operation = 0;
+      body = noPart;
+      args = noArguments 0 0;
+    }
+
+abbrev pub blank : ℕ → ℕ → Message
+blank used kind = bare Reason.accepted used kind
+
+-- a frame refused by itself
+abbrev pub refused : ℕ → ℕ → Message
+refused reason used = bare reason used 0
+
+abbrev pub messageOf : Frame → Message
+messageOf NotAllThere = refused Reason.notAllThere 0
+messageOf BadLength = refused Reason.badLength 0
+messageOf (UnknownType used) = refused Reason.unknownType used
+messageOf (BadPayload used kind) = refused Reason.badPayload used
+messageOf (Good used q) =
+    record {
+      reason = Reason.accepted;
+      used = used;
+      kind = kindOf q;
+      stmt = stmtOf q;
+      cursor = cursorOf q;
+      rows = rowsOf q;
+      compact = compactOf q;
+      operation = operationOf q;
+      body = bodyOf q;
+      args = argsOf q;
+    }

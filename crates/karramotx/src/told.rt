@@ -1,0 +1,135 @@
+// A frame as one struct, for hosts that have no enum.
+ghost use mathlib.Core.Path.{_≡_};
+ghost use Rattle.message.specs.declared.request.Frame.{Frame};
+ghost use Rattle.karramotx.specs.Message.{blank, messageOf, refused};
+use args::arguments::Arguments;
+use args::part::Part;
+use message::request::Frame;
+use message::request::Optional;
+use message::request::Request;
+use protocol::client;
+use protocol::reason;
+
+// `reason` is 0, or the number by which the frame is refused by itself, and then all else but `used` is 0. `used` is
+// the frame's length, 0 where it is refused 1 or 2. What the message's type does not have is 0 or absent.
+#[repr(C)]
+pub struct Message {
+    pub reason: u64,
+    pub used: usize,
+    // The message type of the frame.
+    pub kind: u64,
+    pub stmt: u64,
+    pub cursor: u64,
+    // fetch_rows and compact_metadata.
+    pub rows: Optional,
+    pub compact: Optional,
+    // The type of a Prepare's statement, and the chosen body.
+    pub operation: u64,
+    pub body: Part,
+    pub args: Arguments,
+}
+
+pub fn message_of(frame: Frame) -> Message
+    ensures { λ r. ⌜ r ≡ messageOf frame ⌝ }
+{
+    match frame {
+        Frame::NotAllThere => refused(reason::NOT_ALL_THERE, 0),
+        Frame::BadLength => refused(reason::BAD_LENGTH, 0),
+        Frame::UnknownType { used } => refused(reason::UNKNOWN_TYPE, used),
+        Frame::BadPayload { used, kind: _ } => refused(reason::BAD_PAYLOAD, used),
+        Frame::Good { used, request } => told(used, request),
+    }
+}
+
+fn refused(reason: u64, used: usize) -> Message
+    ensures { λ r. ⌜ r ≡ refused reason used ⌝ }
+{
+    Message {
+        reason,
+        used,
+        kind: 0,
+        stmt: 0,
+        cursor: 0,
+        rows: Optional {
+            present: false,
+            value: 0,
+        },
+        compact: Optional {
+            present: false,
+            value: 0,
+        },
+        operation: 0,
+        body: Part { start: 0, len: 0 },
+        args: Arguments::none(0, 0),
+    }
+}
+
+// A message of this type with nothing in it yet.
+fn blank(used: usize, kind: u64) -> Message
+    ensures { λ r. ⌜ r ≡ blank used kind ⌝ }
+{
+    let mut m = refused(reason::ACCEPTED, used);
+    m.kind = kind;
+    m
+}
+
+// A request, by what its message has.
+fn told(used: usize, request: Request) -> Message
+    ensures { λ r. ⌜ r ≡ messageOf (Frame.Good used request) ⌝ }
+{
+    match request {
+        Request::Reset => blank(used, client::RESET),
+        Request::SessionClose => blank(used, client::SESSION_CLOSE),
+        Request::Prepare(p) => {
+            let body = p.body;
+            let args = p.args;
+            let mut m = blank(used, client::PREPARE);
+            m.stmt = p.stmt as u64;
+            m.operation = p.operation;
+            m.body = body;
+            m.args = args;
+            m
+        }
+        Request::Execute(x) => {
+            let compact = x.compact;
+            let args = x.args;
+            let mut m = blank(used, client::EXECUTE);
+            m.stmt = x.stmt as u64;
+            m.compact = compact;
+            m.args = args;
+            m
+        }
+        Request::Deallocate(stmt) => {
+            let mut m = blank(used, client::DEALLOCATE);
+            m.stmt = stmt as u64;
+            m
+        }
+        Request::Open(o) => {
+            let x = o.execute;
+            let rows = o.rows;
+            let body = o.body;
+            let compact = x.compact;
+            let args = x.args;
+            let mut m = blank(used, client::OPEN);
+            m.stmt = x.stmt as u64;
+            m.cursor = o.cursor as u64;
+            m.rows = rows;
+            m.compact = compact;
+            m.body = body;
+            m.args = args;
+            m
+        }
+        Request::Close(cursor) => {
+            let mut m = blank(used, client::CLOSE);
+            m.cursor = cursor as u64;
+            m
+        }
+        Request::Fetch(f) => {
+            let rows = f.rows;
+            let mut m = blank(used, client::FETCH);
+            m.cursor = f.cursor as u64;
+            m.rows = rows;
+            m
+        }
+    }
+}

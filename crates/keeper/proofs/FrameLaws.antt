@@ -1,0 +1,148 @@
+-- A step on a frame that holds no request, or with too short a buffer; and the three clauses of a step's contract. Assumes
+-- nothing.
+use Prim.Native.Nat.{ℕ, _≤_, _<_}
+use native.Mathlib.Nat.{le-trans}
+use native.Mathlib.Omega.{arith}
+use mathlib.Core.Bool.{Bool, true, false, cond}
+use mathlib.Core.Path.{_≡_, refl, sym, ap, subst, _∙_}
+use mathlib.Core.List.{List, []}
+use lib.ListN.{length}
+use lib.Dec.{eqb, leb}
+use borrow.Author.Tests.{ne-eqb, lt-leb, lt-ltb, le-ltb}
+use Rattle.varint.specs.Put.{written}
+use Rattle.protocol.specs.Reason as Reason
+use Rattle.message.specs.Frame.{frameOf, usedOf}
+use Rattle.message.specs.declared.request.Request.{Request}
+use Rattle.message.specs.declared.request.Frame.{Frame}
+use Rattle.message.specs.declared.request.Frame.the-variants.{NotAllThere, BadLength, UnknownType, BadPayload, Good}
+use Rattle.session.specs.Session.{Session, isClosed}
+use Rattle.reply.specs.Reply.{replyBytes}
+use Rattle.reply.specs.ReplyRules.{minBuffer}
+use Rattle.reply.specs.declared.Reply.{Reply}
+use Rattle.rules.specs.declared.Answer.{Answer}
+use Rattle.rules.specs.declared.Report.{Report}
+use Rattle.rules.specs.Refusal.{lookReason, reportReason, stepReason}
+use Rattle.rules.specs.Read.{Read, ReadIn}
+use Rattle.rules.specs.Decision.{refusalOf, refusedReply, refused, decisionOf}
+use Rattle.rules.specs.Step.{Step, tooShort, stepBy, stepOn}
+use Rattle.rules.proofs.ReadLaws.{frames-are-read}
+use Rattle.rules.proofs.StepLaws.{error-fits, written-none}
+use Rattle.keeper.specs.private.Reasons.{closedOr}
+use Rattle.keeper.specs.private.Does.{Does, Readable, Answers, refusing, noNames, numberOf, kindNamed, errorOf}
+
+-- ---- nothing is read
+
+module _ (s : Session) (r : Report) (b : List ℕ) where
+  pub short-step : (x : Frame) → length b < minBuffer → Does (stepOn s x r b) (refusing 0 Reason.noRoom) s b
+  unfolding stepOn
+  short-step x h = rw (lt-ltb (length b) minBuffer h) (record { answered = refl; kept = refl; replied = refl })
+
+  pub cut-step : minBuffer ≤ length b → Does (stepOn s NotAllThere r b) (refusing 0 Reason.notAllThere) s b
+  unfolding stepOn decisionOf lookReason reportReason refusedReply replyBytes
+  cut-step h = rw (le-ltb (length b) minBuffer h) (record { answered = refl; kept = refl; replied = sym (written-none b) })
+
+  pub length-step : minBuffer ≤ length b → Does (stepOn s BadLength r b) (refusing 0 Reason.badLength) s b
+  unfolding stepOn decisionOf lookReason reportReason refusedReply replyBytes
+  length-step h = rw (le-ltb (length b) minBuffer h) (record { answered = refl; kept = refl; replied = sym (written-none b) })
+
+-- ---- a frame that is refused by itself, 4 first
+
+module _ (s : Session) (x : Frame) (m : ℕ) (r : Report) (b : List ℕ) (read : ReadIn x)
+    (reasons : stepReason s x r ≡ closedOr (isClosed s) m) (late : Reason.closed ≤ closedOr (isClosed s) m)
+    (nameless : Reply.Error (refusalOf x r (closedOr (isClosed s) m)) ≡ Reply.Error (errorOf (closedOr (isClosed s) m) noNames r))
+    (room : minBuffer ≤ length b) where
+  abbrev n : ℕ
+  n = closedOr (isClosed s) m
+
+  own-room : length (replyBytes (Reply.Error (errorOf n noNames r))) ≤ length b
+  own-room =
+      le-trans
+      (subst (λ y. length (replyBytes y) ≤ minBuffer) nameless
+      (subst (λ (k : ℕ). length (replyBytes (Reply.Error (refusalOf x r k))) ≤ minBuffer) reasons (error-fits s x r read)))
+      room
+
+  own-decision : decisionOf s x r ≡ refused s n (Reply.Error (errorOf n noNames r))
+  unfolding decisionOf refusedReply
+  own-decision =
+      rw (reasons, ne-eqb n 0 (λ e. omega (arith, late)), lt-leb n Reason.noRoom (omega (arith, late))) (ap (refused s n) nameless)
+
+  own-step : stepOn s x r b ≡ stepBy x b (refused s n (Reply.Error (errorOf n noNames r)))
+  unfolding stepOn
+  own-step = rw (le-ltb (length b) minBuffer room) (ap (stepBy x b) own-decision)
+
+  own-refuses : {a : Answer} {after : List ℕ} → Answers (refusing (usedOf x) n) (Reply.Error (errorOf n noNames r)) b a after → Does (stepOn s x r b) a s after
+  own-refuses h =
+      record {
+        answered = h .answered ∙ ap (λ y. y .answer) (sym own-step);
+        kept = ap (λ y. y .session) (sym own-step);
+        replied = h .stored ∙ ap (λ y. y .buffer) (sym own-step);
+      }
+
+module _ (s : Session) (used : ℕ) (r : Report) (b : List ℕ) (room : minBuffer ≤ length b) where
+  unknown-reason : stepReason s (UnknownType used) r ≡ closedOr (isClosed s) Reason.unknownType
+  unfolding lookReason reportReason
+  unknown-reason = go (isClosed s)
+    where
+      go : (c : Bool) → cond (eqb (cond c Reason.closed Reason.unknownType) 0) 0 (cond c Reason.closed Reason.unknownType) ≡ closedOr c Reason.unknownType
+      go true = refl
+      go false = refl
+
+  payload-reason : (kind : ℕ) → stepReason s (BadPayload used kind) r ≡ closedOr (isClosed s) Reason.badPayload
+  unfolding lookReason reportReason
+  payload-reason kind = go (isClosed s)
+    where
+      go : (c : Bool) → cond (eqb (cond c Reason.closed Reason.badPayload) 0) 0 (cond c Reason.closed Reason.badPayload) ≡ closedOr c Reason.badPayload
+      go true = refl
+      go false = refl
+
+  late-by : (c : Bool) (m : ℕ) → Reason.closed ≤ m → Reason.closed ≤ closedOr c m
+  late-by true m h = omega arith
+  late-by false m h = h
+
+  unknown-nameless : (c : Bool) →
+      Reply.Error (refusalOf (UnknownType used) r (closedOr c Reason.unknownType)) ≡ Reply.Error (errorOf (closedOr c Reason.unknownType) noNames r)
+  unfolding numberOf kindNamed
+  unknown-nameless true = refl
+  unknown-nameless false = refl
+
+  payload-nameless : (kind : ℕ) (c : Bool) →
+      Reply.Error (refusalOf (BadPayload used kind) r (closedOr c Reason.badPayload)) ≡ Reply.Error (errorOf (closedOr c Reason.badPayload) noNames r)
+  unfolding numberOf kindNamed
+  payload-nameless kind true = refl
+  payload-nameless kind false = refl
+
+  pub unknown-room : {n : ℕ} → n ≡ closedOr (isClosed s) Reason.unknownType → length (replyBytes (Reply.Error (errorOf n noNames r))) ≤ length b
+  unknown-room e =
+      subst (λ (k : ℕ). length (replyBytes (Reply.Error (errorOf k noNames r))) ≤ length b) (sym e)
+      (own-room s (UnknownType used) Reason.unknownType r b tt unknown-reason (late-by (isClosed s) Reason.unknownType (omega arith)) (unknown-nameless (isClosed s)) room)
+
+  pub unknown-refuses : {n : ℕ} {a : Answer} {after : List ℕ} → n ≡ closedOr (isClosed s) Reason.unknownType →
+      Answers (refusing used n) (Reply.Error (errorOf n noNames r)) b a after → Does (stepOn s (UnknownType used) r b) a s after
+  unknown-refuses {n} {a} {after} e h =
+      own-refuses s (UnknownType used) Reason.unknownType r b tt unknown-reason (late-by (isClosed s) Reason.unknownType (omega arith)) (unknown-nameless (isClosed s)) room
+      (subst (λ (k : ℕ). Answers (refusing used k) (Reply.Error (errorOf k noNames r)) b a after) e h)
+
+  pub payload-room : (kind : ℕ) {n : ℕ} → n ≡ closedOr (isClosed s) Reason.badPayload → length (replyBytes (Reply.Error (errorOf n noNames r))) ≤ length b
+  payload-room kind e =
+      subst (λ (k : ℕ). length (replyBytes (Reply.Error (errorOf k noNames r))) ≤ length b) (sym e)
+      (own-room s (BadPayload used kind) Reason.badPayload r b tt (payload-reason kind) (late-by (isClosed s) Reason.badPayload (omega arith)) (payload-nameless kind (isClosed s)) room)
+
+  pub payload-refuses : (kind : ℕ) {n : ℕ} {a : Answer} {after : List ℕ} → n ≡ closedOr (isClosed s) Reason.badPayload →
+      Answers (refusing used n) (Reply.Error (errorOf n noNames r)) b a after → Does (stepOn s (BadPayload used kind) r b) a s after
+  payload-refuses kind {n} {a} {after} e h =
+      own-refuses s (BadPayload used kind) Reason.badPayload r b tt (payload-reason kind) (late-by (isClosed s) Reason.badPayload (omega arith)) (payload-nameless kind (isClosed s)) room
+      (subst (λ (k : ℕ). Answers (refusing used k) (Reply.Error (errorOf k noNames r)) b a after) e h)
+
+-- ---- what was read
+
+-- what a step comes to on the frame that was read
+pub does-read : (s : Session) (frame : List ℕ) (r : Report) (b : List ℕ) {x y : Frame} {a : Answer} {s' : Session} {after : List ℕ} → x ≡ frameOf frame → x ≡ y →
+    Does (stepOn s y r b) a s' after → Does (stepOn s (frameOf frame) r b) a s' after
+does-read s frame r b {x} {y} {a} {s'} {after} e f h = subst (λ z. Does (stepOn s z r b) a s' after) (sym f ∙ e) h
+
+pub readable : (frame b : List ℕ) {x : Frame} {used : ℕ} {q : Request} → x ≡ frameOf frame → x ≡ Good used q → minBuffer ≤ length b → Readable q b
+readable frame b e f room = record { room = room; read = subst ReadIn (sym e ∙ f) (frames-are-read frame) }
+
+-- an answer that was made so
+pub sym-answer : {x : Step} {a a' : Answer} {s : Session} {after : List ℕ} → a ≡ a' → Does x a' s after → Does x a s after
+sym-answer {x} {a} {a'} {s} {after} e h = record { answered = e ∙ h .answered; kept = h .kept; replied = h .replied }

@@ -1,0 +1,144 @@
+-- A look, case by case: refused, or the work that the request wants. Assumes nothing.
+use Prim.Native.Nat.{ℕ}
+use native.Mathlib.Omega.{arith}
+use mathlib.Core.Bool.{Bool, true, false, cond, not}
+use mathlib.Core.Path.{_≡_, refl, sym, ap, _∙_}
+use mathlib.Core.List.{List}
+use lib.Dec.{eqb}
+use borrow.Author.Tests.{eq-eqb, ne-eqb}
+use Rattle.args.proofs.PartLaws.{yes, no as without}
+use Rattle.protocol.specs.Reason as Reason
+use Rattle.message.specs.Frame.{frameOf}
+use Rattle.message.specs.declared.request.Prepare.{Prepare}
+use Rattle.message.specs.declared.request.Execute.{Execute}
+use Rattle.message.specs.declared.request.Open.{Open}
+use Rattle.message.specs.declared.request.Fetch.{Fetch}
+use Rattle.message.specs.declared.request.Request.{Request}
+use Rattle.message.specs.declared.request.Frame.{Frame}
+use Rattle.message.specs.declared.request.Frame.the-variants.{NotAllThere, BadLength, UnknownType, BadPayload, Good}
+use Rattle.session.specs.declared.Cursor.{Cursor}
+use Rattle.session.specs.Session.{Session, isClosed}
+use Rattle.session.specs.Tables.{liveCursor}
+use Rattle.rules.specs.declared.Look.{Look}
+use Rattle.rules.specs.Report.{noWork, toPrepare, toExecute, toOpen, toFetch}
+use Rattle.rules.specs.Refusal.{lookReason}
+use Rattle.rules.specs.Rows.{firstRow, fetchCount}
+use Rattle.rules.specs.Decision.{looked, lookRefused, lookBy, lookOf}
+use Rattle.rules.specs.Step.{lookAt}
+use Rattle.keeper.specs.private.Reasons.{requestReason, closedOr, lookWork, fetchReason}
+use Rattle.keeper.proofs.RequestLaws.{fetch-looks}
+
+-- ---- a frame that holds no request
+
+module _ (s : Session) where
+  pub cut-look : lookRefused Reason.notAllThere ≡ lookOf s NotAllThere
+  unfolding lookOf lookReason
+  cut-look = refl
+
+  pub length-look : lookRefused Reason.badLength ≡ lookOf s BadLength
+  unfolding lookOf lookReason
+  length-look = refl
+
+  pub unknown-look : (used : ℕ) {n : ℕ} → n ≡ closedOr (isClosed s) Reason.unknownType → lookRefused n ≡ lookOf s (UnknownType used)
+  unfolding lookOf lookReason
+  unknown-look used e = ap lookRefused e ∙ go (isClosed s)
+    where
+      go : (c : Bool) → lookRefused (closedOr c Reason.unknownType) ≡ lookBy s (UnknownType used) (cond c Reason.closed Reason.unknownType)
+      go true = refl
+      go false = refl
+
+  pub payload-look : (used kind : ℕ) {n : ℕ} → n ≡ closedOr (isClosed s) Reason.badPayload → lookRefused n ≡ lookOf s (BadPayload used kind)
+  unfolding lookOf lookReason
+  payload-look used kind e = ap lookRefused e ∙ go (isClosed s)
+    where
+      go : (c : Bool) → lookRefused (closedOr c Reason.badPayload) ≡ lookBy s (BadPayload used kind) (cond c Reason.closed Reason.badPayload)
+      go true = refl
+      go false = refl
+
+  -- a look does not tell how long the frame is
+  pub look-any : (used : ℕ) (q : Request) → lookOf s (Good 0 q) ≡ lookOf s (Good used q)
+  unfolding lookOf lookReason
+  look-any used q = refl
+
+-- what was read
+pub look-read : (s : Session) (frame : List ℕ) {x y : Frame} {l : Look} → x ≡ frameOf frame → x ≡ y → l ≡ lookOf s y → l ≡ lookAt s frame
+unfolding lookAt
+look-read s frame e f g = g ∙ ap (lookOf s) (sym f ∙ e)
+
+-- ---- a request
+
+module _ (s : Session) (q : Request) where
+  pub closed-look : isClosed s ≡ true → lookRefused Reason.closed ≡ lookOf s (Good 0 q)
+  unfolding lookOf lookReason
+  closed-look e = sym (rw e)
+
+  pub found-look : isClosed s ≡ false → {n : ℕ} → n ≡ requestReason s q → (l : Look) → l ≡ looked s q →
+      cond (eqb n Reason.accepted) l (lookRefused n) ≡ lookOf s (Good 0 q)
+  unfolding lookOf lookReason requestReason
+  found-look e {n} f l g =
+      ap (λ (k : ℕ). cond (eqb k Reason.accepted) l (lookRefused k)) f
+      ∙ ap (λ y. cond (eqb (requestReason s q) Reason.accepted) y (lookRefused (requestReason s q))) g
+      ∙ sym (rw e)
+
+  pub as-look : {p : Request} {l : Look} → q ≡ p → l ≡ lookOf s (Good 0 p) → l ≡ lookOf s (Good 0 q)
+  as-look e g = g ∙ ap (λ y. lookOf s (Good 0 y)) (sym e)
+
+-- the work of each request
+module _ (s : Session) where
+  pub reset-wants : lookWork noWork ≡ looked s Request.Reset
+  unfolding firstRow
+  reset-wants = refl
+
+  pub session-close-wants : lookWork noWork ≡ looked s Request.SessionClose
+  unfolding firstRow
+  session-close-wants = refl
+
+  pub prepare-wants : (p : Prepare) → lookWork toPrepare ≡ looked s (Request.Prepare p)
+  unfolding firstRow
+  prepare-wants p = refl
+
+  pub execute-wants : (x : Execute) → lookWork toExecute ≡ looked s (Request.Execute x)
+  unfolding firstRow
+  execute-wants x = refl
+
+  pub deallocate-wants : (id : ℕ) → lookWork noWork ≡ looked s (Request.Deallocate id)
+  unfolding firstRow
+  deallocate-wants id = refl
+
+  pub open-wants : (o : Open) → lookWork toOpen ≡ looked s (Request.Open o)
+  unfolding firstRow
+  open-wants o = refl
+
+  pub close-wants : (id : ℕ) → lookWork noWork ≡ looked s (Request.Close id)
+  unfolding firstRow
+  close-wants id = refl
+
+-- ---- a Fetch
+
+module _ (s : Session) (f : Fetch) (unclosed : isClosed s ≡ false) {c : Cursor} {n : ℕ} (found : c ≡ liveCursor s (f .cursor)) (e : n ≡ fetchReason c) where
+  abbrev wanted : Look
+  wanted = record { reason = Reason.accepted; work = toFetch; first = c .sent; count = fetchCount c (f .rows) }
+
+  wants : wanted ≡ looked s (Request.Fetch f)
+  unfolding firstRow
+  wants = ap (λ y. record { reason = Reason.accepted; work = toFetch; first = y .sent; count = fetchCount y (f .rows) }) found
+
+  by-reason : cond (eqb n Reason.accepted) wanted (lookRefused n) ≡ lookOf s (Good 0 (Request.Fetch f))
+  by-reason = found-look s (Request.Fetch f) unclosed (fetch-looks s f found e) wanted wants
+
+  pub fetch-refused : (n ≡ 0 → ⊥) → lookRefused n ≡ lookOf s (Good 0 (Request.Fetch f))
+  fetch-refused h = without wanted (lookRefused n) (ne-eqb n 0 h) ∙ by-reason
+
+  pub fetch-wanted : n ≡ 0 → {count : ℕ} → count ≡ fetchCount c (f .rows) →
+      record { reason = Reason.accepted; work = toFetch; first = c .sent; count = count } ≡ lookOf s (Good 0 (Request.Fetch f))
+  fetch-wanted h k =
+      ap (λ (i : ℕ). record { reason = Reason.accepted; work = toFetch; first = c .sent; count = i }) k
+      ∙ yes wanted (lookRefused n) (eq-eqb n 0 h) ∙ by-reason
+
+-- ---- found or refused
+
+pub found-not : (n work : ℕ) → (n ≡ 0 → ⊥) → lookRefused n ≡ cond (eqb n Reason.accepted) (lookWork work) (lookRefused n)
+found-not n work h = without (lookWork work) (lookRefused n) (ne-eqb n 0 h)
+
+pub found-work : (n work : ℕ) → n ≡ 0 → lookWork work ≡ cond (eqb n Reason.accepted) (lookWork work) (lookRefused n)
+found-work n work h = yes (lookWork work) (lookRefused n) (eq-eqb n 0 h)

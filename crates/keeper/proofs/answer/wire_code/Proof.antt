@@ -1,0 +1,17 @@
+-- `keeper::answer::wire_code` meets its contract: a failure has the engine's code, any other the table's. Assumes nothing.
+use borrow.Author.Needs.{needs}
+use mathlib.Core.Path.{_∙_}
+use Rattle.keeper.proofs.AnswerLaws.{code-own, code-listed}
+use Rattle.keeper.proofs.answer.wire_code.Statement.{statement}
+use Rattle.keeper.proofs.answer.wire_code.Tie as tie
+
+returns : tie.Need-returns
+returns c = let a = c .before .args in code-own (a .report) (a .reason) (c .if1 .taken)
+
+returns-2 : tie.Need-returns-2
+returns-2 c =
+    let a = c .before .before .args in
+    c .code-of .ensures ∙ code-listed (a .report) (a .reason) (c .before .if1 .left)
+
+pub wire-code-spec : {M : Type 1} → statement M
+wire-code-spec = tie.close (tie.spec returns (λ c κs. search needs) returns-2)

@@ -1,0 +1,20 @@
+-- The test is the session's closed flag. Assumes nothing.
+use mathlib.Core.Path.{sym, _∙_}
+use borrow.Author.Needs.{needs}
+use Rattle.protocol.specs.Reason as Reason
+use Rattle.args.proofs.PartLaws.{yes, no as without}
+use Rattle.keeper.proofs.refusal.closed_or.Statement.{statement}
+use Rattle.keeper.proofs.refusal.closed_or.Tie as tie
+
+returns : tie.Need-returns
+returns c =
+    let w = c .before in
+    yes Reason.closed (w .before .args .other) (sym (w .is-closed .ensures) ∙ c .if1 .taken)
+
+returns-2 : tie.Need-returns-2
+returns-2 c =
+    let w = c .before in
+    without Reason.closed (w .before .args .other) (sym (w .is-closed .ensures) ∙ c .if1 .left)
+
+pub closed-or-spec : {M : Type 1} → statement M
+closed-or-spec = tie.close (tie.spec (λ c κs. search needs) returns returns-2)

@@ -1,0 +1,22 @@
+-- The parts are those of `sendsNext`. Assumes nothing.
+use mathlib.Core.Bool.{false}
+use Rattle.keeper.proofs.RowsLaws.{sends-with}
+use borrow.Author.Needs.{needs}
+use Rattle.keeper.proofs.rows.fetched.Statement.{statement}
+use Rattle.keeper.proofs.rows.fetched.Tie as tie
+
+returns : tie.Need-returns
+returns c =
+    let a = c .before .before .before .args in
+    sends-with false (a .cursor .sent) (a .count) (c .end-of .ensures)
+
+pub fetched-spec : {M : Type 1} → statement M
+fetched-spec =
+    tie.close
+    (tie.spec
+    (λ c. search needs)
+    (λ c. search needs)
+    (λ c. search needs)
+    (λ c. search needs)
+    (λ c κs. search needs)
+    returns)

@@ -1,0 +1,17 @@
+-- The test is refusedHead's.
+use borrow.Author.Tests.{eq-eqb, ne-eqb}
+use Rattle.protocol.specs.Reason as Reason
+use Rattle.args.proofs.PartLaws.{yes, no as without}
+use Rattle.message.specs.declared.request.Frame.{Frame}
+use Rattle.message.proofs.frame.refused_head.Statement.{statement}
+use Rattle.message.proofs.frame.refused_head.Tie as tie
+
+returns : tie.Need-returns
+returns c = yes Frame.BadLength Frame.NotAllThere (eq-eqb (c .before .args .reason) Reason.badLength (c .if1 .taken))
+
+returns-2 : tie.Need-returns-2
+returns-2 c =
+    without Frame.BadLength Frame.NotAllThere (ne-eqb (c .before .args .reason) Reason.badLength (c .if1 .left))
+
+pub refused-head-spec : {M : Type 1} → statement M
+refused-head-spec = tie.close (tie.spec returns returns-2)

@@ -1,0 +1,36 @@
+// What every payload needs: its place, ids of 32 bits, optional fields.
+ghost use mathlib.Core.Path.{_≡_};
+ghost use Rattle.args.specs.Part.{low32};
+ghost use Rattle.message.specs.Payload.{optionalBy, truthOf};
+use crate::request::Optional;
+
+// Where a payload begins, behind the length and the type.
+pub const PAYLOAD: usize = 5;
+
+// The lowest 32 bits.
+pub(crate) fn low(v: u64) -> u32
+    ensures { λ r. ⌜ r ≡ low32 v ⌝ }
+{
+    (v % 0x1_0000_0000) as u32
+}
+
+// An optional field: whether it occurs, and its value.
+pub(crate) fn read_optional(has: bool, value: u64) -> Optional
+    ensures { λ r. ⌜ r ≡ optionalBy has value ⌝ }
+{
+    Optional {
+        present: has,
+        value,
+    }
+}
+
+// A bool as 0 or 1.
+pub(crate) fn read_truth(o: Optional) -> Optional
+    ensures { λ r. ⌜ r ≡ truthOf o ⌝ }
+{
+    let mut t = o;
+    if o.value != 0 {
+        t.value = 1;
+    }
+    t
+}

@@ -1,0 +1,93 @@
+// What a client message asks, a case for each message; and what a frame is by itself.
+ghost use mathlib.Core.Path.{_≡_};
+ghost use Rattle.message.specs.Request.{argsOf, bodyOf};
+use args::arguments::Arguments;
+use args::part::Part;
+
+// An optional field: whether it is present, and its value (0 where it is not).
+#[repr(C)]
+pub struct Optional {
+    pub present: bool,
+    pub value: u64,
+}
+
+// A statement to prepare. `operation` is the type of its body, which stands at `body`.
+pub struct Prepare {
+    pub stmt: u32,
+    pub operation: u64,
+    pub body: Part,
+    pub args: Arguments,
+}
+
+// A statement to run, also the one of an Open. `compact` is compact_metadata.
+pub struct Execute {
+    pub stmt: u32,
+    pub compact: Optional,
+    pub args: Arguments,
+}
+
+// A cursor to open on the statement that `execute` runs; `rows` is fetch_rows, `body` is where the Execute stands.
+pub struct Open {
+    pub cursor: u32,
+    pub rows: Optional,
+    pub body: Part,
+    pub execute: Execute,
+}
+
+// Rows to send of a cursor; `rows` is fetch_rows.
+pub struct Fetch {
+    pub cursor: u32,
+    pub rows: Optional,
+}
+
+pub enum Request {
+    Reset,
+    SessionClose,
+    Prepare(Prepare),
+    Execute(Execute),
+    Deallocate(u32),
+    Open(Open),
+    Close(u32),
+    Fetch(Fetch),
+}
+
+// What the bytes of a frame hold. `used` is the frame's length.
+pub enum Frame {
+    NotAllThere,
+    BadLength,
+    UnknownType { used: usize },
+    // `kind` is the message type.
+    BadPayload { used: usize, kind: u64 },
+    Good { used: usize, request: Request },
+}
+
+// The chosen body: a Prepare's body, an Open's Execute.
+pub fn body_of(q: Request) -> Part
+    ensures { λ r. ⌜ r ≡ bodyOf q ⌝ }
+{
+    match q {
+        Request::Reset => Part { start: 0, len: 0 },
+        Request::SessionClose => Part { start: 0, len: 0 },
+        Request::Prepare(p) => p.body,
+        Request::Execute(_) => Part { start: 0, len: 0 },
+        Request::Deallocate(_) => Part { start: 0, len: 0 },
+        Request::Open(o) => o.body,
+        Request::Close(_) => Part { start: 0, len: 0 },
+        Request::Fetch(_) => Part { start: 0, len: 0 },
+    }
+}
+
+pub fn args_of(q: Request) -> Arguments
+    ensures { λ r. ⌜ r ≡ argsOf q ⌝ }
+{
+    match q {
+        Request::Reset => Arguments::none(0, 0),
+        Request::SessionClose => Arguments::none(0, 0),
+        Request::Prepare(p) => p.args,
+        Request::Execute(x) => x.args,
+        Request::Deallocate(_) => Arguments::none(0, 0),
+        Request::Open(o) => o.execute.args,
+        Request::Close(_) => Arguments::none(0, 0),
+        Request::Fetch(_) => Arguments::none(0, 0),
+    }
+}

@@ -1,0 +1,3 @@
+pub mod Client
+pub mod Reason
+pub mod Server

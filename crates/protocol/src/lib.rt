@@ -1,0 +1,4 @@
+// The numbers of the protocol, each under its name.
+pub mod client;
+pub mod reason;
+pub mod server;

@@ -1,0 +1,11 @@
+-- Words that are all 0 hold the fresh session. Assumes nothing.
+use Rattle.session.specs.Words.{wordCount}
+use Rattle.session.proofs.WordLaws.{holds-fresh}
+use Rattle.session.proofs.Session.fresh.Statement.{statement}
+use Rattle.session.proofs.Session.fresh.Tie as tie
+
+returns : tie.Need-returns
+returns c = holds-fresh wordCount
+
+pub fresh-spec : {M : Type 1} → statement M
+fresh-spec = tie.close (tie.spec returns)

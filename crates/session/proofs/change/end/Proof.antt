@@ -1,0 +1,48 @@
+-- The cursors before the place that pass have ended; the others are as they were. Assumes nothing.
+use Prim.Native.Nat.{_-_}
+use native.Mathlib.Omega.{arith}
+use mathlib.Core.Logic.{⊎-elim}
+use mathlib.Core.Path.{sym, _∙_}
+use borrow.Author.Needs.{needs}
+use Rattle.session.specs.Entry.{passes}
+use Rattle.session.specs.Tables.{maxCursors}
+use Rattle.session.proofs.ChangeLaws.{Ending, begins, all-ended, ends-it, leaves-it}
+use Rattle.session.proofs.change.end.Statement.{statement}
+use Rattle.session.proofs.change.end.Tie as tie
+
+abbrev Inv-loop : tie.InvT-loop
+Inv-loop words₀ which i₀ words i = Ending (passes which) words₀ i words
+
+abbrev μ-loop : tie.MeasureT-loop
+μ-loop words₀ which i₀ words i = maxCursors - i
+
+loop-holds : tie.Need-loop-holds Inv-loop μ-loop
+loop-holds c = begins (passes (c .args .which)) (c .args .words .now)
+
+loop-again : tie.Need-loop-again Inv-loop μ-loop
+loop-again c =
+    let l = c .before .before .before in
+    let state = l .before .loop .inv in
+    let inside = l .loop-test .taken in
+    let passing = sym (c .before .passes .ensures) in
+    ⊎-elim
+    (λ w. rw (w .3) (ends-it state inside _ (passing ∙ w .0 .taken) (w .2 .ensures)))
+    (λ w. rw (w .1) (leaves-it state inside (passing ∙ w .0 .left)))
+    (c .if1 .came)
+
+returns : tie.Need-returns Inv-loop μ-loop
+returns c = all-ended (c .before .loop .inv) (c .loop-test .left)
+
+pub end-spec : {M : Type 1} → statement M
+end-spec =
+    tie.close
+    (tie.spec
+    Inv-loop
+    μ-loop
+    loop-holds
+    (λ c κs. omega arith)
+    (λ c κs. search needs)
+    (λ c. omega arith)
+    (λ c. omega arith)
+    loop-again
+    returns)

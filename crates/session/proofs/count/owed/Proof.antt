@@ -1,0 +1,41 @@
+-- What was summed, and what is left to sum, is the whole. Assumes nothing.
+use Prim.Native.Nat.{_-_}
+use native.Mathlib.Omega.{arith}
+use Rattle.session.specs.Entry.{owes}
+use Rattle.session.specs.Sound.{maxNumber}
+use Rattle.session.specs.Tables.{maxCursors}
+use Rattle.session.specs.Words.{cursorIn}
+use Rattle.session.proofs.LoopLaws.{Summing, sums, sums-on, summed}
+use Rattle.session.proofs.count.owed.Statement.{statement}
+use Rattle.session.proofs.count.owed.Tie as tie
+
+abbrev Inv-loop : tie.InvT-loop
+Inv-loop words sum₀ i₀ sum i = Summing owes maxNumber (cursorIn words) maxCursors i sum
+
+abbrev μ-loop : tie.MeasureT-loop
+μ-loop words sum₀ i₀ sum i = maxCursors - i
+
+loop-holds : tie.Need-loop-holds Inv-loop μ-loop
+loop-holds c = sums
+
+loop-again : tie.Need-loop-again Inv-loop μ-loop
+loop-again c =
+    let l = c .before in
+    sums-on (l .before .loop .inv) (c .owes .result) (l .loop-test .taken) (c .owes .ensures .0) (c .owes .ensures .1)
+
+returns : tie.Need-returns Inv-loop μ-loop
+returns c = summed (c .before .loop .inv) (c .loop-test .left)
+
+pub owed-spec : {M : Type 1} → statement M
+owed-spec =
+    tie.close
+    (tie.spec
+    Inv-loop
+    μ-loop
+    loop-holds
+    (λ c κs. omega arith)
+    (λ c. omega (arith, c .owes .ensures .1, c .before .before .loop .inv .small))
+    (λ c. omega arith)
+    (λ c. omega arith)
+    loop-again
+    returns)

@@ -1,0 +1,45 @@
+-- What was counted, and what is left to count, is the whole. Assumes nothing.
+use Prim.Native.Nat.{_-_}
+use native.Mathlib.Omega.{arith}
+use mathlib.Core.Bool.{cond}
+use mathlib.Core.Path.{ap, _∙_}
+use borrow.Author.Needs.{needs}
+use Rattle.session.specs.Session.{flag}
+use Rattle.session.specs.Tables.{maxStmts}
+use Rattle.session.specs.Words.{stmtIn}
+use Rattle.session.proofs.LoopLaws.{Summing, sums, sums-on, summed}
+use Rattle.session.proofs.count.stmt_count.Statement.{statement}
+use Rattle.session.proofs.count.stmt_count.Tie as tie
+
+abbrev Inv-loop : tie.InvT-loop
+Inv-loop words sum₀ i₀ sum i = Summing (λ x. cond (flag (x .live)) 1 0) 1 (stmtIn words) maxStmts i sum
+
+abbrev μ-loop : tie.MeasureT-loop
+μ-loop words sum₀ i₀ sum i = maxStmts - i
+
+loop-holds : tie.Need-loop-holds Inv-loop μ-loop
+loop-holds c = sums
+
+loop-again : tie.Need-loop-again Inv-loop μ-loop
+loop-again c =
+    let l = c .before .before in
+    sums-on (l .before .loop .inv) (c .one .result) (l .loop-test .taken)
+    (c .one .ensures .0 ∙ ap (λ n. cond (flag n) 1 0) (c .before .stmt-live .ensures)) (c .one .ensures .1)
+
+returns : tie.Need-returns Inv-loop μ-loop
+returns c = summed (c .before .loop .inv) (c .loop-test .left)
+
+pub stmt-count-spec : {M : Type 1} → statement M
+stmt-count-spec =
+    tie.close
+    (tie.spec
+    Inv-loop
+    μ-loop
+    loop-holds
+    (λ c κs. omega arith)
+    (λ c κs. search needs)
+    (λ c. omega (arith, c .one .ensures .1, c .before .before .before .loop .inv .small))
+    (λ c. omega arith)
+    (λ c. omega arith)
+    loop-again
+    returns)

@@ -1,0 +1,28 @@
+-- Inside the table the entry is stored; past it nothing changes. Assumes nothing.
+use mathlib.Core.Path.{ap, _∙_}
+use borrow.Author.Needs.{needs}
+use Rattle.session.specs.Session.{withCursors}
+use Rattle.session.specs.Tables.{maxCursors}
+use Rattle.session.specs.Words.{cursorIn, sessionOf}
+use Rattle.session.proofs.PutLaws.{put-there, put-past}
+use Rattle.session.proofs.words.put_cursor.Statement.{statement}
+use Rattle.session.proofs.words.put_cursor.Tie as tie
+
+returns : tie.Need-returns
+returns c =
+    let x = c .before .before .before in
+    let a = x .before .args in
+    let w = a .words .now in
+    c .store-cursor .ensures
+    ∙ ap (withCursors (sessionOf w)) (put-there (cursorIn w) maxCursors (a .place) _ (x .index .ensures) (a .c))
+
+returns-2 : tie.Need-returns-2
+returns-2 c =
+    let x = c .before in
+    let a = x .before .args in
+    let w = a .words .now in
+    ap (withCursors (sessionOf w))
+    (put-past (cursorIn w) maxCursors (a .place) _ (x .index .ensures) (a .c) (c .if1 .left))
+
+pub put-cursor-spec : {M : Type 1} → statement M
+put-cursor-spec = tie.close (tie.spec (λ c κs. search needs) (λ c κs. search needs) returns returns-2)

@@ -1,0 +1,34 @@
+-- The words read are the entry that the table has there. Assumes nothing.
+use borrow.Author.Needs.{needs}
+use Rattle.session.specs.Entry.{noStmt}
+use Rattle.session.specs.Tables.{maxStmts}
+use Rattle.session.specs.Words.{stmtIn}
+use Rattle.session.proofs.PutLaws.{read-there, read-past}
+use Rattle.session.proofs.words.stmt_at.Statement.{statement}
+use Rattle.session.proofs.words.stmt_at.Tie as tie
+
+returns : tie.Need-returns
+returns c =
+    let p = c .before in
+    let i = p .before in
+    let x = i .before .before in
+    let a = x .before .args in
+    rw (i .stmt-id .ensures, p .stmt-placeholders .ensures, c .stmt-live .ensures)
+    (read-there (stmtIn (a .words .now)) maxStmts (a .place) _ (x .index .ensures) noStmt (i .before .if1 .taken))
+
+returns-2 : tie.Need-returns-2
+returns-2 c =
+    let x = c .before in
+    let a = x .before .args in
+    read-past (stmtIn (a .words .now)) maxStmts (a .place) _ (x .index .ensures) noStmt (c .if1 .left)
+
+pub stmt-at-spec : {M : Type 1} → statement M
+stmt-at-spec =
+    tie.close
+    (tie.spec
+    (λ c κs. search needs)
+    (λ c κs. search needs)
+    (λ c κs. search needs)
+    (λ c κs. search needs)
+    returns
+    returns-2)
