@@ -12,7 +12,7 @@ void stream_add(Stream *stream, const uint8_t *frame, size_t len)
 static void start_over(Stream *stream)
 {
     stream->at = 0;
-    stream->reader = karramotx_start_over();
+    library_start_over(&stream->library);
     plain_start_over(&stream->plain);
 }
 
@@ -44,46 +44,40 @@ static const uint8_t *receive(Stream *stream)
     return bytes;
 }
 
-/* The loop of karramotx.h. */
 uint64_t library_run(Stream *stream)
 {
-    uint8_t *store = stream->store;
-    struct karramotx_reader reader = stream->reader;
     uint64_t sum = 0;
     for (size_t left = arrivals(stream); left > 0; left--) {
-        const uint8_t *bytes = receive(stream);
-        for (size_t at = 0; at < ARRIVAL;) {
-            struct karramotx_pushed pushed = karramotx_push(reader, bytes + at, ARRIVAL - at, store);
-            struct karramotx_next_frame next;
-            reader = pushed.reader;
-            at += pushed.count;
-            while ((next = karramotx_next_frame(reader, store)).reason == KARRAMOTX_ACCEPTED) {
-                reader = next.reader;
-                sum += next.kind + next.len + store[next.start];
-            }
-            reader = next.reader;
-            if (next.reason == KARRAMOTX_BAD_LENGTH)
-                return UINT64_MAX;
-        }
+        uint64_t added = library_arrival(&stream->library, receive(stream), ARRIVAL);
+        if (added == UINT64_MAX)
+            return added;
+        sum += added;
     }
-    stream->reader = reader;
+    return sum;
+}
+
+static uint64_t plain_arrival(PlainReader *reader, const uint8_t *bytes, size_t len)
+{
+    uint64_t sum = 0;
+    for (size_t at = 0; at < len;) {
+        PlainFrame next;
+        at += plain_push(reader, bytes + at, len - at).count;
+        while ((next = plain_next_frame(reader)).reason == PLAIN_FRAME)
+            sum += next.kind + next.len + reader->bytes[next.start];
+        if (next.reason == PLAIN_BAD)
+            return UINT64_MAX;
+    }
     return sum;
 }
 
 uint64_t plain_run(Stream *stream)
 {
-    PlainReader *reader = &stream->plain;
     uint64_t sum = 0;
     for (size_t left = arrivals(stream); left > 0; left--) {
-        const uint8_t *bytes = receive(stream);
-        for (size_t at = 0; at < ARRIVAL;) {
-            PlainFrame next;
-            at += plain_push(reader, bytes + at, ARRIVAL - at).count;
-            while ((next = plain_next_frame(reader)).reason == PLAIN_FRAME)
-                sum += next.kind + next.len + reader->bytes[next.start];
-            if (next.reason == PLAIN_BAD)
-                return UINT64_MAX;
-        }
+        uint64_t added = plain_arrival(&stream->plain, receive(stream), ARRIVAL);
+        if (added == UINT64_MAX)
+            return added;
+        sum += added;
     }
     return sum;
 }
@@ -98,9 +92,7 @@ typedef struct {
 /* Pushes to both sides; the bytes taken, or `len` + 1 where they differ. */
 static size_t push_both(Stream *stream, const uint8_t *bytes, size_t len)
 {
-    struct karramotx_pushed a = karramotx_push(stream->reader, bytes, len, stream->store);
-    PlainPushed b = plain_push(&stream->plain, bytes, len);
-    stream->reader = a.reader;
+    PlainPushed a = library_push(&stream->library, bytes, len), b = plain_push(&stream->plain, bytes, len);
     return a.count == b.count && a.reason == b.reason ? a.count : len + 1;
 }
 
@@ -108,15 +100,13 @@ static size_t push_both(Stream *stream, const uint8_t *bytes, size_t len)
 static bool drain_both(Stream *stream, Told *told)
 {
     for (;;) {
-        struct karramotx_next_frame a = karramotx_next_frame(stream->reader, stream->store);
-        PlainFrame b = plain_next_frame(&stream->plain);
-        stream->reader = a.reader;
+        PlainFrame a = library_next_frame(&stream->library), b = plain_next_frame(&stream->plain);
         told->reason = a.reason;
         if (a.reason != b.reason || a.kind != b.kind || a.len != b.len ||
-            memcmp(stream->store + a.start, stream->plain.bytes + b.start, a.len) ||
-            a.reader.end - a.reader.start != stream->plain.end - stream->plain.start)
+            memcmp(stream->library.store + a.start, stream->plain.bytes + b.start, a.len) ||
+            library_held(&stream->library) != stream->plain.end - stream->plain.start)
             return false;
-        if (a.reason != KARRAMOTX_ACCEPTED)
+        if (a.reason != PLAIN_FRAME)
             return true;
         told->frames++;
     }
@@ -125,7 +115,7 @@ static bool drain_both(Stream *stream, Told *told)
 /* Bytes in arrivals of `cut`, up to a bad length. */
 static bool feed_both(Stream *stream, const uint8_t *bytes, size_t len, size_t cut, Told *told)
 {
-    for (size_t at = 0; at < len && told->reason != KARRAMOTX_BAD_LENGTH;) {
+    for (size_t at = 0; at < len && told->reason != PLAIN_BAD;) {
         size_t offered = len - at < cut ? len - at : cut, count = push_both(stream, bytes + at, offered);
         if (count > offered || !drain_both(stream, told))
             return false;
@@ -143,9 +133,9 @@ static bool bad_agrees(Stream *stream, uint32_t length, size_t cut)
     memcpy(bytes, stream->bytes, stream->len);
     memcpy(bytes + stream->len, &length, sizeof length);
     start_over(stream);
-    if (!feed_both(stream, bytes, len, cut, &told) || told.reason != KARRAMOTX_BAD_LENGTH)
+    if (!feed_both(stream, bytes, len, cut, &told) || told.reason != PLAIN_BAD)
         return false;
-    return push_both(stream, bytes, len) == 0 && drain_both(stream, &told) && told.reason == KARRAMOTX_BAD_LENGTH;
+    return push_both(stream, bytes, len) == 0 && drain_both(stream, &told) && told.reason == PLAIN_BAD;
 }
 
 /* Arrivals of which no frame is handed out until the store is full, behind one of which all are. */
@@ -166,7 +156,7 @@ static bool full_agrees(Stream *stream)
 
 bool stream_agrees(Stream *stream)
 {
-    static const uint32_t bad[] = {0, KARRAMOTX_MAX_FRAME - 3, UINT32_MAX};
+    static const uint32_t bad[] = {0, MAX_LENGTH + 1, UINT32_MAX};
     static const size_t cuts[] = {1, 7, ARRIVAL, sizeof stream->bytes};
     Told told = {0};
     bool same = full_agrees(stream);

@@ -6,8 +6,9 @@
 #include <stddef.h>
 #include <stdint.h>
 
-#include "karramotx.h"
+#include "library.h"
 #include "plain_reader.h"
+#include "rules.h"
 
 /* What one TCP segment carries on an Ethernet. */
 enum { ARRIVAL = 1460 };
@@ -15,13 +16,12 @@ enum { ARRIVAL = 1460 };
 /* One connection whose bytes come round again and again. A run begins and ends between two frames, and each side
  * goes on where it stopped, so that its store is used as in a long connection. */
 typedef struct {
-    uint8_t bytes[KARRAMOTX_MAX_FRAME + ARRIVAL];
+    uint8_t bytes[MAX_FRAME + ARRIVAL];
     size_t len;      /* bytes of one round */
     size_t at;       /* where in the round the next arrival begins */
     size_t rounds;   /* of one run: as many as end with an arrival */
     size_t frames;   /* of one run */
-    uint8_t store[KARRAMOTX_STORE];
-    struct karramotx_reader reader;
+    LibraryReader library;
     PlainReader plain;
 } Stream;
 

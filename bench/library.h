@@ -1,19 +1,41 @@
-/* Short names for the library's structs, which the plain C side uses too. */
+/* All that the benchmark knows of the library's structs. A change of include/karramotx.h ends here and in
+ * library.c: the rest of the benchmark uses the plain C side's structs and carries these about unopened. */
 #ifndef LIBRARY_H
 #define LIBRARY_H
 
 #include "karramotx.h"
+#include "plain.h"
+#include "plain_reader.h"
 
-typedef struct karramotx_optional Optional;
-typedef struct karramotx_part Part;
-typedef struct karramotx_arguments Arguments;
-typedef struct karramotx_message Message;
-typedef struct karramotx_value Value;
-typedef struct karramotx_stmt Stmt;
-typedef struct karramotx_cursor Cursor;
-typedef struct karramotx_session Session;
-typedef struct karramotx_report Report;
-typedef struct karramotx_look Look;
-typedef struct karramotx_answer Answer;
+typedef struct karramotx_session LibrarySession;
+typedef struct karramotx_report LibraryReport;
+
+typedef struct {
+    struct karramotx_reader reader;
+    uint8_t store[KARRAMOTX_STORE];
+} LibraryReader;
+
+LibraryReport library_report(const Report *report);
+
+/* ---- the library's answers as the plain C side gives them, for comparison */
+
+void library_fresh(LibrarySession *session);
+bool library_holds(const LibrarySession *session, const Session *plain);
+void library_read(const uint8_t *frame, size_t len, Message *m);
+void library_next_argument(const uint8_t *frame, size_t end, size_t at, Value *v);
+Look library_look(const LibrarySession *session, const uint8_t *frame, size_t len);
+Answer library_step(LibrarySession *session, const uint8_t *frame, size_t len, const LibraryReport *report,
+                    uint8_t *reply, size_t reply_len);
+void library_start_over(LibraryReader *r);
+PlainPushed library_push(LibraryReader *r, const uint8_t *bytes, size_t len);
+PlainFrame library_next_frame(LibraryReader *r);
+/* How many bytes it holds. */
+uint32_t library_held(const LibraryReader *r);
+
+/* ---- what is timed: the library called as a host calls it, its answers summed up */
+
+/* One arrival: every whole frame is handed out. UINT64_MAX after a bad length. */
+uint64_t library_arrival(LibraryReader *r, const uint8_t *bytes, size_t len);
+/* The rest stands in line.h. */
 
 #endif

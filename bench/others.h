@@ -17,6 +17,8 @@ extern "C" {
 uint64_t protobuf_read(uint8_t kind, const uint8_t *payload, size_t len);
 uint64_t nanopb_read(uint8_t kind, const uint8_t *payload, size_t len);
 
+typedef uint64_t (*Reader)(uint8_t kind, const uint8_t *payload, size_t len);
+
 #ifdef __cplusplus
 }
 #endif

@@ -1,4 +1,5 @@
-/* The same rules in plain C: what the library is measured against. Nothing here is proved. */
+/* The same rules in plain C: what the library is measured against. Nothing here is proved. A frame has at most
+ * 65,536 bytes, so places and lengths fit 32 bits. */
 #ifndef PLAIN_H
 #define PLAIN_H
 
@@ -6,15 +7,70 @@
 #include <stddef.h>
 #include <stdint.h>
 
-#include "library.h"
+#include "rules.h"
 
-/* The structs are the library's own, so that answers can be compared. */
+/* ---- reading a frame by itself */
+
+typedef struct {
+    uint32_t start, len;
+} Part;
+
+typedef struct {
+    uint32_t count;
+    uint32_t kind, index;   /* the first object or array; kind 0 where there is none */
+    uint32_t start, end;    /* the message that holds the arguments */
+} Arguments;
+
+/* What a frame holds. What its type does not have is 0. */
+typedef struct {
+    uint32_t reason, used, kind, stmt, cursor;
+    bool has_rows, has_compact, compact;
+    uint8_t operation;
+    uint64_t rows;
+    Part body;
+    Arguments args;
+} Message;
+
+typedef struct {
+    uint32_t reason, kind;
+    uint64_t value;
+    uint32_t start, len;
+    uint32_t next;
+} Value;
+
 void plain_read(const uint8_t *frame, size_t len, Message *m);
 /* One argument at or behind `at`: reason 9 where there is none. */
-void plain_next_argument(const uint8_t *s, size_t len, size_t at, Value *v);
+void plain_next_argument(const uint8_t *frame, size_t end, size_t at, Value *v);
+
+/* ---- look and step */
+
+/* Ids stand side by side, so that a search goes over few bytes. Bit i of a live word tells of place i. */
+typedef struct {
+    uint64_t live_stmts;
+    uint32_t live_cursors;
+    bool closed;
+    uint32_t stmt_ids[MAX_STMTS], placeholders[MAX_STMTS];
+    uint32_t cursor_ids[MAX_CURSORS], cursor_stmts[MAX_CURSORS];
+    uint32_t rows[MAX_CURSORS], sent[MAX_CURSORS];
+} Session;
+
+typedef struct {
+    uint64_t kind, placeholders, columns, rows, code;
+} Report;
+
+typedef struct {
+    uint32_t reason, work, first, count;
+} Look;
+
+typedef struct {
+    uint32_t reason, used, reply;
+    bool columns;
+    uint32_t first, count;
+} Answer;
+
 void plain_fresh(Session *session);
-void plain_look(const Session *session, const uint8_t *frame, size_t len, Look *look);
-void plain_step(Session *session, const uint8_t *frame, size_t len, const Report *report,
-                uint8_t *reply, size_t reply_len, Answer *answer);
+Look plain_look(const Session *session, const uint8_t *frame, size_t len);
+void plain_step(Session *session, const uint8_t *frame, size_t len, const Report *report, uint8_t *reply,
+                size_t reply_len, Answer *answer);
 
 #endif

@@ -17,8 +17,11 @@
  *         then answer.reply bytes of reply
  *
  * Bytes go in as a pointer and a length. The pointer may be null where the length is 0. What is written
- * to (a session, a reply, a buffer, a store) must not overlap anything else that is handed in. A session must
- * come from karramotx_fresh and be changed by karramotx_step alone.
+ * to (a session, a reply, a buffer, a store) must not overlap anything else that is handed in.
+ *
+ * A session is memory of yours, which a step changes in place. Every bit pattern is a session: no function
+ * trusts what it finds there. But what FetchDone stands for is promised only of a session that came from
+ * karramotx_fresh and was changed by karramotx_step alone.
  *
  * Sizes are those of x86-64.
  */
@@ -64,7 +67,7 @@ enum karramotx_kind {
 };
 
 /* The type of a Prepare's statement, which chooses its body. There is no 3. */
-enum karramotx_choice {
+enum karramotx_operation {
     KARRAMOTX_FIND = 0,
     KARRAMOTX_INSERT = 1,
     KARRAMOTX_UPDATE = 2,
@@ -108,22 +111,23 @@ enum karramotx_reason {
 
 /* ---- The session ---- */
 
+/* A flag of a session is a number: 0 is no, anything else yes. The library writes 0 and 1. */
+
+/* A statement. Its id stands in the session's stmt_ids, at the same place. */
 struct karramotx_stmt {
-    uint32_t id;
     uint32_t placeholders;
-    bool live;
+    uint32_t live;                 /* a flag */
 };
-KARRAMOTX_SIZE(karramotx_stmt, 12);
-KARRAMOTX_FIELD(karramotx_stmt, id, 0);
-KARRAMOTX_FIELD(karramotx_stmt, placeholders, 4);
-KARRAMOTX_FIELD(karramotx_stmt, live, 8);
+KARRAMOTX_SIZE(karramotx_stmt, 8);
+KARRAMOTX_FIELD(karramotx_stmt, placeholders, 0);
+KARRAMOTX_FIELD(karramotx_stmt, live, 4);
 
 struct karramotx_cursor {
     uint32_t id;
     uint32_t stmt;                 /* the id of its statement */
     uint32_t rows;                 /* rows that the engine reported */
     uint32_t sent;                 /* rows sent so far */
-    bool live;
+    uint32_t live;                 /* a flag */
 };
 KARRAMOTX_SIZE(karramotx_cursor, 20);
 KARRAMOTX_FIELD(karramotx_cursor, id, 0);
@@ -132,14 +136,16 @@ KARRAMOTX_FIELD(karramotx_cursor, rows, 8);
 KARRAMOTX_FIELD(karramotx_cursor, sent, 12);
 KARRAMOTX_FIELD(karramotx_cursor, live, 16);
 
-/* A free place of a table is not live and all 0. You may read it all; write none of it. */
+/* 273 words without gaps. A free place of a table is not live and all 0. You may read it all; write none of it. */
 struct karramotx_session {
+    uint32_t stmt_ids[KARRAMOTX_MAX_STMTS];
     struct karramotx_stmt stmts[KARRAMOTX_MAX_STMTS];
     struct karramotx_cursor cursors[KARRAMOTX_MAX_CURSORS];
-    bool closed;
+    uint32_t closed;               /* a flag */
 };
 KARRAMOTX_SIZE(karramotx_session, 1092);
-KARRAMOTX_FIELD(karramotx_session, stmts, 0);
+KARRAMOTX_FIELD(karramotx_session, stmt_ids, 0);
+KARRAMOTX_FIELD(karramotx_session, stmts, 256);
 KARRAMOTX_FIELD(karramotx_session, cursors, 768);
 KARRAMOTX_FIELD(karramotx_session, closed, 1088);
 
@@ -283,21 +289,26 @@ struct karramotx_look karramotx_look(const struct karramotx_session *session, co
 /* What your engine did. */
 enum karramotx_report_kind {
     KARRAMOTX_REPORT_NONE = 0,     /* no work was wanted */
-    KARRAMOTX_REPORT_PREPARED = 1, /* a placeholders, 0 to 65,535 */
-    KARRAMOTX_REPORT_RESULT = 2,   /* a columns, 0 to 4,096; b rows, 0 to 2^32 - 1; no columns, no rows */
+    KARRAMOTX_REPORT_PREPARED = 1, /* the statement is prepared */
+    KARRAMOTX_REPORT_RESULT = 2,   /* the statement was run; no columns, no rows */
     KARRAMOTX_REPORT_DONE = 3,     /* the rows of a Fetch are ready */
-    KARRAMOTX_REPORT_FAILED = 4    /* a the error code, 1 to 2^32 - 1 */
+    KARRAMOTX_REPORT_FAILED = 4    /* the work failed */
 };
 
+/* What its kind does not have is ignored. */
 struct karramotx_report {
     uint64_t kind;                 /* enum karramotx_report_kind; another number is refused 15 */
-    uint64_t a;
-    uint64_t b;
+    uint64_t placeholders;         /* PREPARED: 0 to 65,535 */
+    uint64_t columns;              /* RESULT: 0 to 4,096 */
+    uint64_t rows;                 /* RESULT: 0 to 2^32 - 1 */
+    uint64_t code;                 /* FAILED: the error code, 1 to 2^32 - 1 */
 };
-KARRAMOTX_SIZE(karramotx_report, 24);
+KARRAMOTX_SIZE(karramotx_report, 40);
 KARRAMOTX_FIELD(karramotx_report, kind, 0);
-KARRAMOTX_FIELD(karramotx_report, a, 8);
-KARRAMOTX_FIELD(karramotx_report, b, 16);
+KARRAMOTX_FIELD(karramotx_report, placeholders, 8);
+KARRAMOTX_FIELD(karramotx_report, columns, 16);
+KARRAMOTX_FIELD(karramotx_report, rows, 24);
+KARRAMOTX_FIELD(karramotx_report, code, 32);
 
 struct karramotx_answer {
     uint64_t reason;               /* 0, or why the frame is refused; the session is then as it was */
@@ -339,7 +350,7 @@ KARRAMOTX_FIELD(karramotx_part, start, 0);
 KARRAMOTX_FIELD(karramotx_part, len, 8);
 
 struct karramotx_arguments {
-    bool good;
+    bool good;                     /* true in every message: a frame with a bad argument is refused 6 */
     size_t count;
     uint64_t kind;                 /* 2 where there is an object, 3 an array: the first one; else 0 */
     size_t index;                  /* its index */
@@ -356,14 +367,14 @@ KARRAMOTX_FIELD(karramotx_arguments, end, 40);
 
 /* What a frame holds. What its type does not have is 0 or absent. */
 struct karramotx_message {
-    uint64_t reason;               /* 0, or 1, 2, 5, 6: refused whatever the session, all but `used` 0 */
+    uint64_t reason;               /* 0, or 1, 2, 5, 6: refused whatever the session, all numbers but `used` 0 */
     size_t used;                   /* the frame's length; 0 where it is refused 1 or 2 */
     uint64_t kind;                 /* enum karramotx_kind */
     uint64_t stmt;                 /* the statement id */
     uint64_t cursor;               /* the cursor id */
     struct karramotx_optional rows;       /* fetch_rows */
     struct karramotx_optional compact;    /* compact_metadata, 0 or 1 */
-    uint64_t choice;               /* of a Prepare, enum karramotx_choice */
+    uint64_t operation;            /* of a Prepare, enum karramotx_operation */
     struct karramotx_part body;    /* the body that a Prepare's type chooses; an Open's Execute */
     struct karramotx_arguments args;
 };
@@ -375,7 +386,7 @@ KARRAMOTX_FIELD(karramotx_message, stmt, 24);
 KARRAMOTX_FIELD(karramotx_message, cursor, 32);
 KARRAMOTX_FIELD(karramotx_message, rows, 40);
 KARRAMOTX_FIELD(karramotx_message, compact, 56);
-KARRAMOTX_FIELD(karramotx_message, choice, 72);
+KARRAMOTX_FIELD(karramotx_message, operation, 72);
 KARRAMOTX_FIELD(karramotx_message, body, 80);
 KARRAMOTX_FIELD(karramotx_message, args, 96);
 
@@ -430,7 +441,7 @@ struct karramotx_draft {
     uint64_t rows;
     bool hascompact;               /* Execute, Open: whether compact_metadata is present */
     bool compact;
-    uint64_t choice;               /* Prepare: enum karramotx_choice; another number is refused 6 */
+    uint64_t operation;            /* Prepare: enum karramotx_operation; another number is refused 6 */
 };
 KARRAMOTX_SIZE(karramotx_draft, 48);
 KARRAMOTX_FIELD(karramotx_draft, kind, 0);
@@ -440,7 +451,7 @@ KARRAMOTX_FIELD(karramotx_draft, hasrows, 16);
 KARRAMOTX_FIELD(karramotx_draft, rows, 24);
 KARRAMOTX_FIELD(karramotx_draft, hascompact, 32);
 KARRAMOTX_FIELD(karramotx_draft, compact, 33);
-KARRAMOTX_FIELD(karramotx_draft, choice, 40);
+KARRAMOTX_FIELD(karramotx_draft, operation, 40);
 
 struct karramotx_sent {
     uint64_t reason;               /* 0, or 6, 2, 3: then nothing is written */
@@ -453,7 +464,7 @@ KARRAMOTX_FIELD(karramotx_sent, len, 8);
 /*
  * A message at the front of `buf`. `body` is a Prepare's body, encoded; `args` are the args fields of an
  * Execute or Open as karramotx_append builds them. Refused 6 for a bad stretch, a bad body or an unlisted
- * kind or choice, 2 where the frame passes the limit, 3 exactly where the buffer is too small.
+ * kind or operation, 2 where the frame passes the limit, 3 exactly where the buffer is too small.
  */
 struct karramotx_sent karramotx_write(struct karramotx_draft draft, const uint8_t *body, size_t body_len,
                                       const uint8_t *args, size_t args_len, uint8_t *buf, size_t buf_len);

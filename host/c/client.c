@@ -31,7 +31,7 @@ static void prepare(struct output *o, uint32_t stmt, const char *sql)
     body[1] = (uint8_t)n;
     memcpy(body + 2, sql, n);
     struct karramotx_draft draft = {
-        .kind = KARRAMOTX_PREPARE, .stmt = stmt, .choice = KARRAMOTX_STMT_EXECUTE};
+        .kind = KARRAMOTX_PREPARE, .stmt = stmt, .operation = KARRAMOTX_STMT_EXECUTE};
     put(o, draft, body, n + 2, NULL, 0);
 }
 

@@ -36,7 +36,7 @@ size_t drafted_frame(uint8_t *frame, size_t room)
                                     .cursor = (uint32_t)below(24),
                                     .hasrows = below(2),
                                     .rows = below(6),
-                                    .choice = KARRAMOTX_STMT_EXECUTE};
+                                    .operation = KARRAMOTX_STMT_EXECUTE};
     return karramotx_write(draft, body, sizeof body, object, below(16) == 0 ? sizeof object : 0, frame, room).len;
 }
 

@@ -3,11 +3,6 @@
 #include <inttypes.h>
 #include <string.h>
 
-static struct karramotx_report report(uint64_t kind, uint64_t a, uint64_t b)
-{
-    return (struct karramotx_report){.kind = kind, .a = a, .b = b};
-}
-
 static bool holds(const uint8_t *bytes, size_t len, const char *text)
 {
     size_t n = strlen(text);
@@ -24,10 +19,10 @@ static struct karramotx_report prepare(const uint8_t *frame, size_t len)
     struct karramotx_part body = karramotx_body(frame, len);
     uint64_t placeholders = 0;
     if (holds(frame + body.start, body.len, "oops"))
-        return report(KARRAMOTX_REPORT_FAILED, 1064, 0);
+        return (struct karramotx_report){.kind = KARRAMOTX_REPORT_FAILED, .code = 1064};
     for (size_t i = 0; i < body.len; i++)
         placeholders += frame[body.start + i] == '?';
-    return report(KARRAMOTX_REPORT_PREPARED, placeholders, 0);
+    return (struct karramotx_report){.kind = KARRAMOTX_REPORT_PREPARED, .placeholders = placeholders};
 }
 
 struct karramotx_report engine_work(struct karramotx_look look, const uint8_t *frame, size_t len)
@@ -37,11 +32,12 @@ struct karramotx_report engine_work(struct karramotx_look look, const uint8_t *f
         return prepare(frame, len);
     case KARRAMOTX_WORK_EXECUTE:
     case KARRAMOTX_WORK_OPEN:
-        return report(KARRAMOTX_REPORT_RESULT, ENGINE_COLUMNS, ENGINE_ROWS);
+        return (struct karramotx_report){
+            .kind = KARRAMOTX_REPORT_RESULT, .columns = ENGINE_COLUMNS, .rows = ENGINE_ROWS};
     case KARRAMOTX_WORK_FETCH:
-        return report(KARRAMOTX_REPORT_DONE, 0, 0);
+        return (struct karramotx_report){.kind = KARRAMOTX_REPORT_DONE};
     default:
-        return report(KARRAMOTX_REPORT_NONE, 0, 0);
+        return (struct karramotx_report){.kind = KARRAMOTX_REPORT_NONE};
     }
 }
 

@@ -120,10 +120,10 @@ static bool stmts_are_sound(const struct karramotx_session *s)
 {
     for (size_t i = 0; i < KARRAMOTX_MAX_STMTS; i++) {
         struct karramotx_stmt x = s->stmts[i];
-        if (!x.live && (x.id != 0 || x.placeholders != 0))
+        if (x.live > 1 || (!x.live && (s->stmt_ids[i] != 0 || x.placeholders != 0)))
             return false;
         for (size_t j = 0; j < i; j++) {
-            if (x.live && s->stmts[j].live && s->stmts[j].id == x.id)
+            if (x.live && s->stmts[j].live && s->stmt_ids[j] == s->stmt_ids[i])
                 return false;
         }
     }
@@ -133,7 +133,7 @@ static bool stmts_are_sound(const struct karramotx_session *s)
 static bool has_stmt(const struct karramotx_session *s, uint32_t id)
 {
     for (size_t i = 0; i < KARRAMOTX_MAX_STMTS; i++) {
-        if (s->stmts[i].live && s->stmts[i].id == id)
+        if (s->stmts[i].live && s->stmt_ids[i] == id)
             return true;
     }
     return false;
@@ -143,7 +143,7 @@ static bool cursors_are_sound(const struct karramotx_session *s)
 {
     for (size_t i = 0; i < KARRAMOTX_MAX_CURSORS; i++) {
         struct karramotx_cursor x = s->cursors[i];
-        if (!x.live && (x.id != 0 || x.stmt != 0 || x.rows != 0 || x.sent != 0))
+        if (x.live > 1 || (!x.live && (x.id != 0 || x.stmt != 0 || x.rows != 0 || x.sent != 0)))
             return false;
         if (x.live && (!has_stmt(s, x.stmt) || x.sent > x.rows))
             return false;
@@ -158,5 +158,5 @@ static bool cursors_are_sound(const struct karramotx_session *s)
 
 bool session_is_sound(const struct karramotx_session *session)
 {
-    return stmts_are_sound(session) && cursors_are_sound(session);
+    return stmts_are_sound(session) && cursors_are_sound(session) && session->closed <= 1;
 }

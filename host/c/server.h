@@ -26,9 +26,9 @@ bool connection_serve(struct connection *c, const uint8_t *bytes, size_t len, FI
 size_t connection_held(const struct connection *c);
 
 /*
- * Whether the session is one that the library can have made: free places are all 0, no id stands twice,
- * each cursor is on a live statement, no two are on one, and none has sent more than it has. The library
- * promises it; a test asks.
+ * Whether the session is one that the library can have made: flags are 0 or 1, free places are all 0, no id
+ * stands twice, each cursor is on a live statement, no two are on one, and none has sent more than it has. The
+ * library promises it; a test asks.
  */
 bool session_is_sound(const struct karramotx_session *session);
 

@@ -1,8 +1,8 @@
 /*
  * Feeds a session damaged frames, wrong reports and reply buffers of every length, and asks after each step
  * whether the session is still sound and nothing else was touched. Frame and reply end at a page that no one
- * may read or write, so that a byte too far ends the program. Then as many operations of a reader on streams
- * cut at random (cuts.c).
+ * may read or write, so that a byte too far ends the program. Then as many steps on sessions of any bits, and as
+ * many operations of a reader on streams cut at random (cuts.c).
  *
  *     survive [STEPS]
  */
@@ -41,7 +41,11 @@ static struct karramotx_report any_report(void)
 {
     static const uint64_t edges[] = {0, 1, 2, 5, 4096, 4097, 65535, 65536, UINT32_MAX, UINT32_MAX + 1ull, UINT64_MAX};
     size_t n = sizeof edges / sizeof edges[0];
-    return (struct karramotx_report){.kind = below(6), .a = edges[below(n)], .b = edges[below(n)]};
+    return (struct karramotx_report){.kind = below(6),
+                                     .placeholders = edges[below(n)],
+                                     .columns = edges[below(n)],
+                                     .rows = edges[below(n)],
+                                     .code = edges[below(n)]};
 }
 
 /* The report that the work wants, with small numbers; or any. */
@@ -50,8 +54,7 @@ static struct karramotx_report some_report(struct karramotx_look look)
     static const uint64_t wanted[] = {0, 1, 2, 2, 3};
     if (below(4) == 0)
         return any_report();
-    return (struct karramotx_report){
-        .kind = wanted[look.work % 5], .a = look.work != KARRAMOTX_WORK_PREPARE, .b = below(9)};
+    return (struct karramotx_report){.kind = wanted[look.work % 5], .columns = 1, .rows = below(9)};
 }
 
 static struct {
@@ -69,44 +72,77 @@ static bool untouched(const uint8_t *bytes, size_t len)
     return true;
 }
 
-/* One step at the guarded places. Answers whether all is well after it. */
-static bool survives(const uint8_t *bytes, size_t len, uint8_t *frame_end, uint8_t *reply_end, uint64_t *met)
+/* Frame and reply end here; the client's frames; and how often each reason was met. */
+static uint8_t *frame_end, *reply_end;
+static uint8_t talk[ROOM / 2];
+static size_t talk_len;
+static uint64_t met[KARRAMOTX_ENGINE_FAILED + 1];
+
+/* One step at the guarded places. Answers whether all but the session is as it must be after it. */
+static bool survives(const uint8_t *bytes, size_t len)
 {
     size_t room = below(8) == 0 ? below(KARRAMOTX_MIN_REPLY) : KARRAMOTX_MIN_REPLY + below(MAX_REPLY - 127);
     uint8_t *frame = frame_end - len;
     uint8_t *reply = reply_end - room;
     memcpy(frame, bytes, len);
     memset(reply - GUARD, 0xa5, room + GUARD);
+    struct karramotx_session before = host.session;
     struct karramotx_look look = karramotx_look(&host.session, frame, len);
-    struct karramotx_answer answer =
-        karramotx_step(&host.session, frame, len, some_report(look), reply, room);
+    bool looked = memcmp(&host.session, &before, sizeof before) == 0;
+    struct karramotx_answer answer = karramotx_step(&host.session, frame, len, some_report(look), reply, room);
     met[answer.reason]++;
-    return session_is_sound(&host.session) && memcmp(frame, bytes, len) == 0 && answer.used <= len &&
-           answer.reply <= room && untouched(reply - GUARD, GUARD) &&
-           untouched(reply + answer.reply, room - answer.reply) && untouched(host.before, GUARD) &&
-           untouched(host.after, GUARD);
+    bool kept = answer.reason == KARRAMOTX_ACCEPTED || memcmp(&host.session, &before, sizeof before) == 0;
+    return looked && kept && memcmp(frame, bytes, len) == 0 && answer.used <= len && answer.reply <= room &&
+           untouched(reply - GUARD, GUARD) && untouched(reply + answer.reply, room - answer.reply) &&
+           untouched(host.before, GUARD) && untouched(host.after, GUARD);
 }
 
-static bool steps_survive(uint64_t steps)
+/* Words of every kind where a session should be: small numbers, so that ids are met, and edges. */
+static struct karramotx_session wild_session(void)
 {
-    static uint8_t talk[ROOM / 2], bytes[ROOM / 2 + 8];
-    uint64_t met[17] = {0};
-    size_t talk_len = client_conversation(talk, sizeof talk);
-    uint8_t *frame_end = guarded_end(ROOM);
-    uint8_t *reply_end = guarded_end(ROOM);
-    memset(&host, 0xa5, sizeof host);
+    static const uint32_t edges[] = {0, 1, 2, 256, 65536, INT32_MAX, 1u << 31, UINT32_MAX};
+    uint32_t words[sizeof(struct karramotx_session) / sizeof(uint32_t)];
+    struct karramotx_session session;
+    for (size_t i = 0; i < sizeof words / sizeof words[0]; i++)
+        words[i] = below(4) == 0 ? edges[below(sizeof edges / sizeof edges[0])] : (uint32_t)below(80);
+    memcpy(&session, words, sizeof session);
+    session.closed = below(8) == 0 ? session.closed : 0;
+    return session;
+}
+
+/* What a session counts, by hand. */
+static bool counts_agree(const struct karramotx_session *s)
+{
+    struct karramotx_counts found = karramotx_counts(s), counted = {0};
+    for (size_t i = 0; i < KARRAMOTX_MAX_STMTS; i++)
+        counted.stmts += s->stmts[i].live != 0;
+    for (size_t i = 0; i < KARRAMOTX_MAX_CURSORS; i++) {
+        struct karramotx_cursor x = s->cursors[i];
+        counted.cursors += x.live != 0;
+        counted.owed += x.live != 0 && x.rows > x.sent ? x.rows - x.sent : 0;
+    }
+    return found.stmts == counted.stmts && found.cursors == counted.cursors && found.owed == counted.owed;
+}
+
+/* Steps from a fresh session on, or `wild` from any words. */
+static bool steps_survive(uint64_t steps, bool wild)
+{
+    static uint8_t bytes[ROOM / 2 + 8];
+    memset(met, 0, sizeof met);
     host.session = karramotx_fresh();
     for (uint64_t n = 0; n < steps; n++) {
-        if (host.session.closed && below(4) == 0)
+        if (wild && n % 8 == 0)
+            host.session = wild_session();
+        else if (host.session.closed && below(4) == 0)
             host.session = karramotx_fresh();
         size_t len = some_frame(talk, talk_len, bytes, sizeof bytes - 8);
-        if (!survives(bytes, len, frame_end, reply_end, met)) {
+        if (!survives(bytes, len) || !counts_agree(&host.session) || (!wild && !session_is_sound(&host.session))) {
             fprintf(stderr, "survive: step %" PRIu64 " left something behind\n", n);
             return false;
         }
     }
-    printf("survived %" PRIu64 " steps; by reason:", steps);
-    for (size_t i = 0; i < 17; i++)
+    printf("survived %" PRIu64 " steps%s; by reason:", steps, wild ? " on sessions of any bits" : "");
+    for (size_t i = 0; i < sizeof met / sizeof met[0]; i++)
         printf(" %zu:%" PRIu64, i, met[i]);
     printf("\n");
     return true;
@@ -115,5 +151,9 @@ static bool steps_survive(uint64_t steps)
 int main(int argc, char **argv)
 {
     uint64_t steps = argc > 1 ? strtoull(argv[1], NULL, 10) : 1000000;
-    return steps_survive(steps) && cuts_survive(steps) ? 0 : 1;
+    talk_len = client_conversation(talk, sizeof talk);
+    frame_end = guarded_end(ROOM);
+    reply_end = guarded_end(ROOM);
+    memset(&host, 0xa5, sizeof host);
+    return steps_survive(steps, false) && steps_survive(steps, true) && cuts_survive(steps) ? 0 : 1;
 }

@@ -5,7 +5,7 @@
 
 It needs protoc and Google's protobuf for Python (Debian: protobuf-compiler, python3-protobuf). The same
 numbers come out in every run. Each line is a frame in hex and what it holds, as key=value: kind, stmt,
-cursor, rows, compact, choice where the message has them, body in hex, args. An argument is its Scalar type
+cursor, rows, compact, operation where the message has them, body in hex, args. An argument is its Scalar type
 and its value: a decimal, the bits of a double or float in hex, bytes in hex; `object` and `array` stand for
 themselves. `plain=1` says that every field in the frame is one that the library's writer knows.
 """
@@ -123,10 +123,10 @@ def show(kind, message, plain=True, **values):
 def prepare():
     m = pb.Prepare()
     m.stmt_id = rng.choice(IDS)
-    choice = rng.choice([0, 1, 2, 4, 5])
-    m.stmt.type = choice
+    operation = rng.choice([0, 1, 2, 4, 5])
+    m.stmt.type = operation
     args = ""
-    if choice == 5:
+    if operation == 5:
         body = m.stmt.stmt_execute
         body.stmt = some_bytes()
         args, _ = set_args(body.args, False)
@@ -135,13 +135,13 @@ def prepare():
         if rng.random() < 0.5:
             body.compact_metadata = rng.random() < 0.5
     else:
-        body = getattr(m.stmt, {0: "find", 1: "insert", 2: "update", 4: "delete"}[choice])
+        body = getattr(m.stmt, {0: "find", 1: "insert", 2: "update", 4: "delete"}[operation])
         body.schema = "cycles"
         set_args(body.values, False)
         body.mark = 0xDEADBEEF
         body.order.by = -3
     encoded = body.SerializeToString(deterministic=True).hex()
-    show(40, m, stmt=m.stmt_id, choice=choice, body=encoded, args=args)
+    show(40, m, stmt=m.stmt_id, operation=operation, body=encoded, args=args)
 
 
 def set_execute(m):

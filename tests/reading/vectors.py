@@ -182,7 +182,7 @@ def message(s):
 
 
 def accepted(s, kind, end):
-    stmt = cursor = choice = 0
+    stmt = cursor = operation = 0
     rows = compact = None
     body, args = (0, 0), []
     if kind in (6, 7):
@@ -191,13 +191,13 @@ def accepted(s, kind, end):
         x = read("prepare", s, 5, end)
         stmt = x[1][0] % 2**32
         y = read("prepare stmt", s, x[2][1], x[2][1] + x[2][2])
-        choice = y[1][0] % 2**32
-        k = {0: 2, 1: 3, 2: 4, 4: 5, 5: 6}[choice]
+        operation = y[1][0] % 2**32
+        k = {0: 2, 1: 3, 2: 4, 4: 5, 5: 6}[operation]
         if k not in y:
             raise Bad()
         body = y[k][1:]
-        read("stmt execute" if choice == 5 else "plain", s, body[0], sum(body))
-        if choice == 5:
+        read("stmt execute" if operation == 5 else "plain", s, body[0], sum(body))
+        if operation == 5:
             args = arguments(s, body[0], sum(body))
     elif kind == 42:
         stmt = read("deallocate", s, 5, end)[1][0] % 2**32
@@ -224,7 +224,7 @@ def accepted(s, kind, end):
     line = " kind %d stmt %d cursor %d" % (kind, stmt, cursor)
     line += "" if rows is None else " rows %d" % rows
     line += "" if compact is None else " compact %d" % compact
-    line += " choice %d body %d+%d args %d" % (choice, body[0], body[1], len(args))
+    line += " operation %d body %d+%d args %d" % (operation, body[0], body[1], len(args))
     line += " first %d@%d" % (({"object": 2, "array": 3}[args[first[0]]], first[0]) if first else (0, 0))
     return line, args
 

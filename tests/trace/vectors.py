@@ -9,10 +9,15 @@ with the library. The runs reach each refusal that a record can reach (all but 3
     python3 tests/trace/vectors.py        writes crates/trace_samples/stdin and stdout
 """
 import os
+from collections import namedtuple
 
 HERE = os.path.dirname(os.path.abspath(__file__))
 CRATE = os.path.join(HERE, "..", "..", "crates", "trace_samples")
 HEADER = "n reason first rows mark stmts cursors owed"
+
+# A report, and the numbers that each kind has in a record.
+Report = namedtuple("Report", "kind placeholders columns rows code", defaults=(0, 0, 0, 0))
+PARTS = [[], ["placeholders"], ["columns", "rows"], [], ["code"]]
 
 
 class Bad(Exception):
@@ -221,16 +226,16 @@ def table_refusal(session, kind, m):
 
 
 def report_refusal(kind, report):
-    what, a, b = report
+    columns, rows = report.columns, report.rows
     if kind not in (40, 41, 43, 45):
         return 0
-    if what == 4 and 1 <= a < 2**32:
+    if report.kind == 4 and 1 <= report.code < 2**32:
         return 16
-    if kind == 40 and what == 1 and a <= 65535:
+    if kind == 40 and report.kind == 1 and report.placeholders <= 65535:
         return 0
-    if kind in (41, 43) and what == 2 and a <= 4096 and b < 2**32 and (a > 0 or b == 0):
+    if kind in (41, 43) and report.kind == 2 and columns <= 4096 and rows < 2**32 and (columns > 0 or rows == 0):
         return 0
-    if kind == 45 and what == 3:
+    if kind == 45 and report.kind == 3:
         return 0
     return 15
 
@@ -241,10 +246,10 @@ def step(session, frame, report):
     if reason:
         return reason, 0, 0, "N" if reason < 4 else "E"
     stmt, cursor, asked, args = m
-    columns, rows = report[1], report[2]
+    columns, rows = report.columns, report.rows
     if kind == 40:
         session.end_on(stmt)
-        session.stmts[stmt] = report[1]
+        session.stmts[stmt] = report.placeholders
     elif kind == 41:
         session.end_on(stmt)
         return 0, 0, rows, "D" if columns else "X"
@@ -285,12 +290,11 @@ def record(s, at):
     kind, at = number(s, at + size)
     if kind > 4:
         raise Cut()
-    numbers = []
-    for _ in range({0: 0, 1: 1, 2: 2, 3: 0, 4: 1}[kind]):
+    report = Report(kind)
+    for part_name in PARTS[kind]:
         n, at = number(s, at)
-        numbers.append(n)
-    numbers += [0, 0]
-    return frame, (kind, numbers[0], numbers[1]), at
+        report = report._replace(**{part_name: n})
+    return frame, report, at
 
 
 def trace(s):

@@ -4,8 +4,8 @@
 //!     cargo run --example serve
 
 use karramotx::{
-    sql_body, Args, Argument, ClientMessage, Frame, Frames, Kind, Message, Refusal, Report, Session,
-    StatementType, Step, Work, MIN_REPLY,
+    sql_body, Args, Argument, ClientMessage, Frame, Frames, Kind, Message, Operation, Refusal, Report,
+    Session, Step, Work, MIN_REPLY,
 };
 
 /// The columns and rows that every query of the made-up engine has.
@@ -104,7 +104,7 @@ fn serve(session: &mut Session, frames: &mut Frames, mut arrival: &[u8]) -> Resu
 
 fn prepare(statement: u32, sql: &[u8]) -> Result<Vec<u8>, Refusal> {
     let body = sql_body(sql);
-    ClientMessage::Prepare { statement, statement_type: StatementType::StmtExecute, body: &body }.to_vec()
+    ClientMessage::Prepare { statement, operation: Operation::StmtExecute, body: &body }.to_vec()
 }
 
 /// Open of cursor 1 on statement 1, with a string and a negative number for its arguments.

@@ -3,16 +3,14 @@
 //! The rest of this crate wraps them. They are public for hosts that keep a session in memory of their
 //! own; the header documents each field and function.
 
-/// One place of the statement table.
+/// One place of the statement table. Its id stands in the session's `stmt_ids`, at the same place.
 #[repr(C)]
 #[derive(Debug, Clone, Copy, Default, PartialEq, Eq)]
 pub struct Stmt {
-    /// The statement id.
-    pub id: u32,
     /// How many placeholders the engine reported.
     pub placeholders: u32,
-    /// Whether the place is taken.
-    pub live: bool,
+    /// Whether the place is taken: 0 no, anything else yes. The library writes 1.
+    pub live: u32,
 }
 
 /// One place of the cursor table.
@@ -27,8 +25,8 @@ pub struct Cursor {
     pub rows: u32,
     /// Rows sent so far.
     pub sent: u32,
-    /// Whether the place is taken.
-    pub live: bool,
+    /// Whether the place is taken: 0 no, anything else yes. The library writes 1.
+    pub live: u32,
 }
 
 /// The places of the statement table.
@@ -36,16 +34,21 @@ pub const MAX_STMTS: usize = 64;
 /// The places of the cursor table.
 pub const MAX_CURSORS: usize = 16;
 
-/// A session. A free place is not live and all 0.
+/// A session: 273 words without gaps. A free place is not live and all 0.
+///
+/// Every bit pattern is a session; the library trusts none of it. But what FetchDone stands for is promised
+/// only of one that came from [`karramotx_fresh`] and was changed by [`karramotx_step`] alone.
 #[repr(C)]
 #[derive(Debug, Clone, Copy, PartialEq, Eq)]
 pub struct Session {
+    /// The ids of the statement table.
+    pub stmt_ids: [u32; MAX_STMTS],
     /// The statement table.
     pub stmts: [Stmt; MAX_STMTS],
     /// The cursor table.
     pub cursors: [Cursor; MAX_CURSORS],
-    /// Whether the session is closed.
-    pub closed: bool,
+    /// Whether the session is closed: 0 no, anything else yes. The library writes 1.
+    pub closed: u32,
 }
 
 /// What a session holds, counted.
@@ -74,16 +77,20 @@ pub struct Look {
     pub count: u64,
 }
 
-/// What the engine did: 0 none, 1 prepared, 2 result, 3 done, 4 failed.
+/// What the engine did: 0 none, 1 prepared, 2 result, 3 done, 4 failed. What its kind does not have is ignored.
 #[repr(C)]
 #[derive(Debug, Clone, Copy, Default, PartialEq, Eq)]
 pub struct Report {
     /// The kind of the report; another number is refused.
     pub kind: u64,
-    /// Placeholders, columns or the error code.
-    pub a: u64,
-    /// Rows.
-    pub b: u64,
+    /// Placeholders, of kind 1.
+    pub placeholders: u64,
+    /// Columns, of kind 2.
+    pub columns: u64,
+    /// Rows, of kind 2.
+    pub rows: u64,
+    /// The error code, of kind 4.
+    pub code: u64,
 }
 
 /// What a step answers.
@@ -161,7 +168,7 @@ pub struct Message {
     /// compact_metadata, 0 or 1.
     pub compact: Optional,
     /// The type of a Prepare's statement.
-    pub choice: u64,
+    pub operation: u64,
     /// The chosen body.
     pub body: Part,
     /// The arguments.
@@ -205,7 +212,7 @@ pub struct Draft {
     /// compact_metadata.
     pub compact: bool,
     /// The type of a Prepare's statement; an unlisted number is refused.
-    pub choice: u64,
+    pub operation: u64,
 }
 
 /// What writing comes to.

@@ -46,7 +46,7 @@ mod writer;
 
 pub use argument::{Args, Argument, Arguments};
 pub use frames::{BadLength, Frame, Frames};
-pub use message::{Kind, Message, StatementType};
+pub use message::{Kind, Message, Operation};
 pub use refusal::Refusal;
 pub use session::{Cursor, Report, Rows, Session, Statement, Step, Work, MIN_REPLY};
 pub use writer::{sql_body, ClientMessage, MAX_FRAME};

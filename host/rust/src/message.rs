@@ -27,7 +27,7 @@ pub enum Kind {
 
 /// The type of a Prepare's statement, which chooses its body.
 #[derive(Debug, Clone, Copy, PartialEq, Eq, Hash)]
-pub enum StatementType {
+pub enum Operation {
     /// A Find.
     Find = 0,
     /// An Insert.
@@ -125,16 +125,16 @@ impl<'f> Message<'f> {
     }
 
     /// The type of a Prepare's statement.
-    pub fn statement_type(&self) -> Option<StatementType> {
+    pub fn operation(&self) -> Option<Operation> {
         if self.kind() != Kind::Prepare {
             return None;
         }
-        Some(match self.raw.choice {
-            0 => StatementType::Find,
-            1 => StatementType::Insert,
-            2 => StatementType::Update,
-            4 => StatementType::Delete,
-            5 => StatementType::StmtExecute,
+        Some(match self.raw.operation {
+            0 => Operation::Find,
+            1 => Operation::Insert,
+            2 => Operation::Update,
+            4 => Operation::Delete,
+            5 => Operation::StmtExecute,
             other => unreachable!("the library reads five statement types, not {other}"),
         })
     }

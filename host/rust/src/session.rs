@@ -50,14 +50,14 @@ pub enum Report {
 
 impl Report {
     fn raw(self) -> ffi::Report {
-        let (kind, a, b) = match self {
-            Report::None => (0, 0, 0),
-            Report::Prepared { placeholders } => (1, placeholders, 0),
-            Report::Result { columns, rows } => (2, columns, rows),
-            Report::Done => (3, 0, 0),
-            Report::Failed { code } => (4, code, 0),
-        };
-        ffi::Report { kind, a, b }
+        let none = ffi::Report::default();
+        match self {
+            Report::None => none,
+            Report::Prepared { placeholders } => ffi::Report { kind: 1, placeholders, ..none },
+            Report::Result { columns, rows } => ffi::Report { kind: 2, columns, rows, ..none },
+            Report::Done => ffi::Report { kind: 3, ..none },
+            Report::Failed { code } => ffi::Report { kind: 4, code, ..none },
+        }
     }
 }
 
@@ -170,17 +170,18 @@ impl Session {
 
     /// Whether the session was closed by a Session close.
     pub fn is_closed(&self) -> bool {
-        self.0.closed
+        self.0.closed != 0
     }
 
     /// The live statements, in place order.
     pub fn statements(&self) -> impl Iterator<Item = Statement> + '_ {
-        self.0.stmts.iter().filter(|s| s.live).map(|s| Statement { id: s.id, placeholders: s.placeholders })
+        let places = self.0.stmt_ids.iter().zip(&self.0.stmts).filter(|(_, s)| s.live != 0);
+        places.map(|(id, s)| Statement { id: *id, placeholders: s.placeholders })
     }
 
     /// The live cursors, in place order.
     pub fn cursors(&self) -> impl Iterator<Item = Cursor> + '_ {
-        self.0.cursors.iter().filter(|c| c.live).map(|c| Cursor {
+        self.0.cursors.iter().filter(|c| c.live != 0).map(|c| Cursor {
             id: c.id,
             statement: c.stmt,
             rows: c.rows,

@@ -2,7 +2,7 @@
 
 use crate::argument::Args;
 use crate::ffi;
-use crate::message::StatementType;
+use crate::message::Operation;
 use crate::refusal::{accepted, Refusal};
 
 /// The longest frame, its four bytes of length included.
@@ -11,12 +11,12 @@ pub const MAX_FRAME: usize = 65_536;
 /// A client message to write.
 ///
 /// ```
-/// use karramotx::{sql_body, ClientMessage, Kind, Message, StatementType};
+/// use karramotx::{sql_body, ClientMessage, Kind, Message, Operation};
 ///
 /// let body = sql_body(b"select leg from airways where cycle = ?");
 /// let frame = ClientMessage::Prepare {
 ///     statement: 1,
-///     statement_type: StatementType::StmtExecute,
+///     operation: Operation::StmtExecute,
 ///     body: &body,
 /// }
 /// .to_vec()?;
@@ -35,9 +35,9 @@ pub enum ClientMessage<'a> {
     Prepare {
         /// Its id.
         statement: u32,
-        /// Its type.
-        statement_type: StatementType,
-        /// Its body, encoded; of [`StatementType::StmtExecute`] see [`sql_body`].
+        /// Its type, which chooses the body.
+        operation: Operation,
+        /// Its body, encoded; of [`Operation::StmtExecute`] see [`sql_body`].
         body: &'a [u8],
     },
     /// Run a statement.
@@ -90,12 +90,12 @@ impl<'a> ClientMessage<'a> {
             (draft.hascompact, draft.compact) = (compact.is_some(), compact.unwrap_or(false));
         };
         let (mut body, mut fields): (&[u8], &[u8]) = (&[], &[]);
-        let (kind, stmt, cursor, choice) = match *self {
+        let (kind, stmt, cursor, operation) = match *self {
             ClientMessage::Reset => (6, 0, 0, 0),
             ClientMessage::SessionClose => (7, 0, 0, 0),
-            ClientMessage::Prepare { statement, statement_type, body: encoded } => {
+            ClientMessage::Prepare { statement, operation, body: encoded } => {
                 body = encoded;
-                (40, statement, 0, statement_type as u64)
+                (40, statement, 0, operation as u64)
             }
             ClientMessage::Execute { statement, args, compact_metadata } => {
                 put_rows(None, compact_metadata);
@@ -114,7 +114,7 @@ impl<'a> ClientMessage<'a> {
                 (45, 0, cursor, 0)
             }
         };
-        (draft.kind, draft.stmt, draft.cursor, draft.choice) = (kind, stmt, cursor, choice);
+        (draft.kind, draft.stmt, draft.cursor, draft.operation) = (kind, stmt, cursor, operation);
         (draft, body, fields)
     }
 
@@ -145,7 +145,7 @@ impl<'a> ClientMessage<'a> {
     }
 }
 
-/// The body of a [`StatementType::StmtExecute`] that carries this SQL: field 1, bytes.
+/// The body of an [`Operation::StmtExecute`] that carries this SQL: field 1, bytes.
 ///
 /// This is plain Rust, outside the proofs; the library judges the body when it writes or reads it.
 pub fn sql_body(sql: &[u8]) -> Vec<u8> {

@@ -1,7 +1,7 @@
 //! Frames as they arrive, cut anywhere.
 
 use karramotx::{
-    sql_body, Args, BadLength, ClientMessage, Frames, Kind, Refusal, Report, Session, StatementType, Work,
+    sql_body, Args, BadLength, ClientMessage, Frames, Kind, Operation, Refusal, Report, Session, Work,
     MAX_FRAME, MIN_REPLY,
 };
 
@@ -9,10 +9,10 @@ use karramotx::{
 fn conversation() -> Vec<Vec<u8>> {
     let body = sql_body(b"select leg");
     let args = Args::new();
-    let statement_type = StatementType::StmtExecute;
+    let operation = Operation::StmtExecute;
     let (compact_metadata, fetch_rows) = (None, Some(2));
     let messages = [
-        ClientMessage::Prepare { statement: 1, statement_type, body: &body },
+        ClientMessage::Prepare { statement: 1, operation, body: &body },
         ClientMessage::Open { cursor: 9, statement: 1, args: &args, compact_metadata, fetch_rows },
         ClientMessage::Fetch { cursor: 9, fetch_rows },
         ClientMessage::Fetch { cursor: 9, fetch_rows: None },

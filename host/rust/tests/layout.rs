@@ -2,7 +2,7 @@
 //! order of two fields, in the header or here, fails a test.
 
 use karramotx::ffi::*;
-use std::mem::{offset_of, size_of};
+use std::mem::{align_of, offset_of, size_of};
 
 /// What the header's KARRAMOTX_SIZE and KARRAMOTX_FIELD lines state.
 #[derive(Debug, Clone, Default, PartialEq)]
@@ -60,19 +60,19 @@ macro_rules! states {
 
 fn of_this_crate() -> Header {
     states! {
-        "karramotx_stmt" Stmt { id placeholders live }
+        "karramotx_stmt" Stmt { placeholders live }
         "karramotx_cursor" Cursor { id stmt rows sent live }
-        "karramotx_session" Session { stmts cursors closed }
+        "karramotx_session" Session { stmt_ids stmts cursors closed }
         "karramotx_counts" Counts { stmts cursors owed }
         "karramotx_look" Look { reason work first count }
-        "karramotx_report" Report { kind a b }
+        "karramotx_report" Report { kind placeholders columns rows code }
         "karramotx_answer" Answer { reason used reply columns first count }
         "karramotx_optional" Optional { present value }
         "karramotx_part" Part { start len }
         "karramotx_arguments" Arguments { good count kind index start end }
-        "karramotx_message" Message { reason used kind stmt cursor rows compact choice body args }
+        "karramotx_message" Message { reason used kind stmt cursor rows compact operation body args }
         "karramotx_value" Value { reason kind value start len next }
-        "karramotx_draft" Draft { kind stmt cursor hasrows rows hascompact compact choice }
+        "karramotx_draft" Draft { kind stmt cursor hasrows rows hascompact compact operation }
         "karramotx_sent" Sent { reason len }
         "karramotx_scalar" Scalar { kind value }
         "karramotx_reader" Reader { start end }
@@ -91,6 +91,11 @@ fn sorted(header: &Header) -> Header {
 #[test]
 fn the_header_and_this_crate_agree() {
     assert_eq!(sorted(&Header::read()), sorted(&of_this_crate()));
+}
+
+#[test]
+fn a_session_is_words() {
+    assert_eq!((size_of::<Session>(), align_of::<Session>()), (273 * 4, 4));
 }
 
 /// Reads a little-endian number of `width` bytes at a place of a struct that the archive filled.
@@ -132,9 +137,9 @@ impl Probe<'_> {
         }
     }
 
-    fn report(&self, kind: u64, a: u64, b: u64) -> Report {
+    fn report(&self, kind: u64, parts: &[(&str, u64)]) -> Report {
         let mut report = Report::default();
-        for (field, value) in [("kind", kind), ("a", a), ("b", b)] {
+        for &(field, value) in [("kind", kind)].iter().chain(parts) {
             put(&mut report, self.header.place("karramotx_report", field), 8, value);
         }
         report
@@ -143,24 +148,29 @@ impl Probe<'_> {
     /// A session with two statements and a cursor, every number in it another one.
     fn session(&mut self) {
         let mut s = unsafe { karramotx_fresh() };
-        step(&mut s, &prepare(700), self.report(1, 7, 0));
-        step(&mut s, &prepare(5), self.report(1, 0, 0));
-        let opened = step(&mut s, &open(), self.report(2, 4, 1000));
+        step(&mut s, &prepare(700), self.report(1, &[("placeholders", 7)]));
+        step(&mut s, &prepare(5), self.report(1, &[("placeholders", 0)]));
+        let opened = step(&mut s, &open(), self.report(2, &[("columns", 4), ("rows", 1000)]));
         let frame = fetch(11, 6);
         let look = unsafe { karramotx_look(&s, frame.as_ptr(), frame.len()) };
-        let fetched = step(&mut s, &frame, self.report(3, 0, 0));
-        let refused = step(&mut s, &fetch(77, 6), self.report(3, 0, 0));
+        let fetched = step(&mut s, &frame, self.report(3, &[]));
+        let refused = step(&mut s, &fetch(77, 6), self.report(3, &[]));
+        let failed = step(&mut s, &frame, self.report(4, &[("code", 1064)]));
 
+        let ids = self.header.place("karramotx_session", "stmt_ids");
         let stmts = self.header.place("karramotx_session", "stmts");
         let second = stmts + self.header.size("karramotx_stmt");
         let cursors = self.header.place("karramotx_session", "cursors");
-        self.expect(&s, stmts, "karramotx_stmt", &[("id", 4, 700), ("placeholders", 4, 7), ("live", 1, 1)]);
-        self.expect(&s, second, "karramotx_stmt", &[("id", 4, 5), ("placeholders", 4, 0), ("live", 1, 1)]);
+        if [get(&s, ids, 4), get(&s, ids + 4, 4)] != [700, 5] {
+            self.wrong.push("the ids of the statements stand elsewhere".to_string());
+        }
+        self.expect(&s, stmts, "karramotx_stmt", &[("placeholders", 4, 7), ("live", 4, 1)]);
+        self.expect(&s, second, "karramotx_stmt", &[("placeholders", 4, 0), ("live", 4, 1)]);
         self.expect(
             &s,
             cursors,
             "karramotx_cursor",
-            &[("id", 4, 11), ("stmt", 4, 5), ("rows", 4, 1000), ("sent", 4, 9), ("live", 1, 1)],
+            &[("id", 4, 11), ("stmt", 4, 5), ("rows", 4, 1000), ("sent", 4, 9), ("live", 4, 1)],
         );
         let counts = unsafe { karramotx_counts(&s) };
         self.expect(&counts, 0, "karramotx_counts", &[("stmts", 8, 2), ("cursors", 8, 1), ("owed", 8, 991)]);
@@ -184,10 +194,11 @@ impl Probe<'_> {
             &[("used", 8, 9), ("reply", 8, 10), ("columns", 1, 0), ("first", 8, 3), ("count", 8, 6)],
         );
         self.expect(&refused, 0, "karramotx_answer", &[("reason", 8, 10), ("used", 8, 9)]);
+        self.expect(&failed, 0, "karramotx_answer", &[("reason", 8, 16), ("used", 8, 9)]);
 
-        self.expect(&s, 0, "karramotx_session", &[("closed", 1, 0)]);
-        step(&mut s, &frame_of(7, &[]), self.report(0, 0, 0));
-        self.expect(&s, 0, "karramotx_session", &[("closed", 1, 1)]);
+        self.expect(&s, 0, "karramotx_session", &[("closed", 4, 0)]);
+        step(&mut s, &frame_of(7, &[]), self.report(0, &[]));
+        self.expect(&s, 0, "karramotx_session", &[("closed", 4, 1)]);
     }
 
     /// An Open with a number, an object and a string as its arguments, and a Prepare.
@@ -229,7 +240,7 @@ impl Probe<'_> {
         );
         let frame = prepare(700);
         let m = unsafe { karramotx_read(frame.as_ptr(), frame.len()) };
-        self.expect(&m, 0, "karramotx_message", &[("choice", 8, 5), ("stmt", 8, 700), ("cursor", 8, 0)]);
+        self.expect(&m, 0, "karramotx_message", &[("operation", 8, 5), ("stmt", 8, 700), ("cursor", 8, 0)]);
         let part = unsafe { karramotx_body(frame.as_ptr(), frame.len()) };
         self.expect(&part, 0, "karramotx_part", &[("start", 8, frame.len() as u64 - 3), ("len", 8, 3)]);
     }
@@ -278,7 +289,7 @@ impl Probe<'_> {
             ("compact", 1, 0),
         ]);
         self.writes(open, &[], open_with(&[&[0x18, 0x00]]));
-        let prepared = self.draft(&[("kind", 8, 40), ("stmt", 4, 700), ("choice", 8, 5)]);
+        let prepared = self.draft(&[("kind", 8, 40), ("stmt", 4, 700), ("operation", 8, 5)]);
         self.writes(prepared, b"\x0a\x01S", prepare(700));
     }
 

@@ -1,7 +1,7 @@
 //! Frames that Google's protobuf wrote are read field by field, and the library writes the same bytes. The
 //! vectors and what made them stand in `tests/protobuf`.
 
-use karramotx::{Args, Argument, ClientMessage, Kind, Message, Refusal, StatementType};
+use karramotx::{Args, Argument, ClientMessage, Kind, Message, Operation, Refusal};
 use std::collections::HashMap;
 
 struct Vector {
@@ -45,11 +45,11 @@ impl Vector {
         text.split(',').filter(|a| !a.is_empty()).collect()
     }
 
-    fn statement_type(&self) -> Option<StatementType> {
-        use StatementType::*;
+    fn operation(&self) -> Option<Operation> {
+        use Operation::*;
         let types = [(0, Find), (1, Insert), (2, Update), (4, Delete), (5, StmtExecute)];
-        let choice = self.number("choice")?;
-        Some(types.into_iter().find(|t| t.0 == choice).expect("a listed type").1)
+        let operation = self.number("operation")?;
+        Some(types.into_iter().find(|t| t.0 == operation).expect("a listed type").1)
     }
 }
 
@@ -87,7 +87,7 @@ fn what_protobuf_writes_is_read() {
         assert_eq!(m.cursor_id(), v.id("cursor"));
         assert_eq!(m.fetch_rows(), v.number("rows"));
         assert_eq!(m.compact_metadata(), v.number("compact").map(|c| c != 0));
-        assert_eq!(m.statement_type(), v.statement_type());
+        assert_eq!(m.operation(), v.operation());
         assert_eq!(m.body(), v.body());
         let args: Vec<String> = v.args().into_iter().map(expected).collect();
         assert_eq!(m.argument_count(), args.len());
@@ -133,8 +133,8 @@ fn what_is_written_is_what_protobuf_writes() {
             Kind::Reset => ClientMessage::Reset,
             Kind::SessionClose => ClientMessage::SessionClose,
             Kind::Prepare => {
-                let statement_type = v.statement_type().expect("a Prepare has a type");
-                ClientMessage::Prepare { statement, statement_type, body: &body }
+                let operation = v.operation().expect("a Prepare has a type");
+                ClientMessage::Prepare { statement, operation, body: &body }
             }
             Kind::Execute => ClientMessage::Execute { statement, args: &args, compact_metadata },
             Kind::Deallocate => ClientMessage::Deallocate { statement },

@@ -1,14 +1,14 @@
 //! The wrappers, used as a host would.
 
 use karramotx::{
-    sql_body, Args, Argument, ClientMessage, Kind, Message, Refusal, Report, Session, StatementType, Work,
+    sql_body, Args, Argument, ClientMessage, Kind, Message, Operation, Refusal, Report, Session, Work,
     MIN_REPLY,
 };
 
 fn prepare(statement: u32) -> Vec<u8> {
     let body = sql_body(b"select leg from airways");
-    let statement_type = StatementType::StmtExecute;
-    ClientMessage::Prepare { statement, statement_type, body: &body }.to_vec().unwrap()
+    let operation = Operation::StmtExecute;
+    ClientMessage::Prepare { statement, operation, body: &body }.to_vec().unwrap()
 }
 
 fn open(cursor: u32, statement: u32, fetch_rows: Option<u64>) -> Vec<u8> {
@@ -153,11 +153,10 @@ fn a_draft_that_is_refused_writes_nothing() {
         Err(Refusal::NoRoom)
     );
     let body = [0x08]; // a tag without its value
-    let bad = ClientMessage::Prepare { statement: 1, statement_type: StatementType::Find, body: &body };
+    let bad = ClientMessage::Prepare { statement: 1, operation: Operation::Find, body: &body };
     assert_eq!(bad.write_to(&mut buf), Err(Refusal::BadPayload));
     let long = sql_body(&vec![b' '; 65_600]);
-    let long =
-        ClientMessage::Prepare { statement: 1, statement_type: StatementType::StmtExecute, body: &long };
+    let long = ClientMessage::Prepare { statement: 1, operation: Operation::StmtExecute, body: &long };
     assert_eq!(long.to_vec(), Err(Refusal::BadLength));
     assert_eq!(buf, [0x5a; 8]);
 }

@@ -91,7 +91,7 @@ pub struct Message {
     /// Of Execute and of Open's Execute; a Prepare keeps its own in its body.
     pub compact_metadata: Option<bool>,
     /// Prepare's statement type.
-    pub choice: u32,
+    pub operation: u32,
     /// The chosen body of a Prepare, or Open's Execute.
     pub body: Place,
     /// The message that holds the arguments, where there is one.
@@ -116,13 +116,32 @@ impl Message {
     }
 }
 
-/// 0 none, 1 prepared (a placeholders), 2 result (a columns, b rows), 3 done,
-/// 4 failed (a code).
+/// 0 none, 1 prepared (placeholders), 2 result (columns and rows), 3 done,
+/// 4 failed (code). Numbers that a kind does not have may be any.
 #[derive(Clone, Copy, Debug, Default, PartialEq, Eq)]
 pub struct Report {
     pub kind: u8,
-    pub a: u64,
-    pub b: u64,
+    pub placeholders: u64,
+    pub columns: u64,
+    pub rows: u64,
+    pub code: u64,
+}
+
+impl Report {
+    pub const NONE: Report = Report { kind: 0, placeholders: 0, columns: 0, rows: 0, code: 0 };
+    pub const DONE: Report = Report { kind: 3, ..Report::NONE };
+
+    pub const fn prepared(placeholders: u64) -> Report {
+        Report { kind: 1, placeholders, ..Report::NONE }
+    }
+
+    pub const fn result(columns: u64, rows: u64) -> Report {
+        Report { kind: 2, columns, rows, ..Report::NONE }
+    }
+
+    pub const fn failed(code: u64) -> Report {
+        Report { kind: 4, code, ..Report::NONE }
+    }
 }
 
 #[derive(Clone, Copy, Debug, Default, PartialEq, Eq)]
@@ -189,7 +208,7 @@ pub struct Draft {
     pub rows: u64,
     pub has_compact: bool,
     pub compact: bool,
-    pub choice: u32,
+    pub operation: u32,
 }
 
 /// A scalar to append to a stretch of arguments: its type number, its number

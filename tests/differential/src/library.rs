@@ -11,8 +11,7 @@ use karramotx::ffi;
 pub struct Library;
 
 fn narrow<T: TryFrom<u64>>(number: u64) -> T {
-    T::try_from(number)
-        .unwrap_or_else(|_| panic!("the library answers {number}, which is out of range"))
+    T::try_from(number).unwrap_or_else(|_| panic!("the library answers {number}, which is out of range"))
 }
 
 /// An argument as the library tells it. Reason 8 does not say which of the two it is; the frame's summary
@@ -38,6 +37,12 @@ fn argument(v: ffi::Value) -> Argument {
 fn raw(frame: &[u8]) -> ffi::Message {
     // SAFETY: the pointer and the length are those of a slice.
     unsafe { ffi::karramotx_read(frame.as_ptr(), frame.len()) }
+}
+
+/// A flag that the library wrote.
+fn flag(number: u32) -> bool {
+    assert!(number <= 1, "the library writes a flag as {number}");
+    number == 1
 }
 
 fn optional(o: ffi::Optional) -> Option<u64> {
@@ -79,14 +84,14 @@ impl Implementation for Library {
 
     fn tables(&self, s: &ffi::Session) -> Tables {
         Tables {
-            closed: s.closed,
-            statements: s.stmts.map(|x| Statement {
-                live: x.live,
-                id: x.id,
-                placeholders: x.placeholders.into(),
+            closed: flag(s.closed),
+            statements: std::array::from_fn(|i| Statement {
+                live: flag(s.stmts[i].live),
+                id: s.stmt_ids[i],
+                placeholders: s.stmts[i].placeholders.into(),
             }),
             cursors: s.cursors.map(|x| Cursor {
-                live: x.live,
+                live: flag(x.live),
                 id: x.id,
                 stmt: x.stmt,
                 rows: x.rows.into(),
@@ -103,6 +108,7 @@ impl Implementation for Library {
             assert_eq!(m, rest, "a refused message holds nothing");
             return Message::refused(narrow(m.reason), m.used);
         }
+        assert!(m.args.good, "the arguments of a good frame are good");
         Message {
             reason: 0,
             used: m.used,
@@ -111,7 +117,7 @@ impl Implementation for Library {
             cursor: narrow(m.cursor),
             fetch_rows: optional(m.rows),
             compact_metadata: optional(m.compact).map(|v| narrow::<u8>(v) == 1),
-            choice: narrow(m.choice),
+            operation: narrow(m.operation),
             body: Place { start: m.body.start, len: m.body.len },
             args_place: Place { start: m.args.start, len: m.args.end - m.args.start },
             args: Library::args(frame, m),
@@ -169,7 +175,8 @@ impl Implementation for Library {
         report: Report,
         reply: &mut [u8],
     ) -> (ffi::Session, Answer) {
-        let report = ffi::Report { kind: report.kind.into(), a: report.a, b: report.b };
+        let Report { kind, placeholders, columns, rows, code } = report;
+        let report = ffi::Report { kind: kind.into(), placeholders, columns, rows, code };
         // SAFETY: pointers and lengths are those of slices, and what is written is borrowed uniquely.
         let answer = unsafe {
             ffi::karramotx_step(
@@ -201,7 +208,7 @@ impl Implementation for Library {
             rows: draft.rows,
             hascompact: draft.has_compact,
             compact: draft.compact,
-            choice: draft.choice.into(),
+            operation: draft.operation.into(),
         };
         // SAFETY: pointers and lengths are those of slices, and the buffer is borrowed uniquely.
         written(unsafe {

@@ -69,8 +69,8 @@ impl Tally {
 
     fn open(&mut self, message: &Message, report: Report) {
         let (cursor, stmt) = (message.cursor, message.stmt);
-        self.openings.push(Opening { cursor, stmt, reported: report.b, sent: 0 });
-        self.reported += u128::from(report.b);
+        self.openings.push(Opening { cursor, stmt, reported: report.rows, sent: 0 });
+        self.reported += u128::from(report.rows);
     }
 
     /// Adds the rows an Open or a Fetch sends, and checks their numbers and

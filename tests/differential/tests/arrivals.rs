@@ -57,10 +57,7 @@ fn bad_length<I: Implementation>(who: I) {
     assert_eq!(arriving.held().len(), 16);
     assert_eq!(arriving.next(), Ok(unhex(RESET)));
     assert_eq!(arriving.held(), [0; 4]);
-    assert_eq!(
-        (arriving.next(), arriving.push(RESET), arriving.push("")),
-        (Err(2), (2, 0), (2, 0))
-    );
+    assert_eq!((arriving.next(), arriving.push(RESET), arriving.push("")), (Err(2), (2, 0), (2, 0)));
     assert_eq!(arriving.held(), [0; 4]);
     arriving.start_over();
     assert_eq!((arriving.next(), arriving.push(RESET)), (Err(1), (0, 5)));

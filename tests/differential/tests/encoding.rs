@@ -86,7 +86,7 @@ fn error(talk: &mut Talk, frame: &[u8], report: Report) -> (Vec<u8>, String) {
 #[test]
 fn texts_of_refusals() {
     let mut talk = Talk::fresh();
-    talk.step(&prepare(1), Report { kind: 1, a: 3, b: 0 });
+    talk.step(&prepare(1), Report::prepared(3));
     let two = frame(EXECUTE, "0801 1206 0801 1202 0803 1202 0803 1202 0802");
     let text = "Argument at index '1' and of type 'ARRAY' is not supported \
                 for binding to prepared statement";
@@ -100,7 +100,7 @@ fn texts_of_refusals() {
     talk.step(&open(5, 2), result(0, 0));
     let text = "No more data in cursor (cursor id:'5')";
     assert_eq!(error(&mut talk, &frame(CURSOR_FETCH, "0805"), DONE), (unhex("FB2E"), text.into()));
-    let failed = Report { kind: 4, a: 1064, b: 0 };
+    let failed = Report::failed(1064);
     assert_eq!(error(&mut talk, &prepare(1), failed), (unhex("A808"), "Refused (16).".into()));
     talk.step(&frame(SESS_CLOSE, ""), NONE);
     assert_eq!(error(&mut talk, &frame(46, ""), NONE), (unhex("F42E"), "Refused (4).".into()));
@@ -109,19 +109,12 @@ fn texts_of_refusals() {
 #[test]
 fn the_trace_frames_written() {
     let mut out = [0x77; 20];
-    let draft = Draft { kind: PREPARE, stmt: 1, choice: 5, ..Draft::default() };
+    let draft = Draft { kind: PREPARE, stmt: 1, operation: 5, ..Draft::default() };
     let written = Model::honest().write(&draft, &unhex("0A0153"), &[], &mut out);
     assert_eq!(written, Written { reason: 0, length: 16 });
     assert_eq!(out[..16], unhex("0C000000 28 0801 1207 0805 3203 0A0153"));
     assert_eq!(out[16..], [0x77; 4]);
-    let draft = Draft {
-        kind: CURSOR_OPEN,
-        stmt: 1,
-        cursor: 1,
-        has_rows: true,
-        rows: 1,
-        ..Draft::default()
-    };
+    let draft = Draft { kind: CURSOR_OPEN, stmt: 1, cursor: 1, has_rows: true, rows: 1, ..Draft::default() };
     let written = Model::honest().write(&draft, &[], &[], &mut out);
     assert_eq!(out[..written.length], unhex("0D000000 2B 0801 2206 0800 1202 0801 2801"));
     assert_eq!(Model::honest().write(&draft, &[], &[], &mut out[..16]).reason, 3);

@@ -59,11 +59,7 @@ enum Told {
     StartedOver,
 }
 
-fn told<I: Implementation>(
-    who: &I,
-    reader: &mut I::Reader,
-    operation: &Operation,
-) -> (Told, Vec<u8>) {
+fn told<I: Implementation>(who: &I, reader: &mut I::Reader, operation: &Operation) -> (Told, Vec<u8>) {
     let told = match operation {
         Operation::Push(bytes) => Told::Pushed(who.push(reader, bytes)),
         Operation::NextFrame { .. } => Told::Next(who.next_frame(reader)),

@@ -28,14 +28,14 @@ impl<'b> Input<'b> {
         let length = self.number().filter(|length| *length <= 65_536)?;
         let (frame, rest) = self.0.split_at_checked(length as usize)?;
         self.0 = rest;
-        let mut report =
-            Report { kind: self.number().filter(|kind| *kind <= 4)? as u8, a: 0, b: 0 };
-        if matches!(report.kind, 1 | 2 | 4) {
-            report.a = self.number()?;
-        }
-        if report.kind == 2 {
-            report.b = self.number()?;
-        }
+        let report = match self.number()? {
+            0 => Report::NONE,
+            1 => Report::prepared(self.number()?),
+            2 => Report::result(self.number()?, self.number()?),
+            3 => Report::DONE,
+            4 => Report::failed(self.number()?),
+            _ => return None,
+        };
         Some((frame, report))
     }
 }

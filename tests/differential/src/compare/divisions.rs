@@ -16,11 +16,7 @@ struct End {
 
 /// Every division of every sample stream: the two sides are compared behind
 /// each operation, and each division with the stream that arrived whole.
-pub fn divide<A: Implementation, B: Implementation>(
-    a: &A,
-    b: &B,
-    coverage: &mut Coverage,
-) -> Option<Found> {
+pub fn divide<A: Implementation, B: Implementation>(a: &A, b: &B, coverage: &mut Coverage) -> Option<Found> {
     samples().iter().find_map(|stream| all_alike(a, b, divisions(stream), coverage))
 }
 

@@ -36,11 +36,7 @@ pub fn run<A: Implementation, B: Implementation>(
 }
 
 /// Runs the systematic sequences; a difference comes back shrunk.
-pub fn sweep<A: Implementation, B: Implementation>(
-    a: &A,
-    b: &B,
-    coverage: &mut Coverage,
-) -> Option<Found> {
+pub fn sweep<A: Implementation, B: Implementation>(a: &A, b: &B, coverage: &mut Coverage) -> Option<Found> {
     first_differing(a, b, systematic(), coverage)
 }
 

@@ -73,11 +73,7 @@ impl<'i, A: Implementation, B: Implementation> Pair<'i, A, B> {
         done.unwrap_or_else(|_| Err(broken("one of them", "panicked".into())))
     }
 
-    pub(super) fn step(
-        &mut self,
-        step: &Step,
-        coverage: &mut Coverage,
-    ) -> Result<Stepped, Difference> {
+    pub(super) fn step(&mut self, step: &Step, coverage: &mut Coverage) -> Result<Stepped, Difference> {
         // Both take the step before anything is compared, so that the print
         // of a mismatch has both answers.
         let (left, right) = (self.left.step(step), self.right.step(step));

@@ -81,10 +81,7 @@ fn look_binds(look: &Look, answer: &Answer) -> Result<(), String> {
 }
 
 /// Writes a draft and, if accepted, reads it back.
-pub fn written<I: Implementation>(
-    who: &I,
-    probe: &WriteProbe,
-) -> Result<(Written, Vec<u8>), Difference> {
+pub fn written<I: Implementation>(who: &I, probe: &WriteProbe) -> Result<(Written, Vec<u8>), Difference> {
     let mut out = pattern(probe.room);
     let written = who.write(&probe.draft, &probe.body, &probe.args, &mut out);
     if out[written.length..] != pattern(out.len())[written.length..] {
@@ -111,13 +108,13 @@ fn reads_back<I: Implementation>(who: &I, probe: &WriteProbe, frame: &[u8]) -> O
     same("rows read back", message.fetch_rows, has_rows.then_some(draft.rows))?;
     same("compact read back", message.compact_metadata, has_compact.then_some(draft.compact))?;
     if draft.kind == PREPARE {
-        same("choice read back", message.choice, draft.choice)?;
+        same("operation read back", message.operation, draft.operation)?;
         same("body read back", who.body(frame), &probe.body[..])?;
     }
     if has(&[EXECUTE, CURSOR_OPEN]) {
         let execute = message.args_place.of(frame);
-        let stands = probe.args.is_empty()
-            || execute.windows(probe.args.len()).any(|part| part == probe.args);
+        let stands =
+            probe.args.is_empty() || execute.windows(probe.args.len()).any(|part| part == probe.args);
         same("arguments read back", stands, true)?;
     }
     Ok(())

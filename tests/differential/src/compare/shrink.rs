@@ -93,10 +93,9 @@ impl<A: Implementation, B: Implementation> Shrinker<'_, A, B> {
         let mut joined: Vec<Event> = Vec::new();
         for event in &self.events {
             match (joined.last_mut(), event) {
-                (
-                    Some(Event::Reader(Operation::Push(last))),
-                    Event::Reader(Operation::Push(arrival)),
-                ) => last.extend(arrival),
+                (Some(Event::Reader(Operation::Push(last))), Event::Reader(Operation::Push(arrival))) => {
+                    last.extend(arrival)
+                }
                 _ => joined.push(event.clone()),
             }
         }

@@ -10,9 +10,7 @@ pub fn damaged(random: &mut Random, mut frame: Vec<u8>) -> Vec<u8> {
         // The relay cuts frames at odd places.
         0 => frame.truncate(random.below(frame.len())),
         1 => frame.truncate(random.below(6)),
-        2 => {
-            set_length(&mut frame, random.pick(&[0, LONGEST as u32 + 1, u32::MAX, LONGEST as u32]))
-        }
+        2 => set_length(&mut frame, random.pick(&[0, LONGEST as u32 + 1, u32::MAX, LONGEST as u32])),
         3 => {
             let length = u32::from_le_bytes([frame[0], frame[1], frame[2], frame[3]]);
             set_length(&mut frame, random.pick(&[length - 1, length + 1, 1]));

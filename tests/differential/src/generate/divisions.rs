@@ -85,9 +85,9 @@ pub fn divisions(stream: &[u8]) -> impl Iterator<Item = Vec<Event>> + '_ {
     let most = if stream.len() <= SHORTEST { 3 } else { 2 };
     let mut cuts = vec![Vec::new()];
     choose(stream.len(), most, &mut Vec::new(), &mut cuts);
-    cuts.into_iter().enumerate().flat_map(move |(n, cuts)| {
-        DRAINS.map(|drain| divided(stream, &cuts, drain, ROOMS[n % ROOMS.len()]))
-    })
+    cuts.into_iter()
+        .enumerate()
+        .flat_map(move |(n, cuts)| DRAINS.map(|drain| divided(stream, &cuts, drain, ROOMS[n % ROOMS.len()])))
 }
 
 /// Every choice of one to `most` cuts behind those chosen.

@@ -229,11 +229,7 @@ impl Encoder<'_> {
             return;
         }
         // Most kinds of bad field are bad at the end; a few need a rest to spoil.
-        let at = if self.random.permille(700) {
-            fields.len()
-        } else {
-            self.random.below(fields.len() + 1)
-        };
+        let at = if self.random.permille(700) { fields.len() } else { self.random.below(fields.len() + 1) };
         let field = self.bad_field();
         fields.insert(at, field);
     }

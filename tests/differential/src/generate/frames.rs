@@ -62,17 +62,17 @@ impl Encoder<'_> {
     }
 
     fn prepare(&mut self, intent: &Intent) -> Vec<u8> {
-        let mut choice = self.random.pick(&[0, 1, 2, 4, 5, 5, 5]);
+        let mut operation = self.random.pick(&[0, 1, 2, 4, 5, 5, 5]);
         if self.noise.bad > 0 && self.random.permille(100) {
-            choice = self.random.pick(&[3, 6, 7, u32::MAX]);
+            operation = self.random.pick(&[3, 6, 7, u32::MAX]);
         }
-        let body = self.prepare_body(choice);
-        let number = if choice < 3 { choice + 2 } else { choice.saturating_add(1) & 0xff };
+        let body = self.prepare_body(operation);
+        let number = if operation < 3 { operation + 2 } else { operation.saturating_add(1) & 0xff };
         let mut fields = vec![self.bytes(number, &body)];
         self.again_bytes(number, &mut fields);
         // Bodies the type does not choose are skipped unread.
         self.again_bytes(if number == 3 { 4 } else { 3 }, &mut fields);
-        fields.insert(0, self.low32(1, choice));
+        fields.insert(0, self.low32(1, operation));
         self.enum_noise(&mut fields, &[3, 6, 1 << 40 | 3], &[0, 5]);
         let stmt = self.message(fields);
         let mut fields = vec![self.bytes(2, &stmt)];
@@ -81,9 +81,9 @@ impl Encoder<'_> {
     }
 
     /// A body for a Prepare type.
-    pub fn prepare_body(&mut self, choice: u32) -> Vec<u8> {
+    pub fn prepare_body(&mut self, operation: u32) -> Vec<u8> {
         let mut fields = Vec::new();
-        if choice == 5 {
+        if operation == 5 {
             let len = self.random.below(20);
             let text = self.random.bytes(len);
             fields.push(self.bytes(1, &text));
@@ -134,11 +134,7 @@ impl Encoder<'_> {
             return frame.to_vec();
         };
         payload.extend([0xc2, 0x02]);
-        payload.extend([
-            fill as u8 & 0x7f | 0x80,
-            (fill >> 7) as u8 & 0x7f | 0x80,
-            (fill >> 14) as u8,
-        ]);
+        payload.extend([fill as u8 & 0x7f | 0x80, (fill >> 7) as u8 & 0x7f | 0x80, (fill >> 14) as u8]);
         payload.resize(length - 1, 0xaa);
         framed(frame[4], &payload)
     }

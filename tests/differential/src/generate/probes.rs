@@ -30,7 +30,7 @@ pub fn write_probe(random: &mut Random) -> WriteProbe {
     let pad = if random.permille(300) { 100 } else { 0 };
     let noise = Noise { bad, pad, extra: 30, ..Noise::default() };
     let mut encoder = Encoder { random, noise };
-    let mut body = encoder.prepare_body(draft.choice);
+    let mut body = encoder.prepare_body(draft.operation);
     let count = encoder.random.below(4);
     let mut args = encoder.args(count, true).concat();
     if encoder.random.permille(bad) {
@@ -73,13 +73,13 @@ fn draft(random: &mut Random) -> Draft {
         rows: number(random),
         has_compact: random.permille(500),
         compact: random.permille(500),
-        choice: random.pick(&[0, 1, 2, 4, 5, 5]),
+        operation: random.pick(&[0, 1, 2, 4, 5, 5]),
     };
     if random.permille(30) {
         draft.kind = random.pick(&[0, 5, 8, 39, 46, 255]);
     }
     if random.permille(40) {
-        draft.choice = random.pick(&[3, 6, u32::MAX]);
+        draft.operation = random.pick(&[3, 6, u32::MAX]);
     }
     draft
 }

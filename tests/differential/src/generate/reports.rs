@@ -14,10 +14,20 @@ pub fn report(random: &mut Random, work: Work) -> Report {
     }
     match work {
         Work::None => anything(random),
-        Work::Prepare => Report { kind: 1, a: placeholders(random), b: 0 },
+        Work::Prepare => Report { kind: 1, placeholders: placeholders(random), ..rest(random) },
         Work::Execute | Work::Open => result(random),
-        Work::Fetch => Report { kind: 3, ..Report::default() },
+        Work::Fetch => Report { kind: 3, ..rest(random) },
     }
+}
+
+/// Numbers for what a kind does not have: none, or any.
+fn rest(random: &mut Random) -> Report {
+    if random.permille(800) {
+        return Report::NONE;
+    }
+    let (placeholders, columns) = (number(random), number(random));
+    let (rows, code) = (number(random), number(random));
+    Report { kind: 0, placeholders, columns, rows, code }
 }
 
 fn placeholders(random: &mut Random) -> u64 {
@@ -30,14 +40,14 @@ fn placeholders(random: &mut Random) -> u64 {
 }
 
 fn result(random: &mut Random) -> Report {
-    let a = match random.below(40) {
+    let columns = match random.below(40) {
         0 => 4_096,
         1 => 4_097,
         2 => number(random),
         n if n < 8 => 0,
         n => n as u64 % 4 + 1,
     };
-    let b = match random.below(40) {
+    let rows = match random.below(40) {
         0 => u64::from(u32::MAX),
         1 => 1 << 32,
         2 => number(random),
@@ -46,16 +56,18 @@ fn result(random: &mut Random) -> Report {
         n => n as u64 % 12 + 1,
     };
     // Mostly no rows where there are no columns, as a good report has it.
-    let b = if a == 0 && random.permille(800) { 0 } else { b };
-    Report { kind: 2, a, b }
+    let rows = if columns == 0 && random.permille(800) { 0 } else { rows };
+    Report { kind: 2, columns, rows, ..rest(random) }
 }
 
 fn failure(random: &mut Random) -> Report {
     let edges = [0, 1, 127, 128, 1064, 5110, u64::from(u32::MAX), 1 << 32, u64::MAX];
-    Report { kind: 4, a: random.pick(&edges), b: number(random) }
+    Report { kind: 4, code: random.pick(&edges), ..rest(random) }
 }
 
 fn anything(random: &mut Random) -> Report {
-    let kind = random.below(6) as u8;
-    Report { kind: if kind == 5 { 255 } else { kind }, a: number(random), b: number(random) }
+    let kind = random.pick(&[0, 1, 2, 3, 4, 255]);
+    let (placeholders, columns) = (number(random), number(random));
+    let (rows, code) = (number(random), number(random));
+    Report { kind, placeholders, columns, rows, code }
 }

@@ -106,8 +106,7 @@ fn stream(random: &mut Random) -> Stream {
     let mut stream = Stream { bytes: Vec::new(), starts: Vec::new() };
     for _ in 0..random.range(1, most) {
         stream.starts.push(stream.bytes.len());
-        let part =
-            if random.permille(large) { large_frame(random) } else { part(random, &mut guide) };
+        let part = if random.permille(large) { large_frame(random) } else { part(random, &mut guide) };
         stream.bytes.extend(part);
     }
     stream

@@ -47,9 +47,9 @@ fn step(frame: Vec<u8>) -> Step {
 /// The step a frame's kind is meant for.
 pub fn step_on(frame: Vec<u8>, room: usize) -> Step {
     let report = match frame.get(4).copied() {
-        Some(PREPARE) => Report { kind: 1, a: 1, b: 0 },
-        Some(CURSOR_FETCH) => Report { kind: 3, a: 0, b: 0 },
-        _ => Report { kind: 2, a: 1, b: 5 },
+        Some(PREPARE) => Report::prepared(1),
+        Some(CURSOR_FETCH) => Report::DONE,
+        _ => Report::result(1, 5),
     };
     Step { frame, report, room }
 }
@@ -132,8 +132,7 @@ mod tests {
             let mut session = Session::fresh();
             for step in setup().into_iter().chain([step(base)]) {
                 let answer;
-                (session, answer) =
-                    Model::honest().step(session, &step.frame, step.report, &mut [0; 128]);
+                (session, answer) = Model::honest().step(session, &step.frame, step.report, &mut [0; 128]);
                 assert_eq!(answer.reason, 0, "{step:?}");
             }
         }

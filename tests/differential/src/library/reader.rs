@@ -67,8 +67,7 @@ impl Reader {
         self.reader = next.reader;
         self.check();
         if next.reason != 0 {
-            let none =
-                ffi::NextFrame { reader: next.reader, reason: next.reason, ..Default::default() };
+            let none = ffi::NextFrame { reader: next.reader, reason: next.reason, ..Default::default() };
             assert_eq!(next, none, "where there is no frame there is no place");
         } else {
             assert_eq!(next.start, held.start, "the frame that stands first is handed out");

@@ -100,13 +100,7 @@ impl Implementation for Model {
         self.look_at(session, frame)
     }
 
-    fn step(
-        &self,
-        session: Session,
-        frame: &[u8],
-        report: Report,
-        reply: &mut [u8],
-    ) -> (Session, Answer) {
+    fn step(&self, session: Session, frame: &[u8], report: Report, reply: &mut [u8]) -> (Session, Answer) {
         self.take_step(session, frame, report, reply)
     }
 

@@ -79,27 +79,22 @@ impl Model {
         if self.makes(Mistake::PrepareType3) {
             bodies.push((3, 5));
         }
-        let listed: Vec<u32> = bodies.iter().map(|(choice, _)| *choice).collect();
-        let choice = fields.listed(1, &listed)?;
-        let (_, number) = bodies.into_iter().find(|(listed, _)| *listed == choice)?;
+        let listed: Vec<u32> = bodies.iter().map(|(operation, _)| *operation).collect();
+        let operation = fields.listed(1, &listed)?;
+        let (_, number) = bodies.into_iter().find(|(listed, _)| *listed == operation)?;
         let body = fields.embedded(number)?;
         if body.len == 0 && self.makes(Mistake::EmptyBodyMissing) {
             return None;
         }
-        let args = self.prepare_body(choice, frame, body)?;
-        let args_place = if choice == STMT_EXECUTE { body } else { Place::default() };
-        Some(Message { choice, body, args_place, args, ..Message::default() })
+        let args = self.prepare_body(operation, frame, body)?;
+        let args_place = if operation == STMT_EXECUTE { body } else { Place::default() };
+        Some(Message { operation, body, args_place, args, ..Message::default() })
     }
 
     /// A Prepare body's arguments; `None` if the body is bad.
-    pub(super) fn prepare_body(
-        &self,
-        choice: u32,
-        bytes: &[u8],
-        body: Place,
-    ) -> Option<Vec<Value>> {
+    pub(super) fn prepare_body(&self, operation: u32, bytes: &[u8], body: Place) -> Option<Vec<Value>> {
         let fields = self.fields(bytes, body)?;
-        if choice != STMT_EXECUTE {
+        if operation != STMT_EXECUTE {
             return Some(Vec::new());
         }
         let text = fields.bytes(1);
@@ -120,11 +115,7 @@ impl Model {
             stmt: fields.uint32(1)?,
             compact_metadata: fields.boolean(3),
             args_place: part,
-            args: fields
-                .repeated(2)
-                .into_iter()
-                .map(|any| self.any(frame, any))
-                .collect::<Option<_>>()?,
+            args: fields.repeated(2).into_iter().map(|any| self.any(frame, any)).collect::<Option<_>>()?,
             ..Message::default()
         })
     }

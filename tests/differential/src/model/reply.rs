@@ -79,11 +79,7 @@ impl Model {
     }
 
     pub(super) fn no_more_data(&self, used: usize, id: u32) -> Refused {
-        Refused::with(
-            11,
-            used,
-            format!("No more data in cursor (cursor id:'{}')", self.id_text(id)),
-        )
+        Refused::with(11, used, format!("No more data in cursor (cursor id:'{}')", self.id_text(id)))
     }
 }
 

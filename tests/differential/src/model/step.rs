@@ -74,13 +74,13 @@ impl Model {
             return Ok(());
         }
         let (wide, zero) = (self.makes(Mistake::WideCode), self.makes(Mistake::CodeZero));
-        let good_code = (report.a >= 1 || zero) && (report.a <= u64::from(u32::MAX) || wide);
+        let good_code = (report.code >= 1 || zero) && (report.code <= u64::from(u32::MAX) || wide);
         if report.kind == 4 && good_code {
-            return Err(Refused::failed(used, report.a));
+            return Err(Refused::failed(used, report.code));
         }
         let more = u64::from(self.makes(Mistake::MorePlaceholders));
         let good = match work {
-            Work::Prepare => report.kind == 1 && report.a <= MOST_PLACEHOLDERS + more,
+            Work::Prepare => report.kind == 1 && report.placeholders <= MOST_PLACEHOLDERS + more,
             Work::Execute | Work::Open => report.kind == 2 && self.good_result(report),
             _ => report.kind == 3,
         };
@@ -93,18 +93,14 @@ impl Model {
 
     /// Columns and rows within their limits; no columns means no rows.
     fn good_result(&self, report: Report) -> bool {
-        let without = report.a == 0 && report.b > 0 && !self.makes(Mistake::RowsWithoutColumns);
+        let Report { columns, rows, .. } = report;
+        let without = columns == 0 && rows > 0 && !self.makes(Mistake::RowsWithoutColumns);
         let more_columns = u64::from(self.makes(Mistake::MoreColumns));
         let more_rows = u64::from(self.makes(Mistake::MoreRows));
-        report.a <= MOST_COLUMNS + more_columns && report.b <= MOST_ROWS + more_rows && !without
+        columns <= MOST_COLUMNS + more_columns && rows <= MOST_ROWS + more_rows && !without
     }
 
-    fn carry_out(
-        &self,
-        before: &Session,
-        message: &Message,
-        report: Report,
-    ) -> Result<Outcome, Refused> {
+    fn carry_out(&self, before: &Session, message: &Message, report: Report) -> Result<Outcome, Refused> {
         self.judge_report(work_of(message.kind), report, message.used)?;
         let session = before.clone();
         Ok(match message.kind {
@@ -120,7 +116,7 @@ impl Model {
         if !self.makes(Mistake::ReplaceKeepsCursor) {
             session.end_cursor_on(message.stmt);
         }
-        let new = Statement { live: true, id: message.stmt, placeholders: report.a };
+        let new = Statement { live: true, id: message.stmt, placeholders: report.placeholders };
         session.put_statement(self, new);
         ok(session)
     }
@@ -129,23 +125,23 @@ impl Model {
         if !self.makes(Mistake::ExecuteKeepsCursor) {
             session.end_cursor_on(message.stmt);
         }
-        let columns = report.a > 0;
+        let columns = report.columns > 0;
         let done = columns || self.makes(Mistake::ExecuteAlwaysDone);
         let reply = if done { vec![FETCH_DONE, STMT_EXECUTE_OK] } else { vec![STMT_EXECUTE_OK] };
-        Outcome { session, reply, columns, first: 0, count: report.b }
+        Outcome { session, reply, columns, first: 0, count: report.rows }
     }
 
     fn open(&self, mut session: Session, message: &Message, report: Report) -> Outcome {
         let absent = if self.makes(Mistake::OpenAbsentAll) { u64::MAX } else { 0 };
-        let sent = message.fetch_rows.unwrap_or(absent).min(report.b);
+        let sent = message.fetch_rows.unwrap_or(absent).min(report.rows);
         if self.makes(Mistake::OtherCursorClosed) {
             session.end_cursor_on(message.stmt);
         }
         let (id, stmt) = (message.cursor, message.stmt);
-        let cursor = Cursor { live: true, id, stmt, rows: report.b, sent };
+        let cursor = Cursor { live: true, id, stmt, rows: report.rows, sent };
         session.put_cursor(self, cursor);
         let mut reply = self.ending(&cursor, sent);
-        let columns = report.a > 0;
+        let columns = report.columns > 0;
         if !columns && self.makes(Mistake::OpenWithoutDone) {
             reply = vec![STMT_EXECUTE_OK];
         }

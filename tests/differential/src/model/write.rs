@@ -5,13 +5,7 @@ use super::{Mistake, Model};
 use crate::implementation::*;
 
 impl Model {
-    pub(super) fn write_message(
-        &self,
-        draft: &Draft,
-        body: &[u8],
-        args: &[u8],
-        out: &mut [u8],
-    ) -> Written {
+    pub(super) fn write_message(&self, draft: &Draft, body: &[u8], args: &[u8], out: &mut [u8]) -> Written {
         let Some(payload) = self.encode(draft, body, args) else {
             return Written { reason: 6, length: 0 };
         };
@@ -69,14 +63,14 @@ impl Model {
 
     /// Prepare's stmt around a body handed in encoded.
     fn encode_prepared(&self, draft: &Draft, body: &[u8]) -> Option<Vec<u8>> {
-        let number = match draft.choice {
-            0..=2 => u64::from(draft.choice) + 2,
-            4 | 5 => u64::from(draft.choice) + 1,
+        let number = match draft.operation {
+            0..=2 => u64::from(draft.operation) + 2,
+            4 | 5 => u64::from(draft.operation) + 1,
             _ => return None,
         };
-        self.prepare_body(draft.choice, body, Place { start: 0, len: body.len() })?;
+        self.prepare_body(draft.operation, body, Place { start: 0, len: body.len() })?;
         let mut stmt = Vec::new();
-        plain(1, u64::from(draft.choice), &mut stmt);
+        plain(1, u64::from(draft.operation), &mut stmt);
         nested(number, body, &mut stmt);
         Some(stmt)
     }

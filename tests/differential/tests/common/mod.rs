@@ -6,12 +6,12 @@
 use differential::implementation::*;
 use differential::model::{Model, Session};
 
-pub const PREPARED: Report = Report { kind: 1, a: 0, b: 0 };
-pub const DONE: Report = Report { kind: 3, a: 0, b: 0 };
-pub const NONE: Report = Report { kind: 0, a: 0, b: 0 };
+pub const PREPARED: Report = Report::prepared(0);
+pub const DONE: Report = Report::DONE;
+pub const NONE: Report = Report::NONE;
 
 pub fn result(columns: u64, rows: u64) -> Report {
-    Report { kind: 2, a: columns, b: rows }
+    Report::result(columns, rows)
 }
 
 /// Bytes from hex; blanks are for the reader.

@@ -1,0 +1,80 @@
+#include "compare.h"
+
+#include <string.h>
+
+static bool same_part(Part a, Part b)
+{
+    return a.start == b.start && a.len == b.len;
+}
+
+static bool same_args(const Arguments *a, const Arguments *b)
+{
+    return a->count == b->count && a->kind == b->kind && a->index == b->index && a->start == b->start &&
+           a->end == b->end;
+}
+
+static bool same_message(const Message *a, const Message *b)
+{
+    return a->reason == b->reason && a->used == b->used && a->kind == b->kind && a->stmt == b->stmt &&
+           a->cursor == b->cursor && a->has_rows == b->has_rows && a->rows == b->rows &&
+           a->has_compact == b->has_compact && a->compact == b->compact && a->operation == b->operation &&
+           same_part(a->body, b->body) && same_args(&a->args, &b->args);
+}
+
+static bool same_value(const Value *a, const Value *b)
+{
+    return a->reason == b->reason && a->kind == b->kind && a->value == b->value && a->start == b->start &&
+           a->len == b->len && a->next == b->next;
+}
+
+static bool same_look(Look a, Look b)
+{
+    return a.reason == b.reason && a.work == b.work && a.first == b.first && a.count == b.count;
+}
+
+static bool same_answer(const Answer *a, const Answer *b)
+{
+    return a->reason == b->reason && a->used == b->used && a->reply == b->reply && a->columns == b->columns &&
+           a->first == b->first && a->count == b->count;
+}
+
+const char *differ_reading(const uint8_t *frame, size_t len)
+{
+    Message a, b;
+    Value v, w;
+    plain_read(frame, len, &a);
+    library_read(frame, len, &b);
+    if (!same_message(&a, &b))
+        return "the message";
+    for (size_t at = a.args.start; at < a.args.end; at = v.next) {
+        plain_next_argument(frame, a.args.end, at, &v);
+        library_next_argument(frame, a.args.end, at, &w);
+        if (!same_value(&v, &w))
+            return "an argument";
+        if (v.reason == FEW_ARGUMENTS)
+            break;
+    }
+    return NULL;
+}
+
+const char *differ_stepping(Session *plain, LibrarySession *library, const uint8_t *frame, size_t len,
+                            const Report *report, size_t reply_len, Answer *answer)
+{
+    /* what a step leaves alone must show */
+    enum { BEFORE = 0xa5 };
+    uint8_t x[MIN_REPLY + 1], y[MIN_REPLY + 1];
+    LibraryReport library_form = library_report(report);
+    if (!same_look(plain_look(plain, frame, len), library_look(library, frame, len)))
+        return "the look";
+    memset(x, BEFORE, sizeof x);
+    memset(y, BEFORE, sizeof y);
+    plain_step(plain, frame, len, report, x, reply_len, answer);
+    Answer other = library_step(library, frame, len, &library_form, y, reply_len);
+    if (!same_answer(answer, &other))
+        return "the answer";
+    if (memcmp(x, y, sizeof x))
+        return "the reply";
+    if (!library_holds(library, plain))
+        return "the session";
+    return NULL;
+}

@@ -1,0 +1,234 @@
+#include "lines.h"
+
+#include <stdio.h>
+#include <stdlib.h>
+#include <string.h>
+
+#include "odd_frames.h"
+
+/* The session of every line: all places are taken, and what a line asks for stands in the middle of its table.
+ * Statements have the ids 1 to 64 and cursors 1 to 16, a cursor on every fourth statement. */
+enum { CURSOR = 8, OPENED = 4 * CURSOR, EXECUTED, REPLACED, NOT_LIVE = 99 };
+enum { NULLS = 8190, OBJECTS = 16377, EMPTY_STRINGS = 5460 };
+
+static const Report none = {.kind = REPORT_NONE}, done = {.kind = REPORT_DONE}, prepared = {.kind = REPORT_PREPARED},
+                    result = {.kind = REPORT_RESULT, .columns = 7, .rows = 60000};
+
+static Line lines[64];
+static size_t count;
+
+static Line *add(const char *name, Side plain, Side library, Report report)
+{
+    Line *l = &lines[count++];
+    l->name = name;
+    l->plain = plain;
+    l->library = library;
+    set_report(&l->event, report);
+    return l;
+}
+
+static Frame *reading(const char *name, bool others)
+{
+    Line *l = add(name, plain_reads, library_reads, none);
+    l->others = others;
+    return &l->event.frame;
+}
+
+static Frame *arguments(const char *name)
+{
+    Line *l = add(name, plain_args, library_args, none);
+    l->others = true;
+    return &l->event.frame;
+}
+
+static Frame *looking(const char *name)
+{
+    return &add(name, plain_looks, library_looks, none)->event.frame;
+}
+
+static Frame *stepping(const char *name, Report report)
+{
+    return &add(name, plain_steps, library_steps, report)->event.frame;
+}
+
+/* ---- the list */
+
+static void add_reading(void)
+{
+    fetch_frame(reading("read Fetch", true), 1, 300);
+    prepare_frame(reading("read Prepare, 120 bytes of SQL", true), 1, 120, 0, NULL);
+    execute_frame(reading("read Execute, 4 arguments", false), 2, 4);
+    execute_frame(arguments("args Execute, 4 arguments"), 2, 4);
+    open_frame(reading("read Open", true), 1, 1, 0, 300);
+    execute_frame(reading("read Execute, 2000 arguments", false), 2, 2000);
+    execute_frame(arguments("args Execute, 2000 arguments"), 2, 2000);
+    repeat_frame(reading("read Execute, 8190 nulls", false), 2, NULLS, put_null);
+    repeat_frame(arguments("args Execute, 8190 nulls"), 2, NULLS, put_null);
+    repeat_frame(reading("read Execute, 5460 empty strings", false), 2, EMPTY_STRINGS, put_empty_string);
+    repeat_frame(arguments("args Execute, 5460 empty strings"), 2, EMPTY_STRINGS, put_empty_string);
+    prepare_frame(reading("read Prepare, 60 KB of SQL", true), 1, 60000, 0, NULL);
+    prepare_frame(reading("read Prepare, 16377 objects", false), 1, 1, OBJECTS, put_object);
+    find_frame(reading("read Prepare, find of 60 KB", false), 1, 60000);
+    reset_with(reading("read Reset, groups 32 deep, 60 KB", true), unknown_groups, 60000);
+    reset_with(reading("read Reset, groups 32 deep, 64 bytes", true), unknown_groups, 60);
+    reset_with(reading("read Reset, fields of 2 bytes, 65 KB", false), tiny_fields, MAX_FRAME);
+    reset_with(reading("read Reset, padded varints, 65 KB", false), padded_numbers, MAX_FRAME);
+    reset_with(reading("read Reset, padded tags, 65 KB", false), padded_tags, MAX_FRAME);
+}
+
+static void add_looking(void)
+{
+    fetch_frame(looking("look Fetch"), CURSOR, 300);
+    prepare_frame(looking("look Prepare, 120 bytes of SQL"), REPLACED, 120, 0, NULL);
+    execute_frame(looking("look Execute, 4 arguments"), EXECUTED, 4);
+    open_frame(looking("look Open, 1 argument"), CURSOR, OPENED, 1, 300);
+}
+
+static void add_small_steps(void)
+{
+    fetch_frame(stepping("step Fetch", done), CURSOR, 1);
+    prepare_frame(stepping("step Prepare, 120 bytes of SQL", prepared), REPLACED, 120, 0, NULL);
+    execute_frame(stepping("step Execute, 4 arguments", result), EXECUTED, 4);
+    open_frame(stepping("step Open, 1 argument", result), CURSOR, OPENED, 1, 300);
+    fetch_frame(stepping("step Fetch, refused 10", done), NOT_LIVE, 1);
+    id_frame(stepping("step Deallocate, refused 7", none), DEALLOCATE, NOT_LIVE);
+    fetch_with(stepping("step Fetch, groups 32 deep", done), CURSOR, unknown_groups, 20);
+    fetch_padded_numbers(stepping("step Fetch, padded varints", done), CURSOR);
+    fetch_padded_tags(stepping("step Fetch, padded tags", done), CURSOR);
+}
+
+static void add_long_steps(void)
+{
+    execute_frame(stepping("step Execute, 2000 arguments", result), EXECUTED, 2000);
+    repeat_frame(stepping("step Execute, 8190 nulls", result), EXECUTED, NULLS, put_null);
+    repeat_frame(stepping("step Execute, 5460 empty strings", result), EXECUTED, EMPTY_STRINGS, put_empty_string);
+    prepare_frame(stepping("step Prepare, 60 KB of SQL", prepared), REPLACED, 60000, 0, NULL);
+    prepare_frame(stepping("step Prepare, 16377 objects", prepared), REPLACED, 1, OBJECTS, put_object);
+    find_frame(stepping("step Prepare, find of 60 KB", prepared), REPLACED, 60000);
+    fetch_with(stepping("step Fetch, fields of 2 bytes, 65 KB", done), CURSOR, tiny_fields, MAX_FRAME);
+    fetch_with(stepping("step Fetch, padded varints, 65 KB", done), CURSOR, padded_numbers, MAX_FRAME);
+    fetch_with(stepping("step Fetch, padded tags, 65 KB", done), CURSOR, padded_tags, MAX_FRAME);
+    fetch_frame(&add("step changeover night, 40 x 204 steps", plain_night, library_night, done)->event.frame, CURSOR,
+                300);
+}
+
+/* ---- frames as they arrive */
+
+static void add_to_stream(Line *line, size_t len)
+{
+    if (line->event.frame.len != len) {
+        printf("%s: a frame has another length\n", line->name);
+        exit(1);
+    }
+    stream_add(line->stream, line->event.frame.bytes, len);
+}
+
+/* Fetches. There are as many as an arrival has bytes, so that they end with an arrival. */
+static void small_frames(Line *line)
+{
+    /* a cursor id and rows of two bytes each make a frame so long */
+    enum { SMALL = 11, FIRST_CURSOR = 128, ROWS = 300 };
+    static Stream stream;
+    line->stream = &stream;
+    for (unsigned i = 0; i < ARRIVAL; i++) {
+        fetch_frame(&line->event.frame, FIRST_CURSOR + i, ROWS);
+        add_to_stream(line, SMALL);
+    }
+    stream_finish(&stream);
+}
+
+/* One Prepare, over and over. */
+static void long_frames(Line *line)
+{
+    enum { LONG = 61440, AROUND_SQL = 21 };
+    static Stream stream;
+    line->stream = &stream;
+    prepare_frame(&line->event.frame, 1, LONG - AROUND_SQL, 0, NULL);
+    add_to_stream(line, LONG);
+    stream_finish(&stream);
+}
+
+/* ---- their session */
+
+static void fill_step(Line *line, const Frame *f, Report report)
+{
+    LibraryReport form = library_report(&report);
+    uint8_t reply[MIN_REPLY];
+    Answer a;
+    plain_step(&line->plain_session, f->bytes, f->len, &report, reply, sizeof reply, &a);
+    Answer b = library_step(&line->library_session, f->bytes, f->len, &form, reply, sizeof reply);
+    if (a.reason != ACCEPTED || b.reason != ACCEPTED) {
+        printf("%s: its session cannot be made\n", line->name);
+        exit(1);
+    }
+}
+
+static void fill_session(Line *line)
+{
+    static Frame f;
+    Report many = {.kind = REPORT_RESULT, .columns = 7, .rows = UINT32_MAX}, holes = prepared;
+    plain_fresh(&line->plain_session);
+    library_fresh(&line->library_session);
+    for (unsigned id = 1; id <= MAX_STMTS; id++) {
+        prepare_frame(&f, id, 20, 0, NULL);
+        holes.placeholders = id == OPENED ? 1 : id == EXECUTED ? 4 : 0;
+        fill_step(line, &f, holes);
+    }
+    for (unsigned id = 1; id <= MAX_CURSORS; id++) {
+        open_frame(&f, id, 4 * id, 1, 0);
+        fill_step(line, &f, many);
+    }
+}
+
+void make_lines(void)
+{
+    add_reading();
+    add_looking();
+    add_small_steps();
+    add_long_steps();
+    small_frames(add("arrive frames of 11 bytes, per frame", plain_arrives, library_arrives, done));
+    long_frames(add("arrive frames of 60 KB, per frame", plain_arrives, library_arrives, prepared));
+    fill_session(&lines[0]);
+    for (size_t i = 1; i < count; i++) {
+        lines[i].plain_session = lines[0].plain_session;
+        lines[i].library_session = lines[0].library_session;
+    }
+}
+
+/* ---- for others */
+
+size_t line_count(void)
+{
+    return count;
+}
+
+Line *line_at(size_t i)
+{
+    return &lines[i];
+}
+
+bool starts_with(const char *name, const char *start)
+{
+    return !strncmp(name, start, strlen(start));
+}
+
+Line *line_named(const char *name)
+{
+    for (size_t i = 0; i < count; i++)
+        if (starts_with(lines[i].name, name))
+            return &lines[i];
+    printf("no line is named %s\n", name);
+    exit(1);
+}
+
+size_t frames_of(const Line *line)
+{
+    return line->stream ? line->stream->frames : 1;
+}
+
+size_t counted_runs(const Line *line)
+{
+    enum { SHORT = 1024 };
+    bool many_steps = line->plain == plain_night || line->stream;
+    return many_steps || line->event.frame.len > SHORT ? 10 : 1000;
+}

@@ -1,0 +1,11 @@
+/* Arguments: an Any with a Scalar in it. */
+#ifndef PLAIN_ARGS_H
+#define PLAIN_ARGS_H
+
+#include "plain.h"
+#include "plain_wire.h"
+
+/* One args field: counts it in `args` and notes the first object or array. False for a bad one. */
+bool count_argument(const Field *field, Arguments *args);
+
+#endif

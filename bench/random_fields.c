@@ -1,0 +1,89 @@
+#include "random_fields.h"
+
+#include <string.h>
+
+#include "random.h"
+
+void put_some_number(Frame *f, uint64_t v)
+{
+    if (one_in(12))
+        put_padded(f, v, 1 + pick(11));
+    else
+        put_number(f, v);
+}
+
+void put_some_field(Frame *f, uint32_t number, uint64_t v)
+{
+    put_some_number(f, TAG(number, NUMBER));
+    put_some_number(f, v);
+}
+
+void put_some_bytes(Frame *f, uint32_t number, const Frame *bytes)
+{
+    put_some_number(f, TAG(number, BYTES));
+    put_some_number(f, bytes->len);
+    memcpy(f->bytes + f->len, bytes->bytes, bytes->len);
+    f->len += bytes->len;
+}
+
+void put_random_bytes(Frame *f, size_t len)
+{
+    while (len-- > 0)
+        put(f, (uint8_t)pick(256));
+}
+
+/* Groups around the deepest that are read, some with fields in them or an end that is not theirs. */
+static void put_some_groups(Frame *f)
+{
+    uint32_t depth = one_in(3) ? 31 + pick(10) / 4 : 1 + pick(4), number = 1 + pick(20);
+    for (uint32_t i = 0; i < depth; i++) {
+        put_some_number(f, TAG(number, GROUP));
+        if (one_in(4))
+            put_some_field(f, 1 + pick(20), random_number());
+    }
+    for (uint32_t i = 0; i < depth; i++)
+        put_some_number(f, TAG(one_in(200) ? number + 1 : number, GROUP_END));
+}
+
+void put_noise(Frame *f)
+{
+    uint32_t number = one_in(8) ? (uint32_t)random_number() >> 3 : 1 + pick(12);
+    if (one_in(40)) {
+        put_some_number(f, random_number());
+        return;
+    }
+    switch (pick(16)) {
+    case 0:
+    case 1:
+        put_some_groups(f);
+        break;
+    case 2:
+    case 3:
+        put_some_number(f, TAG((uint64_t)number, FIXED64));
+        put_random_bytes(f, 8);
+        break;
+    case 4:
+    case 5:
+        put_some_number(f, TAG((uint64_t)number, FIXED32));
+        put_random_bytes(f, 4);
+        break;
+    case 6:
+    case 7:
+    case 8: {
+        size_t len = pick(5);
+        put_some_number(f, TAG((uint64_t)number, BYTES));
+        put_some_number(f, len);
+        put_random_bytes(f, len);
+        break;
+    }
+    default:
+        put_some_number(f, TAG((uint64_t)number, NUMBER));
+        put_some_number(f, random_number());
+    }
+}
+
+void maybe_noise(Frame *f)
+{
+    while (one_in(12))
+        put_noise(f);
+}
