@@ -1,19 +1,22 @@
 #!/usr/bin/env python3
-"""Writes the input and the expected output of the program read_samples.
+"""Writes the input and the expected output of the program samples.
 
 The input: the published examples of the Protocol Buffers encoding guide, document 01's samples of
 frames, varints, groups and scalars, and frames on both sides of each rule of reading. The expected
 output comes from the reader below, which shares no code with the library (its authors wrote both, so a
 misreading that both share would not show), and from the values that the guide publishes, which are asserted here.
 
-    python3 tests/reading/vectors.py        writes crates/read_samples/stdin and stdout
+The replies, steps, messages and arguments that the program makes itself come first; their lines were worked
+out by hand and stand in by_hand.txt.
+
+    python3 tests/reading/vectors.py        writes crates/samples/stdin and stdout
 """
 import os
 import struct
 import sys
 
 HERE = os.path.dirname(os.path.abspath(__file__))
-CRATE = os.path.join(HERE, "..", "..", "crates", "read_samples")
+CRATE = os.path.join(HERE, "..", "..", "crates", "samples")
 
 
 class Bad(Exception):
@@ -390,8 +393,10 @@ def main():
     lines = "".join(expected(letter, s) for letter, s in VECTORS)
     with open(os.path.join(CRATE, "stdin"), "wb") as f:
         f.write(data)
+    with open(os.path.join(HERE, "by_hand.txt")) as f:
+        by_hand = f.read()
     with open(os.path.join(CRATE, "stdout"), "w") as f:
-        f.write(lines)
+        f.write(by_hand + lines)
     print("%d vectors, %d bytes" % (len(VECTORS), len(data)))
 
 

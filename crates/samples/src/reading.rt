@@ -1,0 +1,110 @@
+// What reading makes of each record of the input. A record is a letter, two bytes of length, least first,
+// and its bytes: V a varint, Z a zigzag number, F a list of fields, M a frame.
+ghost use Prim.Native.Nat.{_<_};
+use crate::frame;
+use crate::out;
+use varint::Varint;
+use wire::field::Field;
+
+fn print_varint(s: &[u8]) {
+    match varint::read_varint(s, 0) {
+        Varint::Number { value, next } => {
+            out::number(b" ", value);
+            out::number(b" next ", next as u64);
+        }
+        Varint::Bad => {
+            out::text(b" bad");
+        }
+    }
+    out::text(b"\n");
+}
+
+fn print_zigzag(s: &[u8]) {
+    match varint::read_varint(s, 0) {
+        Varint::Number { value, next: _ } => {
+            out::text(b" ");
+            out::signed(scalar::zigzag::zigzag_decode(value));
+        }
+        Varint::Bad => {
+            out::text(b" bad");
+        }
+    }
+    out::text(b"\n");
+}
+
+// Each field of the list: number, wire type, value, place and length.
+fn print_fields(s: &[u8]) {
+    let mut p = 0;
+    let mut left = s.len();
+    while left > 0 {
+        left -= 1;
+        match wire::field::read_field(s, p) {
+            Field::Good {
+                number,
+                wire,
+                value,
+                start,
+                len,
+                next,
+            } => {
+                out::number(b" ", number);
+                out::number(b":", wire);
+                out::number(b"=", value);
+                out::number(b"@", start as u64);
+                out::number(b"+", len as u64);
+                p = next;
+            }
+            Field::Bad => {
+                out::text(b" bad\n");
+                return;
+            }
+        }
+        if s.len() <= p {
+            left = 0;
+        }
+    }
+    out::text(b"\n");
+}
+
+fn print_record(letter: u8, s: &[u8]) {
+    if letter == b'V' {
+        out::text(b"V");
+        print_varint(s);
+    }
+    if letter == b'Z' {
+        out::text(b"Z");
+        print_zigzag(s);
+    }
+    if letter == b'F' {
+        out::text(b"F");
+        print_fields(s);
+    }
+    if letter == b'M' {
+        out::text(b"M");
+        frame::print(s);
+    }
+}
+
+fn wide(b: u8) -> usize
+    ensures { λ r. ⌜ r < 256 ⌝ }
+{
+    b as usize
+}
+
+pub fn print_records(s: &[u8]) {
+    let mut p = 0;
+    while p < s.len() {
+        if s.len() - p < 3 {
+            return;
+        }
+        let letter = s[p];
+        let from = p + 3;
+        let len = wide(s[p + 1]) + 256 * wide(s[p + 2]);
+        if s.len() - from < len {
+            return;
+        }
+        let end = from + len;
+        print_record(letter, &s[from..end]);
+        p = end;
+    }
+}
