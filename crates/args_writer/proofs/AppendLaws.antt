@@ -8,13 +8,13 @@ use lib.ListN.{length, take, drop}
 use lib.Seq.{sets-eq}
 use borrow.Author.Tests.{le-leb, lt-leb}
 use Rattle.protocol.specs.Reason as Reason
-use Rattle.reply.specs.Puts.{Puts}
+use Rattle.encode.specs.Puts.{Puts}
 use Rattle.scalar.specs.declared.argument.Argument.{Argument}
 use Rattle.writer.specs.declared.Sent.{Sent}
 use Rattle.writer.specs.Write.{sent}
 use Rattle.args_writer.specs.Scalar.{writable, argBytes, argField}
 use Rattle.args_writer.specs.Append.{appendReason, appendedOf, leftBy}
-use Rattle.args_writer.specs.Form.{formOf, valueIn}
+use Rattle.args_writer.specs.private.Form.{formOf, valueIn}
 use Rattle.args_writer.specs.declared.form.Form.{Form}
 use Rattle.args_writer.proofs.FormLaws.{Formed, form-good, formed}
 
@@ -34,9 +34,10 @@ module _ (a : Argument) (src buf : List ℕ) (at : ℕ) where
   appended : {q : ℕ} {b₁ : List ℕ} → writable a src ≡ true → at + length (argField a src) ≤ length buf →
       Puts buf at (argField a src) q b₁ → Did (sent Reason.accepted q) b₁
   unfolding appendReason appendedOf leftBy
-  appended e h f =
+  appended {q} e h f =
+      let end : q ≡ at + length (argField a src) = omega (arith, f .behind) in
       rw (e, le-leb (at + length (argField a src)) (length buf) h)
-      (ap (λ (n : ℕ). sent Reason.accepted n) (f .behind), f .stored ∙ sets-eq (argField a src) buf at h)
+      (ap (λ (n : ℕ). sent Reason.accepted n) end, f .stored ∙ sets-eq (argField a src) buf at h)
 
   -- as the code has it: the form, and the part of src that it names
   module _ (f : Form) (is : f ≡ formOf a (length src)) where

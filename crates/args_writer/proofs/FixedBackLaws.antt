@@ -21,8 +21,9 @@ use Rattle.layout.specs.declared.fields.Use.{Use}
 use Rattle.layout.proofs.FieldsLaws.{goes-on}
 use Rattle.writer.proofs.TailLaws.{tail-byte, Stands, stands-length, stands-first, stands-next}
 use Rattle.writer.proofs.FieldLaws.{tag-reads, behindTag, Reads}
-use Rattle.args_writer.specs.Fixed.{fixedBytes, fixedField}
-use Rattle.args_writer.proofs.FixedLaws.{fixed-length}
+use Rattle.encode.specs.Field.{fixedField}
+use Rattle.encode.specs.Fixed.{fixedBytes}
+use Rattle.encode.proofs.FieldLaws.{fixed-length}
 
 little-back : (k v at : ℕ) (s q : List ℕ) → v < 256 ^ k → Stands s at (fixedBytes k v) q → v ≡ little k s at
 unfolding little fixedBytes

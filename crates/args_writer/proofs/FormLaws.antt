@@ -12,21 +12,20 @@ use borrow.Author.Tests.{le-leb, lt-leb, leb-true}
 use Rattle.scalar.specs.Argument.{typeOf}
 use Rattle.scalar.specs.declared.argument.Argument.{Argument}
 use Rattle.scalar.specs.declared.argument.Argument.the-variants as Va
-use Rattle.reply.specs.Frame.{numberField, bytesField}
+use Rattle.protocol.specs.Scalars as Scalars
 use Rattle.args.proofs.PartLaws.{yes, no as without}
-use Rattle.args_writer.specs.Fixed.{fixedField}
 use Rattle.args_writer.specs.Scalar.{writable, valueField}
-use Rattle.args_writer.specs.Form.{form, noForm, valueForm, bytesForm, formOf, pair, valueAs, valueIn}
+use Rattle.args_writer.specs.private.Form.{form, noForm, valueForm, bytesForm, formOf, valueAs, valueIn}
 use Rattle.args_writer.specs.declared.form.Form.{Form}
 
 -- ---- bytes in a source of n bytes
 
-module _ (kind tag start len n : ℕ) where
-  pub bytes-past : n < start + len → noForm ≡ bytesForm kind tag start len n
-  bytes-past h = without (form true kind tag 2 0 start len) noForm (lt-leb (start + len) n h)
+module _ (kind num start len n : ℕ) where
+  pub bytes-past : n < start + len → noForm ≡ bytesForm kind num start len n
+  bytes-past h = without (form true kind num 2 0 start len) noForm (lt-leb (start + len) n h)
 
-  pub bytes-in : start + len ≤ n → form true kind tag 2 0 start len ≡ bytesForm kind tag start len n
-  bytes-in h = yes (form true kind tag 2 0 start len) noForm (le-leb (start + len) n h)
+  pub bytes-in : start + len ≤ n → form true kind num 2 0 start len ≡ bytesForm kind num start len n
+  bytes-in h = yes (form true kind num 2 0 start len) noForm (le-leb (start + len) n h)
 
 -- ---- NaNs
 
@@ -58,13 +57,13 @@ pub form-good : (a : Argument) (src : List ℕ) → formOf a (length src) .good 
 form-good (Va.Signed z) src = refl
 form-good (Va.Unsigned n) src = refl
 form-good Va.Null src = refl
-form-good (Va.Octets start len) src = good-if (leb (start + len) (length src)) (form true 4 42 2 0 start len) refl
-form-good (Va.Double d) src = good-unless (isNan d) (valueForm 5 49 1 (toBits binary64 d)) refl
-form-good (Va.DoubleNan n) src = good-if (nanBits binary64 n) (valueForm 5 49 1 n) refl
-form-good (Va.Float d) src = good-unless (isNan d) (valueForm 6 61 5 (toBits binary32 d)) refl
-form-good (Va.FloatNan n) src = good-if (nanBits binary32 n) (valueForm 6 61 5 n) refl
+form-good (Va.Octets start len) src = good-if (leb (start + len) (length src)) (form true Scalars.octets Scalars.octetsField 2 0 start len) refl
+form-good (Va.Double d) src = good-unless (isNan d) (valueForm Scalars.double Scalars.doubleField 1 (toBits binary64 d)) refl
+form-good (Va.DoubleNan n) src = good-if (nanBits binary64 n) (valueForm Scalars.double Scalars.doubleField 1 n) refl
+form-good (Va.Float d) src = good-unless (isNan d) (valueForm Scalars.float Scalars.floatField 5 (toBits binary32 d)) refl
+form-good (Va.FloatNan n) src = good-if (nanBits binary32 n) (valueForm Scalars.float Scalars.floatField 5 n) refl
 form-good (Va.Bool b) src = refl
-form-good (Va.String start len) src = good-if (leb (start + len) (length src)) (form true 8 74 2 0 start len) refl
+form-good (Va.String start len) src = good-if (leb (start + len) (length src)) (form true Scalars.string Scalars.stringField 2 0 start len) refl
 form-good Va.Object src = refl
 form-good Va.Array src = refl
 form-good (Va.Refused n) src = refl
@@ -84,28 +83,28 @@ formed-unless a src f false e w = w
 formed-unless a src f true e w = absurd (let z : _≡_ {A = ℕ} 0 1 = cc in omega arith)
 
 pub formed : (a : Argument) (src : List ℕ) → writable a src ≡ true → Formed a src (formOf a (length src))
-unfolding valueAs pair numberField bytesField fixedField
+unfolding valueAs
 formed (Va.Signed z) src e = record { kind = refl; within = omega arith; value = refl }
 formed (Va.Unsigned n) src e = record { kind = refl; within = omega arith; value = refl }
 formed Va.Null src e = record { kind = refl; within = omega arith; value = refl }
 formed (Va.Octets start len) src e =
-    formed-if (Va.Octets start len) src (form true 4 42 2 0 start len) (leb (start + len) (length src)) e
+    formed-if (Va.Octets start len) src (form true Scalars.octets Scalars.octetsField 2 0 start len) (leb (start + len) (length src)) e
     (record { kind = refl; within = leb-true (start + len) (length src) e; value = refl })
 formed (Va.Double d) src e =
-    formed-unless (Va.Double d) src (valueForm 5 49 1 (toBits binary64 d)) (isNan d) e
+    formed-unless (Va.Double d) src (valueForm Scalars.double Scalars.doubleField 1 (toBits binary64 d)) (isNan d) e
     (record { kind = refl; within = omega arith; value = refl })
 formed (Va.DoubleNan n) src e =
-    formed-if (Va.DoubleNan n) src (valueForm 5 49 1 n) (nanBits binary64 n) e
+    formed-if (Va.DoubleNan n) src (valueForm Scalars.double Scalars.doubleField 1 n) (nanBits binary64 n) e
     (record { kind = refl; within = omega arith; value = refl })
 formed (Va.Float d) src e =
-    formed-unless (Va.Float d) src (valueForm 6 61 5 (toBits binary32 d)) (isNan d) e
+    formed-unless (Va.Float d) src (valueForm Scalars.float Scalars.floatField 5 (toBits binary32 d)) (isNan d) e
     (record { kind = refl; within = omega arith; value = refl })
 formed (Va.FloatNan n) src e =
-    formed-if (Va.FloatNan n) src (valueForm 6 61 5 n) (nanBits binary32 n) e
+    formed-if (Va.FloatNan n) src (valueForm Scalars.float Scalars.floatField 5 n) (nanBits binary32 n) e
     (record { kind = refl; within = omega arith; value = refl })
 formed (Va.Bool b) src e = record { kind = refl; within = omega arith; value = refl }
 formed (Va.String start len) src e =
-    formed-if (Va.String start len) src (form true 8 74 2 0 start len) (leb (start + len) (length src)) e
+    formed-if (Va.String start len) src (form true Scalars.string Scalars.stringField 2 0 start len) (leb (start + len) (length src)) e
     (record { kind = refl; within = leb-true (start + len) (length src) e; value = refl })
 formed Va.Object src e = absurd (let z : _≡_ {A = ℕ} 0 1 = cc in omega arith)
 formed Va.Array src e = absurd (let z : _≡_ {A = ℕ} 0 1 = cc in omega arith)

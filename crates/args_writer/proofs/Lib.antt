@@ -1,4 +1,3 @@
-pub mod FixedLaws
 pub mod SizeLaws
 pub mod FormLaws
 pub mod AppendLaws

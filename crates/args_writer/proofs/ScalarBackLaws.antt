@@ -23,14 +23,14 @@ use Rattle.layout.specs.Fields.{useOf, hasRequired}
 use Rattle.layout.specs.declared.slots.Slots.{Slots}
 use Rattle.layout.specs.declared.fields.Use.{Use}
 use Rattle.layout.proofs.FieldsLaws.{Listing}
-use Rattle.reply.specs.Frame.{numberField, bytesField}
+use Rattle.encode.specs.Field.{numberField, bytesField}
 use Rattle.args.specs.Part.{embedded, low32}
 use Rattle.args.specs.Value.{bytesOf as bytesTaken, bytesIn, ofType, scalarOf, ofAnyType, anyOf, argumentIn}
 use Rattle.args.proofs.PartLaws.{yes, no as without}
 use Rattle.writer.proofs.TailLaws.{Stands, stands-length, stands-bytes, stands-next}
 use Rattle.writer.proofs.FieldLaws.{Reads, withNumber, withBytes, reads-number, reads-bytes, reads-then, embedded-good, stands-inside}
 use Rattle.writer.proofs.ExecuteBackLaws.{partStart}
-use Rattle.args_writer.specs.Fixed.{fixedField}
+use Rattle.encode.specs.Field.{fixedField}
 use Rattle.args_writer.specs.Scalar.{bytesOf, writable, valueField, scalarBytes, anyBytes}
 use Rattle.args_writer.specs.Reads.{Sized, placed}
 use Rattle.args_writer.proofs.FixedBackLaws.{withFixed, reads-fixed}

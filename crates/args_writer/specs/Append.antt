@@ -7,7 +7,7 @@ use mathlib.Core.List.{List}
 use lib.ListN.{length}
 use lib.Dec.{leb}
 use Rattle.protocol.specs.Reason as Reason
-use Rattle.varint.specs.Put.{written}
+use Rattle.encode.specs.Put.{written}
 use Rattle.scalar.specs.declared.argument.Argument.{Argument}
 use Rattle.writer.specs.declared.Sent.{Sent}
 use Rattle.writer.specs.Write.{sentFor}

@@ -1,5 +1,4 @@
-pub mod Fixed
 pub mod Scalar
 pub mod Append
-pub mod Form
 pub mod Reads
+pub mod private

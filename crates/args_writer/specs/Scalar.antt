@@ -9,8 +9,9 @@ use Rattle.scalar.specs.Zigzag.{zigzag}
 use Rattle.scalar.specs.Argument.{typeOf}
 use Rattle.scalar.specs.declared.argument.Argument.{Argument}
 use Rattle.scalar.specs.declared.argument.Argument.the-variants as Va
-use Rattle.reply.specs.Frame.{numberField, bytesField}
-use Rattle.args_writer.specs.Fixed.{fixedField}
+use Rattle.protocol.specs.Scalars as Scalars
+use Rattle.encode.specs.Field.{numberField, bytesField}
+use Rattle.encode.specs.Field.{fixedField}
 
 -- the bytes of s that an octets or string scalar names by place and length; others name none
 abbrev pub bytesOf : Argument → List ℕ → List ℕ
@@ -46,19 +47,18 @@ writable Va.Object src = false
 writable Va.Array src = false
 writable (Va.Refused n) src = false
 
--- the field of a Scalar with the value: 2 sint64, 3 uint64, 5 octets, 6 double, 7 float, 8 bool, 9 string. Octets and
--- string are messages that hold the bytes in field 1; null has no value (L8, L9)
+-- the field of a Scalar with the value. Octets and string are messages that hold the bytes in field 1; null has no value (L8, L9)
 abbrev pub valueField : Argument → List ℕ → List ℕ
-valueField (Va.Signed z) src = numberField 2 (zigzag z)
-valueField (Va.Unsigned n) src = numberField 3 n
+valueField (Va.Signed z) src = numberField Scalars.sintField (zigzag z)
+valueField (Va.Unsigned n) src = numberField Scalars.uintField n
 valueField Va.Null src = []
-valueField (Va.Octets start len) src = bytesField 5 (bytesField 1 (take len (drop start src)))
-valueField (Va.Double d) src = fixedField 6 1 8 (toBits binary64 d)
-valueField (Va.DoubleNan n) src = fixedField 6 1 8 n
-valueField (Va.Float d) src = fixedField 7 5 4 (toBits binary32 d)
-valueField (Va.FloatNan n) src = fixedField 7 5 4 n
-valueField (Va.Bool b) src = numberField 8 (cond b 1 0)
-valueField (Va.String start len) src = bytesField 9 (bytesField 1 (take len (drop start src)))
+valueField (Va.Octets start len) src = bytesField Scalars.octetsField (bytesField 1 (take len (drop start src)))
+valueField (Va.Double d) src = fixedField Scalars.doubleField 1 8 (toBits binary64 d)
+valueField (Va.DoubleNan n) src = fixedField Scalars.doubleField 1 8 n
+valueField (Va.Float d) src = fixedField Scalars.floatField 5 4 (toBits binary32 d)
+valueField (Va.FloatNan n) src = fixedField Scalars.floatField 5 4 n
+valueField (Va.Bool b) src = numberField Scalars.boolField (cond b 1 0)
+valueField (Va.String start len) src = bytesField Scalars.stringField (bytesField 1 (take len (drop start src)))
 valueField Va.Object src = []
 valueField Va.Array src = []
 valueField (Va.Refused n) src = []

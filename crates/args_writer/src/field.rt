@@ -1,27 +1,72 @@
-// The args field of a form: its length, and its bytes put at a place of a buffer that has room for them.
-// `bytes` are those that the form names. What puts answers the place behind it.
+// The args field of a form: its length, and its bytes put at a place of a buffer. `bytes` are those that the form
+// names. What puts answers the place behind it.
 ghost use mathlib.Core.Path.{_≡_};
-ghost use Prim.Native.Nat.{_+_, _≤_};
 ghost use lib.ListN.{length};
-ghost use Rattle.reply.specs.Puts.{Puts};
+ghost use Rattle.encode.specs.Field.{bytesField};
+ghost use Rattle.encode.specs.Puts.{Puts};
 ghost use Rattle.args_writer.specs.Scalar.{anyBytes, argBytes, scalarBytes};
-ghost use Rattle.args_writer.specs.Form.{counted, valueIn};
-ghost use Rattle.args_writer.specs.Fixed.{fixedBytes};
-ghost use Rattle.varint.specs.Shortest.{varintBytes};
-ghost use mathlib.Core.List.{_++_};
+ghost use Rattle.args_writer.specs.private.Form.{valueIn};
+use crate::form;
 use crate::form::Form;
-use crate::put::pair_len;
-use crate::put::put_fixed;
-use crate::put::put_pair;
-use crate::put::put_slice;
-use crate::put::put_varint;
-use varint::write::varint_len;
+use encode::field::number_len;
+use encode::field::prefix_len;
+use encode::field::put_bytes;
+use encode::field::put_fixed_field;
+use encode::field::put_number;
+use encode::field::put_prefix;
+use encode::field::tag_len;
 
-// A message with the bytes in field 1.
-fn inner_len(bytes: &[u8]) -> usize
-    ensures { λ r. ⌜ r ≡ length (counted 10 (now (bytes .entry))) ⌝ }
+// Field numbers (L1): the type of an Any and of a Scalar, an Any's scalar, the args of a message, and the bytes in an
+// octets or string value.
+const TYPE: u32 = 1;
+
+const SCALAR: u32 = 2;
+
+const ARGS: u32 = 2;
+
+const VALUE: u32 = 1;
+
+// The type of an Any that is a scalar (L7).
+const IS_SCALAR: u64 = 1;
+
+pub(crate) fn field_len(f: Form, bytes: &[u8]) -> usize
+    ensures { λ r. ⌜ r ≡ length (argBytes (f .kind) (valueIn f (now (bytes .entry)))) ⌝ }
 {
-    pair_len(10, bytes.len() as u64) + bytes.len()
+    let n = any_len(f, bytes);
+    prefix_len(ARGS, n) + n
+}
+
+pub(crate) fn put_field(f: Form, bytes: &[u8], buf: &mut [u8], at: usize) -> usize
+    ensures { λ r. ⌜
+        Puts (now (buf .entry)) at (argBytes (f .kind) (valueIn f (now (bytes .entry)))) r (now (buf .exit))
+        ⌝ }
+{
+    let p = put_prefix(buf, at, ARGS, any_len(f, bytes));
+    put_any(f, bytes, buf, p)
+}
+
+fn any_len(f: Form, bytes: &[u8]) -> usize
+    ensures { λ r. ⌜ r ≡ length (anyBytes (f .kind) (valueIn f (now (bytes .entry)))) ⌝ }
+{
+    let n = scalar_len(f, bytes);
+    number_len(TYPE, IS_SCALAR) + prefix_len(SCALAR, n) + n
+}
+
+fn put_any(f: Form, bytes: &[u8], buf: &mut [u8], at: usize) -> usize
+    ensures { λ r. ⌜
+        Puts (now (buf .entry)) at (anyBytes (f .kind) (valueIn f (now (bytes .entry)))) r (now (buf .exit))
+        ⌝ }
+{
+    let p = put_number(buf, at, TYPE, IS_SCALAR);
+    let q = put_prefix(buf, p, SCALAR, scalar_len(f, bytes));
+    let value_at = put_number(buf, q, TYPE, f.kind);
+    put_value(f, bytes, buf, value_at)
+}
+
+fn scalar_len(f: Form, bytes: &[u8]) -> usize
+    ensures { λ r. ⌜ r ≡ length (scalarBytes (f .kind) (valueIn f (now (bytes .entry)))) ⌝ }
+{
+    number_len(TYPE, f.kind) + value_len(f, bytes)
 }
 
 fn value_len(f: Form, bytes: &[u8]) -> usize
@@ -29,83 +74,39 @@ fn value_len(f: Form, bytes: &[u8]) -> usize
 {
     let wire = f.wire;
     match wire {
-        0 => pair_len(f.tag, f.bits),
-        1 => varint_len(f.tag) + 8,
-        2 => pair_len(f.tag, inner_len(bytes) as u64) + inner_len(bytes),
-        5 => varint_len(f.tag) + 4,
+        form::NUMBER => number_len(f.num, f.bits),
+        form::EIGHT => tag_len(f.num, 1) + 8,
+        form::BYTES => prefix_len(f.num, inner_len(bytes)) + inner_len(bytes),
+        form::FOUR => tag_len(f.num, 5) + 4,
         _ => 0,
     }
 }
 
-fn scalar_len(f: Form, bytes: &[u8]) -> usize
-    ensures { λ r. ⌜ r ≡ length (scalarBytes (f .kind) (valueIn f (now (bytes .entry)))) ⌝ }
-{
-    pair_len(8, f.kind) + value_len(f, bytes)
-}
-
-fn any_len(f: Form, bytes: &[u8]) -> usize
-    ensures { λ r. ⌜ r ≡ length (anyBytes (f .kind) (valueIn f (now (bytes .entry)))) ⌝ }
-{
-    let n = scalar_len(f, bytes);
-    pair_len(8, 1) + pair_len(18, n as u64) + n
-}
-
-pub(crate) fn field_len(f: Form, bytes: &[u8]) -> usize
-    ensures { λ r. ⌜ r ≡ length (argBytes (f .kind) (valueIn f (now (bytes .entry)))) ⌝ }
-{
-    let n = any_len(f, bytes);
-    pair_len(18, n as u64) + n
-}
-
-fn put_fixed_field(buf: &mut [u8], at: usize, tag: u64, k: usize, v: u64) -> usize
-    requires { ⌜ at + length (varintBytes tag) + k ≤ length (now buf) ⌝ }
-    ensures { λ r. ⌜ Puts (now (buf .entry)) at (varintBytes tag ++ fixedBytes k v) r (now (buf .exit)) ⌝ }
-{
-    let next = put_varint(buf, at, tag);
-    put_fixed(buf, next, k, v)
-}
-
-fn put_message(buf: &mut [u8], at: usize, tag: u64, bytes: &[u8]) -> usize
-    requires { ⌜ at + length (counted tag (counted 10 (now bytes))) ≤ length (now buf) ⌝ }
-    ensures { λ r. ⌜ Puts (now (buf .entry)) at (counted tag (counted 10 (now (bytes .entry)))) r (now (buf .exit)) ⌝ }
-{
-    let p = put_pair(buf, at, tag, inner_len(bytes) as u64);
-    let q = put_pair(buf, p, 10, bytes.len() as u64);
-    put_slice(buf, q, bytes)
-}
-
 fn put_value(f: Form, bytes: &[u8], buf: &mut [u8], at: usize) -> usize
-    requires { ⌜ at + length (valueIn f (now bytes)) ≤ length (now buf) ⌝ }
     ensures { λ r. ⌜ Puts (now (buf .entry)) at (valueIn f (now (bytes .entry))) r (now (buf .exit)) ⌝ }
 {
     let wire = f.wire;
     match wire {
-        0 => put_pair(buf, at, f.tag, f.bits),
-        1 => put_fixed_field(buf, at, f.tag, 8, f.bits),
-        2 => put_message(buf, at, f.tag, bytes),
-        5 => put_fixed_field(buf, at, f.tag, 4, f.bits),
+        form::NUMBER => put_number(buf, at, f.num, f.bits),
+        form::EIGHT => put_fixed_field(buf, at, f.num, 1, 8, f.bits),
+        form::BYTES => put_message(buf, at, f.num, bytes),
+        form::FOUR => put_fixed_field(buf, at, f.num, 5, 4, f.bits),
         _ => at,
     }
 }
 
-fn put_any(f: Form, bytes: &[u8], buf: &mut [u8], at: usize) -> usize
-    requires { ⌜ at + length (anyBytes (f .kind) (valueIn f (now bytes))) ≤ length (now buf) ⌝ }
-    ensures { λ r. ⌜
-        Puts (now (buf .entry)) at (anyBytes (f .kind) (valueIn f (now (bytes .entry)))) r (now (buf .exit))
-        ⌝ }
+// A message with the bytes in its one field.
+fn inner_len(bytes: &[u8]) -> usize
+    ensures { λ r. ⌜ r ≡ length (bytesField 1 (now (bytes .entry))) ⌝ }
 {
-    let p = put_pair(buf, at, 8, 1);
-    let q = put_pair(buf, p, 18, scalar_len(f, bytes) as u64);
-    let value_at = put_pair(buf, q, 8, f.kind);
-    put_value(f, bytes, buf, value_at)
+    prefix_len(VALUE, bytes.len()) + bytes.len()
 }
 
-pub(crate) fn put_field(f: Form, bytes: &[u8], buf: &mut [u8], at: usize) -> usize
-    requires { ⌜ at + length (argBytes (f .kind) (valueIn f (now bytes))) ≤ length (now buf) ⌝ }
+fn put_message(buf: &mut [u8], at: usize, num: u32, bytes: &[u8]) -> usize
     ensures { λ r. ⌜
-        Puts (now (buf .entry)) at (argBytes (f .kind) (valueIn f (now (bytes .entry)))) r (now (buf .exit))
+        Puts (now (buf .entry)) at (bytesField num (bytesField 1 (now (bytes .entry)))) r (now (buf .exit))
         ⌝ }
 {
-    let p = put_pair(buf, at, 18, any_len(f, bytes) as u64);
-    put_any(f, bytes, buf, p)
+    let p = put_prefix(buf, at, num, inner_len(bytes));
+    put_bytes(buf, p, VALUE, bytes)
 }

@@ -1,7 +1,8 @@
 // What is to be written of an argument.
 ghost use mathlib.Core.Path.{_≡_};
 ghost use mathlib.Core.Bool.{cond};
-ghost use Rattle.args_writer.specs.Form.{
+ghost use Rattle.protocol.specs.Scalars as Scalars;
+ghost use Rattle.args_writer.specs.private.Form.{
   bytesForm,
   doubleForm,
   doubleNanForm,
@@ -11,15 +12,28 @@ ghost use Rattle.args_writer.specs.Form.{
   noForm,
   valueForm,
 };
+use protocol::scalars;
 use scalar::argument::Argument;
 use scalar::zigzag::zigzag_encode;
 
-// Whether it can be written, its Scalar type, the tag, wire type (3 for none) and value of the field with
-// its value, and the place and length of its bytes.
+// The wire types of the fields that hold values (W7). A null has no such field, which is told by a wire type that no
+// value has.
+pub(crate) const NUMBER: u64 = 0;
+
+pub(crate) const EIGHT: u64 = 1;
+
+pub(crate) const BYTES: u64 = 2;
+
+pub(crate) const FOUR: u64 = 5;
+
+const NO_FIELD: u64 = 3;
+
+// Whether it can be written, its Scalar type, the number, wire type and value of the field with its value, and the
+// place and length of its bytes.
 pub(crate) struct Form {
     pub(crate) good: bool,
     pub(crate) kind: u64,
-    pub(crate) tag: u64,
+    pub(crate) num: u32,
     pub(crate) wire: u64,
     pub(crate) bits: u64,
     pub(crate) start: usize,
@@ -32,21 +46,21 @@ fn no_form() -> Form
     Form {
         good: false,
         kind: 0,
-        tag: 0,
-        wire: 3,
+        num: 0,
+        wire: NO_FIELD,
         bits: 0,
         start: 0,
         len: 0,
     }
 }
 
-fn value_form(kind: u64, tag: u64, wire: u64, bits: u64) -> Form
-    ensures { λ r. ⌜ r ≡ valueForm kind tag wire bits ⌝ }
+fn value_form(kind: u64, num: u32, wire: u64, bits: u64) -> Form
+    ensures { λ r. ⌜ r ≡ valueForm kind num wire bits ⌝ }
 {
     Form {
         good: true,
         kind,
-        tag,
+        num,
         wire,
         bits,
         start: 0,
@@ -55,8 +69,8 @@ fn value_form(kind: u64, tag: u64, wire: u64, bits: u64) -> Form
 }
 
 // Bytes that stand in a source of n bytes.
-fn bytes_form(kind: u64, tag: u64, start: usize, len: usize, n: usize) -> Form
-    ensures { λ r. ⌜ r ≡ bytesForm kind tag start len n ⌝ }
+fn bytes_form(kind: u64, num: u32, start: usize, len: usize, n: usize) -> Form
+    ensures { λ r. ⌜ r ≡ bytesForm kind num start len n ⌝ }
 {
     if n < start {
         return no_form();
@@ -67,8 +81,8 @@ fn bytes_form(kind: u64, tag: u64, start: usize, len: usize, n: usize) -> Form
     Form {
         good: true,
         kind,
-        tag,
-        wire: 2,
+        num,
+        wire: BYTES,
         bits: 0,
         start,
         len,
@@ -89,7 +103,12 @@ fn double_form(x: f64) -> Form
     if x != x {
         return no_form();
     }
-    value_form(5, 49, 1, f64::to_bits(x))
+    value_form(
+        scalars::DOUBLE,
+        scalars::DOUBLE_FIELD,
+        EIGHT,
+        f64::to_bits(x),
+    )
 }
 
 fn float_form(x: f32) -> Form
@@ -98,7 +117,12 @@ fn float_form(x: f32) -> Form
     if x != x {
         return no_form();
     }
-    value_form(6, 61, 5, wide(f32::to_bits(x)))
+    value_form(
+        scalars::FLOAT,
+        scalars::FLOAT_FIELD,
+        FOUR,
+        wide(f32::to_bits(x)),
+    )
 }
 
 // With the sign taken off, a NaN's bits lie above the infinity's.
@@ -108,7 +132,7 @@ fn double_nan_form(bits: u64) -> Form
     if bits % 0x8000_0000_0000_0000 <= 0x7ff0_0000_0000_0000 {
         return no_form();
     }
-    value_form(5, 49, 1, bits)
+    value_form(scalars::DOUBLE, scalars::DOUBLE_FIELD, EIGHT, bits)
 }
 
 fn float_nan_form(bits: u32) -> Form
@@ -117,36 +141,51 @@ fn float_nan_form(bits: u32) -> Form
     if bits % 0x8000_0000 <= 0x7f80_0000 {
         return no_form();
     }
-    value_form(6, 61, 5, bits as u64)
+    value_form(scalars::FLOAT, scalars::FLOAT_FIELD, FOUR, bits as u64)
 }
 
 fn bool_form(b: bool) -> Form
-    ensures { λ r. ⌜ r ≡ valueForm 7 64 0 (cond b 1 0) ⌝ }
+    ensures { λ r. ⌜ r ≡ valueForm Scalars.bool Scalars.boolField 0 (cond b 1 0) ⌝ }
 {
     if b {
-        value_form(7, 64, 0, 1)
+        value_form(scalars::BOOL, scalars::BOOL_FIELD, NUMBER, 1)
     } else {
-        value_form(7, 64, 0, 0)
+        value_form(scalars::BOOL, scalars::BOOL_FIELD, NUMBER, 0)
     }
 }
 
-// The form of an argument whose bytes, if it has any, stand in a source of n bytes. A tag is the field's
-// number times 8 and its wire type: 16 is field 2 (sint64), 24 field 3 (uint64), 42 field 5 (octets), 49
-// field 6 (double), 61 field 7 (float), 64 field 8 (bool), 74 field 9 (string).
+// The form of an argument whose bytes, if it has any, stand in a source of n bytes.
 pub(crate) fn form_of(a: Argument, n: usize) -> Form
     ensures { λ r. ⌜ r ≡ formOf a n ⌝ }
 {
     match a {
-        Argument::Signed(v) => value_form(1, 16, 0, zigzag_encode(v)),
-        Argument::Unsigned(v) => value_form(2, 24, 0, v),
-        Argument::Null => value_form(3, 0, 3, 0),
-        Argument::Octets { start, len } => bytes_form(4, 42, start, len, n),
+        Argument::Signed(v) => value_form(
+            scalars::SINT,
+            scalars::SINT_FIELD,
+            NUMBER,
+            zigzag_encode(v),
+        ),
+        Argument::Unsigned(v) => value_form(scalars::UINT, scalars::UINT_FIELD, NUMBER, v),
+        Argument::Null => value_form(scalars::NULL, 0, NO_FIELD, 0),
+        Argument::Octets { start, len } => bytes_form(
+            scalars::OCTETS,
+            scalars::OCTETS_FIELD,
+            start,
+            len,
+            n,
+        ),
         Argument::Double(x) => double_form(x),
         Argument::DoubleNan(bits) => double_nan_form(bits),
         Argument::Float(x) => float_form(x),
         Argument::FloatNan(bits) => float_nan_form(bits),
         Argument::Bool(b) => bool_form(b),
-        Argument::String { start, len } => bytes_form(8, 74, start, len, n),
+        Argument::String { start, len } => bytes_form(
+            scalars::STRING,
+            scalars::STRING_FIELD,
+            start,
+            len,
+            n,
+        ),
         Argument::Object => no_form(),
         Argument::Array => no_form(),
         Argument::Refused(_) => no_form(),

@@ -3,13 +3,13 @@
 ghost use mathlib.Core.Path.{_≡_};
 ghost use lib.ListN.{length};
 ghost use Rattle.args_writer.specs.Append.{appendedOf, leftBy};
+use encode::put::has_room;
 use protocol::reason;
 use scalar::argument::Argument;
 use writer::Sent;
 
 mod field;
 mod form;
-mod put;
 
 // The scalar `a` as an args field behind the first `at` bytes of `buf`. The bytes of an octets or string
 // scalar are those of `src` at its place and length. Answers the reason by which it is refused, or 0 and
@@ -31,13 +31,7 @@ pub fn append_argument(a: Argument, src: &[u8], buf: &mut [u8], at: usize) -> Se
     let end = start + f.len;
     let bytes = &src[start..end];
     let n = field::field_len(f, bytes);
-    if buf.len() < at {
-        return Sent {
-            reason: reason::NO_ROOM,
-            len: 0,
-        };
-    }
-    if buf.len() - at < n {
+    if !has_room(buf.len(), at, n) {
         return Sent {
             reason: reason::NO_ROOM,
             len: 0,

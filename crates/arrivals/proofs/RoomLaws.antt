@@ -8,8 +8,8 @@ use mathlib.Core.List.{List}
 use lib.ListN.{length, getD, take, drop, set, length-drop, length-set, drop-of-length-le}
 use lib.Seq.{sets, length-take-le, drop-cons, drop-drop, drop-set-lt, getD-take, getD-drop}
 use borrow.Author.Tests.{le-leb, lt-leb}
-use Rattle.varint.specs.Put.{written}
-use Rattle.varint.proofs.PutLaws.{put-fits}
+use Rattle.encode.specs.Put.{written}
+use Rattle.encode.proofs.PutLaws.{put-fits}
 use Rattle.args.proofs.PartLaws.{yes, no}
 use Rattle.streams.specs.Reader.{reader, part, readerFor, storeFor}
 use Rattle.streams.specs.declared.Reader.{Reader}

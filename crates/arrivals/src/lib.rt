@@ -145,7 +145,7 @@ fn push_at(held: Reader, arrival: &[u8], store: &mut [u8]) -> Pushed
     let room = make_room(held, n, store);
     let from = room.start;
     let at = room.end;
-    reply::put::write_bytes(store, at, &arrival[..n]);
+    encode::put::write_bytes(store, at, &arrival[..n]);
     let to = at + n;
     Pushed {
         reader: settle(store, from, to),

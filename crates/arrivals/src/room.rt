@@ -2,7 +2,7 @@
 ghost use mathlib.Core.Path.{_≡_};
 ghost use Prim.Native.Nat.{_+_, _-_, _≤_};
 ghost use lib.ListN.{drop, length, take};
-ghost use Rattle.varint.specs.Put.{written};
+ghost use Rattle.encode.specs.Put.{written};
 ghost use Rattle.streams.specs.Reader.{readerFor, storeFor};
 use streams::Reader;
 

@@ -28,7 +28,8 @@ use Rattle.session.specs.Lists.{sumBy, first, All}
 use Rattle.session.specs.Session.{Session}
 use Rattle.reply.specs.Decimal.{digits}
 use Rattle.reply.specs.Text.{text}
-use Rattle.reply.specs.Frame.{okFrame, fetchSuspended, stmtExecuteOk, numberField, bytesField, errorPayload}
+use Rattle.encode.specs.Field.{numberField, bytesField}
+use Rattle.reply.specs.Frame.{okFrame, fetchSuspended, stmtExecuteOk, errorPayload}
 use Rattle.reply.specs.Reply.{replyBytes}
 use Rattle.rules.specs.Ending.{endsIt}
 use Rattle.rules.specs.Refusal.{lookReason, reportReason}

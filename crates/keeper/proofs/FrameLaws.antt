@@ -9,7 +9,7 @@ use mathlib.Core.List.{List, []}
 use lib.ListN.{length}
 use lib.Dec.{eqb, leb}
 use borrow.Author.Tests.{ne-eqb, lt-leb, lt-ltb, le-ltb}
-use Rattle.varint.specs.Put.{written}
+use Rattle.encode.specs.Put.{written}
 use Rattle.protocol.specs.Reason as Reason
 use Rattle.message.specs.Frame.{frameOf, usedOf}
 use Rattle.message.specs.declared.request.Request.{Request}

@@ -4,19 +4,19 @@ ghost use mathlib.Core.Bool.{false};
 ghost use Prim.Native.Nat.{_≤_};
 ghost use lib.ListN.{length};
 ghost use Rattle.protocol.specs.Reason as Reason;
-ghost use Rattle.varint.specs.declared.write.Put.{Put};
+ghost use Rattle.encode.specs.declared.put.Put.{Put};
 ghost use Rattle.args.specs.Arguments.{noArguments};
 ghost use Rattle.reply.specs.Reply.{replyBytes};
 ghost use Rattle.reply.specs.declared.Reply.{Reply};
 ghost use Rattle.rules.specs.Decision.{wireCode};
 ghost use Rattle.keeper.specs.private.Does.{Answers, Replies, accepting, errorOf, kindNamed, namesBy, numberOf, placeBehind, refusing};
 use args::arguments::Arguments;
+use encode::put::Put;
 use protocol::reason;
 use reply::Refusal;
 use reply::Reply;
 use rules::Answer;
 use rules::Report;
-use varint::write::Put;
 
 // What is sent: whether columns go out, which rows, and how the reply ends.
 pub(crate) struct Sends {

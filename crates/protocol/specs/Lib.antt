@@ -1,3 +1,4 @@
 pub mod Client
 pub mod Reason
 pub mod Server
+pub mod Scalars

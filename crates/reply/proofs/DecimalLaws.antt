@@ -5,12 +5,12 @@ use mathlib.Core.Bool.{Bool, true, false}
 use mathlib.Core.List.{List, [], _∷_, _++_}
 use native.Mathlib.Omega.{arith}
 use borrow.Author.Tests.{lt-ltb, le-ltb, ltb-true, ltb-false}
-use lib.ListN.{length, getD, set, length-append, List·getD-append}
+use lib.ListN.{length, getD, length-append, List·getD-append}
 use lib.Dec.{ltb}
 use Rattle.reply.specs.Decimal.{digits, decimal}
 use Rattle.reply.specs.DecimalRules.{denoted, Denotes, EachDigit, NoLeadingZero, Short}
-use Rattle.reply.specs.Puts.{Puts}
-use Rattle.reply.proofs.PutsLaws.{puts-then}
+use Rattle.encode.specs.Puts.{Puts}
+use Rattle.encode.proofs.PutsLaws.{puts-then, puts-as}
 
 -- below 10 the number is its one digit
 pub digits-last : (k n : ℕ) → n < 10 → digits (suc k) n ≡ (48 + n) ∷ []
@@ -133,17 +133,10 @@ no-leading-zero n p h = digits-lead 19 n p h
 -- ---- the digits put one by one
 
 -- the one digit of a number below 10
-pub one-digit : (b : List ℕ) (at n : ℕ) → n < 10 → Puts b at (decimal n) (at + 1) (set b at (48 + n))
-one-digit b at n h = rw (digits-last 19 n h) (record { behind = refl; stored = refl })
-
-pub some-digit : (n : ℕ) → 0 < length (decimal n)
-some-digit n = digits-some 19 n
+pub one-digit : {b b₁ : List ℕ} {at p : ℕ} (n : ℕ) → n < 10 → Puts b at ((48 + n) ∷ []) p b₁ → Puts b at (decimal n) p b₁
+one-digit n h f = puts-as (sym (digits-last 19 n h)) f
 
 -- the last digit of a number from 10 on, behind the others
-module _ {n : ℕ} (more : 10 ≤ n) (fits : n < 2 ^ 64) where
-  pub one-longer : length (decimal n) ≡ length (decimal (n / 10)) + 1
-  one-longer = ap length (decimal-more n more fits) ∙ length-append (decimal (n / 10)) ((48 + n % 10) ∷ [])
-
-  pub last-digit : {b b₁ : List ℕ} {at p : ℕ} → Puts b at (decimal (n / 10)) p b₁ →
-      Puts b at (decimal n) (p + 1) (set b₁ p (48 + n % 10))
-  last-digit f = rw (decimal-more n more fits) (puts-then f (record { behind = refl; stored = refl }))
+pub last-digit : {b b₁ b₂ : List ℕ} {at p q : ℕ} (n : ℕ) → 10 ≤ n → n < 2 ^ 64 → Puts b at (decimal (n / 10)) p b₁ →
+    Puts b₁ p ((48 + n % 10) ∷ []) q b₂ → Puts b at (decimal n) q b₂
+last-digit n more fits f g = puts-as (sym (decimal-more n more fits)) (puts-then f g)

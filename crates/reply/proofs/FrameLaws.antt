@@ -5,25 +5,19 @@ use mathlib.Core.List.{List, [], _∷_, _++_}
 use native.Mathlib.Omega.{arith}
 use lib.ListN.{length, length-append}
 use Rattle.varint.specs.Shortest.{varintBytes}
+use Rattle.encode.proofs.FieldLaws.{number-parts, prefix-parts, bytes-sum}
 use Rattle.varint.proofs.ShortestLaws.{shortest-last}
 use Rattle.reply.specs.Text.{ascii}
-use Rattle.reply.specs.Puts.{Puts}
-use Rattle.reply.specs.Frame.{fourBytes, frame, numberField, bytesField, errorPayload, errorFrame}
-use Rattle.reply.proofs.PutsLaws.{puts-as, puts-then}
+use Rattle.encode.specs.Puts.{Puts}
+use Rattle.encode.specs.Frame.{fourBytes, frame}
+use Rattle.encode.specs.Field.{numberField, bytesField}
+use Rattle.reply.specs.Frame.{errorPayload, errorFrame}
+use Rattle.encode.proofs.PutsLaws.{puts-as, puts-then}
 
 -- ---- lengths
 
 pub empty-length : (kind : ℕ) → length (frame kind []) ≡ 5
 empty-length kind = refl
-
-pub number-parts : (num v : ℕ) → length (numberField num v) ≡ length (varintBytes (num * 8)) + length (varintBytes v)
-unfolding numberField
-number-parts num v = length-append (varintBytes (num * 8)) (varintBytes v)
-
-pub bytes-parts : (num : ℕ) (bs : List ℕ) →
-    length (bytesField num bs) ≡ length (varintBytes (num * 8 + 2)) + length (varintBytes (length bs)) + length bs
-unfolding bytesField
-bytes-parts num bs = simp length-append
 
 pub payload-parts : (code : ℕ) (m : List ℕ) →
     length (errorPayload code m)
@@ -42,8 +36,10 @@ payload-length code m =
       payload-parts code m,
       number-parts 1 0,
       number-parts 2 code,
-      bytes-parts 3 m,
-      bytes-parts 4 (ascii "HY000"),
+      bytes-sum 3 m,
+      prefix-parts 3 (length m),
+      bytes-sum 4 (ascii "HY000"),
+      prefix-parts 4 5,
       one-byte 8 (omega arith),
       one-byte 0 (omega arith),
       one-byte 16 (omega arith),

@@ -7,7 +7,7 @@ use native.Mathlib.Nat.{div-div-eq-div-mul, mod-eq-of-lt}
 use borrow.Author.Tests.{lt-ltb, le-leb}
 use lib.ListN.{length, drop, length-append}
 use lib.Seq.{drop-append-seam}
-use Rattle.reply.specs.Frame.{frame}
+use Rattle.encode.specs.Frame.{frame}
 use Rattle.reply.specs.Frames.{sizeOf, typesIn, frameTypes}
 
 -- a number below 2 ^ 32 is the number of its four bytes

@@ -13,7 +13,8 @@ use Rattle.reply.specs.declared.Reply.{Reply}
 use Rattle.reply.specs.declared.Reply.the-variants.{Nothing, Ok, Suspended, Done, Executed, Error}
 use Rattle.reply.specs.Decimal.{digits}
 use Rattle.reply.specs.Text.{text}
-use Rattle.reply.specs.Frame.{okFrame, fetchDone, fetchSuspended, stmtExecuteOk, numberField, bytesField, errorPayload, errorFrame}
+use Rattle.encode.specs.Field.{numberField, bytesField}
+use Rattle.reply.specs.Frame.{okFrame, fetchDone, fetchSuspended, stmtExecuteOk, errorPayload, errorFrame}
 use Rattle.reply.specs.Frames.{typesIn, frameTypes, among}
 use Rattle.reply.specs.Reply.{messageOf, typesOf, replyBytes}
 use Rattle.reply.specs.ReplyRules.{FitsSmallest, HoldsFrames, isDone, TellsDone, SampleReplies}

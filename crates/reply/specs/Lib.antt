@@ -2,7 +2,6 @@ pub mod Decimal
 pub mod DecimalRules
 pub mod Frame
 pub mod Frames
-pub mod Puts
 pub mod Reply
 pub mod ReplyRules
 pub mod Text

@@ -7,7 +7,8 @@ use Rattle.reply.specs.declared.Refusal.{Refusal}
 use Rattle.reply.specs.declared.Reply.{Reply}
 use Rattle.reply.specs.declared.Reply.the-variants.{Nothing, Ok, Suspended, Done, Executed, Error}
 use Rattle.reply.specs.Text.{text}
-use Rattle.reply.specs.Frame.{frame, errorFrame}
+use Rattle.encode.specs.Frame.{frame}
+use Rattle.reply.specs.Frame.{errorFrame}
 
 -- the wire codes of the refusals 0 to 15; 0 to 3 send none, and 16 has the engine's own
 abbrev pub codes : List ℕ

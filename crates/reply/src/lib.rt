@@ -1,16 +1,15 @@
 // Replies of the server: which frames each is made of, written into a lent buffer.
 ghost use mathlib.Core.Path.{_≡_};
-ghost use Rattle.varint.specs.Put.{putAt, written};
+ghost use Rattle.encode.specs.Put.{putAt, written};
 ghost use Rattle.reply.specs.Frame.{errorFrame};
-ghost use Rattle.reply.specs.Puts.{PutsIfRoom};
+ghost use Rattle.encode.specs.Puts.{PutsIfRoom};
 ghost use Rattle.reply.specs.Reply.{codeOf, messageOf, replyBytes};
+use encode::put::Put;
 use protocol::reason;
 use protocol::server;
-use varint::write::Put;
 
 pub mod decimal;
 mod frame;
-pub mod put;
 mod text;
 
 // The refusal that an Error tells: its number, its wire code, and what its text names: an id, index or count and, for

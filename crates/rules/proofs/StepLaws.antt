@@ -9,7 +9,7 @@ use lib.ListN.{length, getD, take, drop}
 use lib.Seq.{take-at}
 use lib.Dec.{eqb, leb}
 use borrow.Author.Tests.{eqb-true, eqb-false, ltb-false, le-leb, lt-leb, leb-true}
-use Rattle.varint.specs.Put.{written}
+use Rattle.encode.specs.Put.{written}
 use Rattle.varint.proofs.PastLaws.{both}
 use Rattle.protocol.specs.Reason as Reason
 use Rattle.message.specs.Request.{stmtOf, cursorOf, argsOf}

@@ -5,7 +5,7 @@ use mathlib.Core.List.{List}
 use lib.ListN.{length, take}
 use lib.Dec.{ltb}
 use Rattle.protocol.specs.Reason as Reason
-use Rattle.varint.specs.Put.{written}
+use Rattle.encode.specs.Put.{written}
 use Rattle.message.specs.Frame.{usedOf, frameOf}
 use Rattle.message.specs.declared.request.Frame.{Frame}
 use Rattle.session.specs.Session.{Session}

@@ -1,10 +1,10 @@
 // Replies as they are written into a buffer of 128 bytes: the length and the bytes in hex, a line
 // each. The last finds no room in 9 bytes and leaves them as they were.
 use crate::out;
+use encode::put::Put;
 use protocol::reason;
 use reply::Refusal;
 use reply::Reply;
-use varint::write::Put;
 
 fn print_front(buf: &[u8], n: usize) {
     out::number(b"", n as u64);

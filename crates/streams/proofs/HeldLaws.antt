@@ -11,9 +11,9 @@ use lib.Seq.{length-take-le, take-take, take-add, drop-drop, drop-append-le, tak
 use lib.Dec.{leb, eqb}
 use borrow.Author.Tests.{le-leb, lt-leb, leb-true, leb-false, eq-eqb, ne-eqb, eqb-true, eqb-false}
 use Rattle.protocol.specs.Reason as Reason
-use Rattle.varint.specs.Put.{written}
+use Rattle.encode.specs.Put.{written}
 use Rattle.varint.proofs.PastLaws.{both}
-use Rattle.varint.proofs.PutLaws.{length-written}
+use Rattle.encode.proofs.PutLaws.{length-written}
 use Rattle.args.proofs.PartLaws.{yes, no}
 use Rattle.message.specs.declared.head.Head.{Head}
 use Rattle.message.specs.Head.{lengthBytes, headOf, lengthOf, maxLength}

@@ -7,7 +7,7 @@ use mathlib.Core.List.{List}
 use lib.ListN.{length, take, drop}
 use lib.Dec.{eqb, leb}
 use Rattle.protocol.specs.Reason as Reason
-use Rattle.varint.specs.Put.{written}
+use Rattle.encode.specs.Put.{written}
 use Rattle.message.specs.declared.head.Head.{Head}
 use Rattle.message.specs.Head.{lengthBytes, headOf, headReason}
 use Rattle.streams.specs.declared.Reader.{Reader}

@@ -2,12 +2,12 @@
 // prints the header and a line for each. The work is `trace_line::trace_record`; here bytes are moved.
 ghost use Prim.Native.Nat.{_+_, _≤_};
 ghost use lib.ListN.{length};
+use encode::put::Put;
 use libc::STDIN_FILENO;
 use libc::STDOUT_FILENO;
 use session::Session;
 use session::WORDS;
 use trace_line::Place;
-use varint::write::Put;
 
 // A record has at most 65,576 bytes: 65,536 of frame and four numbers.
 const INPUT: usize = 131072;
@@ -29,7 +29,7 @@ struct Printer {
 
 // The place behind the text put at `to`.
 fn put_text(out: &mut [u8], to: usize, text: &[u8]) -> usize {
-    match reply::put::write_bytes(out, to, text) {
+    match encode::put::write_bytes(out, to, text) {
         Put::Next(next) => next,
         Put::Full => to,
     }

@@ -6,7 +6,7 @@ use mathlib.Core.Path.{_≡_, refl, ap, _∙_}
 use mathlib.Core.List.{List, _++_}
 use lib.ListN.{length, drop}
 use borrow.Author.Tests.{ne-eqb, le-leb}
-use Rattle.varint.specs.Put.{written}
+use Rattle.encode.specs.Put.{written}
 use Rattle.message.specs.Frame.{frameOf}
 use Rattle.reply.specs.declared.Reply.{Reply}
 use Rattle.reply.specs.declared.Reply.the-variants.{Nothing, Ok, Suspended, Done, Executed, Error}

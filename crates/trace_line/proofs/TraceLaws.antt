@@ -4,8 +4,8 @@ use native.Mathlib.Omega.{arith}
 use mathlib.Core.Path.{_≡_, refl, sym, ap, _∙_}
 use mathlib.Core.List.{List}
 use lib.ListN.{take, drop}
-use Rattle.varint.specs.declared.write.Put.{Put}
-use Rattle.varint.specs.Put.{putAt, written}
+use Rattle.encode.specs.declared.put.Put.{Put}
+use Rattle.encode.specs.Put.{putAt, written}
 use Rattle.session.specs.Session.{Session}
 use Rattle.session.specs.Tables.{owed, stmtCount, cursorCount}
 use Rattle.rules.specs.declared.Report.{Report}

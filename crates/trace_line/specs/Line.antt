@@ -6,7 +6,6 @@ use mathlib.Core.List.{List, [], _∷_, _++_}
 use lib.ListN.{getD}
 use lib.Dec.{eqb}
 use Rattle.protocol.specs.Server as Server
-use Rattle.varint.specs.declared.write.Put.{Put}
 use Rattle.message.specs.Head.{lengthBytes}
 use Rattle.reply.specs.Decimal.{decimal}
 use Rattle.trace_line.specs.declared.line.Line.{Line}
@@ -23,11 +22,6 @@ letterOf type =
 -- a buffer: its first frame has its type behind the bytes of its length
 unfoldable pub markOf : List ℕ → ℕ → ℕ
 markOf buffer n = cond (eqb n 0) (code "N") (letterOf (getD buffer lengthBytes 0))
-
--- the place behind what was put
-abbrev pub placeBehind : Put → ℕ
-placeBehind (Put.Next next) = next
-placeBehind Put.Full = 0
 
 -- a number and the space behind it
 abbrev pub column : ℕ → List ℕ

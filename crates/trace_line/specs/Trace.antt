@@ -2,8 +2,8 @@
 use Prim.Native.Nat.{ℕ}
 use mathlib.Core.List.{List}
 use lib.ListN.{take, drop, replicate}
-use Rattle.varint.specs.declared.write.Put.{Put}
-use Rattle.varint.specs.Put.{putAt, written}
+use Rattle.encode.specs.declared.put.Put.{Put}
+use Rattle.encode.specs.Put.{putAt, written}
 use Rattle.session.specs.Session.{Session}
 use Rattle.session.specs.Tables.{owed, stmtCount, cursorCount}
 use Rattle.reply.specs.ReplyRules.{minBuffer}

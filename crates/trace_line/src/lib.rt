@@ -3,11 +3,11 @@ ghost use mathlib.Core.Path.{_≡_};
 ghost use Rattle.session.specs.Words.{sessionOf};
 ghost use Rattle.rules.specs.Step.{stepOf};
 ghost use Rattle.trace_line.specs.Trace.{lineTo, replyBuffer, traceAt};
+use encode::put::Put;
 use line::Line;
 use record::Record;
 use rules::Report;
 use session::WORDS;
-use varint::write::Put;
 
 pub mod line;
 pub mod record;

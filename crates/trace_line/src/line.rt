@@ -1,13 +1,14 @@
 // A line of the trace.
 ghost use mathlib.Core.Path.{_≡_};
-ghost use Prim.Native.Nat.{_+_, _≤_};
-ghost use Rattle.varint.specs.Put.{putAt, written};
-ghost use Rattle.reply.specs.Decimal.{decimal};
-ghost use Rattle.reply.specs.Puts.{Puts};
-ghost use Rattle.trace_line.specs.Line.{column, letterOf, lineOf, markOf, placeBehind};
+ghost use Rattle.encode.specs.Put.{putAt, written};
+ghost use Rattle.encode.specs.Puts.{Puts};
+ghost use Rattle.trace_line.specs.Line.{column, letterOf, lineOf, markOf};
+use encode::put::Put;
+use encode::put::put_byte;
+use encode::put::write_bytes;
 use message::head::LENGTH_BYTES;
 use protocol::server;
-use varint::write::Put;
+use reply::decimal::put_decimal;
 
 // What a line prints, in this order.
 pub struct Line {
@@ -45,49 +46,28 @@ pub fn mark_of(reply: &[u8; rules::MIN_BUFFER], n: usize) -> u8
     letter_of(reply[LENGTH_BYTES])
 }
 
-// The place behind what was put.
-fn place_behind(put: Put) -> usize
-    ensures { λ r. ⌜ r ≡ placeBehind put ⌝ }
-{
-    match put {
-        Put::Next(n) => n,
-        Put::Full => 0,
-    }
-}
-
-// The decimal of v, which has at most 20 digits. Answers the place behind it.
-fn put_decimal(t: &mut [u8; 160], at: usize, v: u64) -> usize
-    requires { ⌜ at + 20 ≤ 160 ⌝ }
-    ensures { λ r. ⌜ Puts (now (t .entry)) at (decimal v) r (now (t .exit)) × (r ≤ at + 20) ⌝ }
-{
-    place_behind(reply::decimal::write_decimal(t, at, v))
-}
-
 // The decimal of v and a space behind it.
-fn put_column(t: &mut [u8; 160], at: usize, v: u64) -> usize
-    requires { ⌜ at + 21 ≤ 160 ⌝ }
-    ensures { λ r. ⌜ Puts (now (t .entry)) at (column v) r (now (t .exit)) × (r ≤ at + 21) ⌝ }
+fn put_column(t: &mut [u8], at: usize, v: u64) -> usize
+    ensures { λ r. ⌜ Puts (now (t .entry)) at (column v) r (now (t .exit)) ⌝ }
 {
     let p = put_decimal(t, at, v);
-    t[p] = b' ';
-    p + 1
+    put_byte(t, p, b' ')
 }
 
-// The line at the front of an array. Answers its length.
-fn put_line(t: &mut [u8; 160], l: Line) -> usize
+// The line at the front. Answers its length.
+fn put_line(t: &mut [u8], l: Line) -> usize
     ensures { λ r. ⌜ Puts (now (t .entry)) 0 (lineOf l) r (now (t .exit)) ⌝ }
 {
     let at = put_column(t, 0, l.n);
     let at = put_column(t, at, l.reason);
     let at = put_column(t, at, l.first);
     let at = put_column(t, at, l.rows);
-    t[at] = l.mark;
-    t[at + 1] = b' ';
-    let at = put_column(t, at + 2, l.stmts);
+    let at = put_byte(t, at, l.mark);
+    let at = put_byte(t, at, b' ');
+    let at = put_column(t, at, l.stmts);
     let at = put_column(t, at, l.cursors);
     let at = put_decimal(t, at, l.owed);
-    t[at] = b'\n';
-    at + 1
+    put_byte(t, at, b'\n')
 }
 
 // The line put at the place `at`, where it fits; else the buffer stays as it was.
@@ -97,5 +77,5 @@ pub fn write_line(buf: &mut [u8], at: usize, l: Line) -> Put
 {
     let mut text = [0u8; 160];
     let n = put_line(&mut text, l);
-    reply::put::write_bytes(buf, at, &text[..n])
+    write_bytes(buf, at, &text[..n])
 }

@@ -1,11 +1,11 @@
 // Traces stored runs through `trace_line::trace_record`, each on a fresh session. Standard input has for
 // each run four bytes of length, least first, and its bytes.
 ghost use Prim.Native.Nat.{_<_};
+use encode::put::Put;
 use libc::STDIN_FILENO;
 use libc::STDOUT_FILENO;
 use session::Session;
 use trace_line::Place;
-use varint::write::Put;
 
 const INPUT: usize = 262144;
 

@@ -4,11 +4,9 @@ use mathlib.Core.Path.{_≡_, refl, ap, _∙_}
 use mathlib.Core.Bool.{Bool, true, false}
 use mathlib.Core.List.{List, [], _∷_}
 use native.Mathlib.Omega.{arith}
-use native.Mathlib.Nat.{one-le-pow, mul-suc, mod-eq-of-lt}
-use native.Mathlib.Numerals.{add-one}
+use native.Mathlib.Nat.{one-le-pow, mul-suc}
 use borrow.Author.Tests.{lt-ltb, le-ltb, ltb-true, ltb-false}
-use lib.ListN.{length, getD, set}
-use lib.Seq.{sets}
+use lib.ListN.{length, getD}
 use lib.Count.{leadingZeros, leading-top}
 use lib.Pow.{pow-add, pow-mono}
 use lib.Dec.{ltb}
@@ -84,15 +82,8 @@ length-by-zeros v p h =
     let long = shortest-length 10 q v (omega (arith, group-bits q)) (omega (arith, group-bits (suc q))) (omega arith) in
     omega arith
 
--- a turn of the writing loop: the first byte is stored, and the others are left
-pub written-turn : (m i x : ℕ) (buf : List ℕ) → 128 ≤ x → x < 128 ^ suc m →
-    (x / 128 < 128 ^ suc (pred m))
-    × (sets (set buf i (128 + x % 128)) (i + 1) (shortest (suc (pred m)) (x / 128)) ≡ sets buf i (shortest (suc m) x))
-    × (i + 1 + length (shortest (suc (pred m)) (x / 128)) ≡ i + length (shortest (suc m) x))
-written-turn zero i x buf a h = absurd (omega arith)
-written-turn (suc m) i x buf a h = rw (shortest-more (suc m) x a) (omega arith, rw (add-one i) refl, omega arith)
-
--- the end of the writing loop: the last byte is stored
-pub written-last : (m i x : ℕ) (buf : List ℕ) → x < 128 →
-    (i + 1 ≡ i + length (shortest (suc m) x)) × (set buf i (x % 128) ≡ sets buf i (shortest (suc m) x))
-written-last m i x buf h = rw (shortest-last m x h, mod-eq-of-lt h) (omega arith, refl)
+-- a turn of the writing loop: the first byte, and the number of those behind it
+pub shortest-turn : (m x : ℕ) → 128 ≤ x → x < 128 ^ suc m →
+    (x / 128 < 128 ^ suc (pred m)) × (shortest (suc m) x ≡ (128 + x % 128) ∷ shortest (suc (pred m)) (x / 128))
+shortest-turn zero x a h = absurd (omega arith)
+shortest-turn (suc m) x a h = (omega arith, shortest-more (suc m) x a)

@@ -17,8 +17,6 @@ use Rattle.varint.specs.VarintRules.{ReadsBack, NoneShorter}
 use Rattle.varint.proofs.GroupLaws.{groups-last, groups-more}
 use Rattle.varint.proofs.PastLaws.{both}
 use Rattle.varint.proofs.ShortestLaws.{below-or-not, shortest-last, shortest-more, shortest-at-most, shortest-some, shortest-within, shortest-bytes}
-use Rattle.varint.specs.Put.{written}
-use Rattle.varint.proofs.PutLaws.{drop-written}
 
 -- ---- a group at a place
 
@@ -63,12 +61,6 @@ reads-there v at s q h e = rw (groups-back 9 v at s q (omega arith) e, mod-eq-of
 
 pub reads-back : ReadsBack
 reads-back v p q h = reads-there v (length p) (p ++ varintBytes v ++ q) q h (rw append-assoc (drop-at p (varintBytes v ++ q) (length p) refl))
-
--- and in a buffer that it was written to
-pub reads-written : (b : List ℕ) (at v : ℕ) → v < 2 ^ 64 → at + length (varintBytes v) ≤ length b →
-    varintAt (written b at (varintBytes v)) at ≡ Number v (at + length (varintBytes v))
-reads-written b at v h f =
-    reads-there v at (written b at (varintBytes v)) (drop (at + length (varintBytes v)) b) h (drop-written b at (varintBytes v) f)
 
 -- ---- none shorter
 

@@ -1,5 +1,4 @@
 pub mod Past
-pub mod Put
 pub mod Shortest
 pub mod Varint
 pub mod VarintRules

@@ -1,9 +1,7 @@
-// Varints of the Protocol Buffers encoding: read at a place of a byte string, measured, written.
+// Varints of the Protocol Buffers encoding: read at a place of a byte string.
 ghost use mathlib.Core.Path.{_≡_};
 ghost use Prim.Native.Nat.{_^_, _<_};
 ghost use Rattle.varint.specs.Varint.{groups, low64, onto, varintAt};
-
-pub mod write;
 
 // What stands at a place: a number and the place behind it, or no varint.
 pub enum Varint {

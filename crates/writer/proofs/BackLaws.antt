@@ -9,7 +9,8 @@ use lib.ListN.{length, length-append}
 use lib.Seq.{take-at}
 use Rattle.scalar.specs.Fixed.{little}
 use Rattle.scalar.proofs.FixedLaws.{fixed-whole}
-use Rattle.reply.specs.Frame.{fourBytes, frame, numberField}
+use Rattle.encode.specs.Frame.{fourBytes, frame}
+use Rattle.encode.specs.Field.{numberField}
 use Rattle.protocol.specs.Client as Client
 use Rattle.message.specs.Head.{maxLength, headOf}
 use Rattle.message.specs.Frame.{frameIn, ofHead, frameOf}
@@ -27,7 +28,7 @@ use Rattle.args.specs.Part.{low32}
 use Rattle.message.specs.Payload.{payload}
 use Rattle.message.specs.Simple.{resetFrame, sessionCloseFrame, deallocateIn, deallocateFrame, closeIn, closeFrame}
 use Rattle.message.specs.Simple.{fetchIn, fetchFrame}
-use Rattle.writer.specs.Payload.{optionalField}
+use Rattle.encode.specs.Field.{optionalField}
 use Rattle.writer.specs.RoundTrip.{given}
 use Rattle.writer.proofs.FieldLaws.{withNumber, reads-number, reads-optional, reads-then, whole-good}
 use Rattle.writer.proofs.TailLaws.{Tail}

@@ -8,7 +8,8 @@ use mathlib.Core.List.{List, [], _∷_, _++_, map, append-nil}
 use lib.ListN.{length, take}
 use lib.Seq.{length-take-le}
 use Rattle.scalar.specs.declared.argument.Argument.{Argument}
-use Rattle.reply.specs.Frame.{frame, numberField, bytesField}
+use Rattle.encode.specs.Frame.{frame}
+use Rattle.encode.specs.Field.{numberField, bytesField}
 use Rattle.protocol.specs.Client as Client
 use Rattle.layout.specs.Table.{rowsOf, openStmt}
 use Rattle.layout.specs.Row.{rowFor}
@@ -28,7 +29,7 @@ use Rattle.message.specs.declared.request.Request.{Request}
 use Rattle.message.specs.declared.request.Frame.{Frame}
 use Rattle.message.proofs.MessageLaws.{payload-good, within-there, execute-good}
 use Rattle.writer.specs.Moved.{moved}
-use Rattle.writer.specs.Payload.{optionalField}
+use Rattle.encode.specs.Field.{optionalField}
 use Rattle.writer.specs.RoundTrip.{given}
 use Rattle.writer.proofs.TailLaws.{tail-length, tail-stands, Stands, stands-length, stands-first, stands-next}
 use Rattle.writer.proofs.TailLaws.{stands-cut}

@@ -16,8 +16,8 @@ use Rattle.wire.specs.declared.field.Field.{Field}
 use Rattle.wire.proofs.TagLaws.{tag-good}
 use Rattle.wire.proofs.ValueLaws.{length-good}
 use Rattle.wire.proofs.FieldLaws.{field-tagged}
-use Rattle.reply.specs.Frame.{numberField, bytesField}
-use Rattle.reply.proofs.FrameLaws.{number-parts, bytes-parts}
+use Rattle.encode.specs.Field.{numberField, bytesField}
+use Rattle.encode.proofs.FieldLaws.{number-parts, prefix-parts, bytes-sum}
 use Rattle.layout.specs.Slots.{noSlots}
 use Rattle.layout.specs.Fields.{useOf, noted, hasRequired, checked, fieldsAt}
 use Rattle.layout.specs.declared.slots.Slots.{Slots}
@@ -25,7 +25,7 @@ use Rattle.layout.specs.declared.fields.Use.{Use}
 use Rattle.layout.proofs.FieldsLaws.{Listing, starts, ends, goes-on, checked-good}
 use Rattle.args.specs.Part.{embedded}
 use Rattle.args.proofs.PartLaws.{part-within}
-use Rattle.writer.specs.Payload.{optionalField}
+use Rattle.encode.specs.Field.{optionalField}
 use Rattle.writer.proofs.TailLaws.{Stands, stands-length, stands-first, stands-next, stands-cut, Tail}
 use Rattle.writer.proofs.TailLaws.{tail-length, tail-stands}
 
@@ -116,7 +116,7 @@ pub reads-bytes : (rows : List (List ℕ)) (num : ℕ) (bs : List ℕ) → Use.K
 reads-bytes rows num bs u some few h =
     record {
       on = λ s from at q x k l.
-          goes-on l (omega (arith, stands-length k, bytes-parts num bs, varint-length (length bs)))
+          goes-on l (omega (arith, stands-length k, bytes-sum num bs, prefix-parts num (length bs), varint-length (length bs)))
           (bytes-reads num at s q some few bs h k) Use.Kept u;
     }
 

@@ -19,9 +19,9 @@ use Rattle.args.specs.declared.arguments.Arguments.{Arguments}
 use Rattle.args.proofs.PlaceLaws.{Seeking, starts, ends, no-field, advances, found, other-wire, other-number, next-end}
 use Rattle.args.proofs.PlaceLaws.{next-placed}
 use Rattle.args.proofs.ArgumentsLaws.{type-good}
-use Rattle.reply.specs.Frame.{numberField}
+use Rattle.encode.specs.Field.{numberField}
 use Rattle.writer.specs.Moved.{moved}
-use Rattle.writer.specs.Payload.{optionalField}
+use Rattle.encode.specs.Field.{optionalField}
 use Rattle.writer.proofs.TailLaws.{less-or-not, Tail, tail-length, tail-stands, Stands, stands-length}
 use Rattle.writer.proofs.TailLaws.{stands-first, stands-next}
 use Rattle.writer.proofs.MovedArgLaws.{argument-moved}

@@ -6,13 +6,13 @@ use native.Mathlib.Nat.{add-zero}
 use lib.ListN.{length}
 use borrow.Author.Tests.{ne-eqb}
 use Rattle.protocol.specs.Client as Client
-use Rattle.reply.specs.Puts.{Puts}
-use Rattle.reply.specs.Frame.{numberField, bytesField}
-use Rattle.reply.proofs.PutsLaws.{puts-then, puts-as}
+use Rattle.encode.specs.Puts.{Puts}
+use Rattle.encode.specs.Field.{numberField, bytesField}
+use Rattle.encode.proofs.PutsLaws.{puts-then, puts-as}
 use Rattle.args.proofs.PartLaws.{no as without}
 use Rattle.writer.specs.declared.Draft.{Draft}
-use Rattle.writer.specs.Payload.{prefixOf, executePayload, preparePayload, openPayload, fetchPayload, payloadAs}
-use Rattle.writer.proofs.SizeLaws.{bytes-prefixed}
+use Rattle.encode.specs.Field.{prefixOf}
+use Rattle.writer.specs.Payload.{executePayload, preparePayload, openPayload, fetchPayload, payloadAs}
 
 module _ (d : Draft) (body args : List ℕ) {kind : ℕ} where
   pub as-prepare : kind ≡ Client.prepare → payloadAs kind d body args ≡ preparePayload d body
@@ -51,14 +51,3 @@ module _ (d : Draft) (body args : List ℕ) {kind : ℕ} where
       ∙ without (numberField 1 (d .stmt)) _ (ne-eqb kind Client.deallocate c)
       ∙ without (executePayload d args) _ (ne-eqb kind Client.execute b)
       ∙ without (preparePayload d body) _ (ne-eqb kind Client.prepare a))
-
--- a prefix, and behind it the bytes that it counts
-pub puts-counted : (num : ℕ) {b b₁ b₂ : List ℕ} {at n p q : ℕ} (bs : List ℕ) → n ≡ length bs →
-    Puts b at (prefixOf num n) p b₁ → Puts b₁ p bs q b₂ →
-    Puts b at (bytesField num bs) q b₂
-puts-counted num bs e f g =
-    puts-as (ap (λ (k : ℕ). prefixOf num k ++ bs) e ∙ bytes-prefixed num bs) (puts-then f g)
-
--- no bytes at a place
-pub puts-empty : (b : List ℕ) (at : ℕ) → Puts b at [] at b
-puts-empty b at = record { behind = sym (add-zero at); stored = refl }

@@ -9,7 +9,8 @@ use lib.ListN.{length, take}
 use lib.Seq.{length-take-le, take-all}
 use lib.Dec.{eqb}
 use Rattle.scalar.specs.declared.argument.Argument.{Argument}
-use Rattle.reply.specs.Frame.{frame, numberField, bytesField}
+use Rattle.encode.specs.Frame.{frame}
+use Rattle.encode.specs.Field.{numberField, bytesField}
 use Rattle.protocol.specs.Client as Client
 use Rattle.layout.specs.Table.{rowsOf, prepareStmt, stmtExecute}
 use Rattle.layout.specs.Row.{rowFor}

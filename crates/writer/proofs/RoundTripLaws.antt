@@ -8,10 +8,11 @@ use lib.ListN.{length, take, drop}
 use lib.Seq.{take-append-le}
 use lib.Dec.{leb, eqb}
 use borrow.Author.Tests.{le-leb, leb-true, eq-eqb, eqb-true, eqb-false}
-use Rattle.varint.specs.Put.{written}
+use Rattle.encode.specs.Put.{written}
 use Rattle.args.proofs.PartLaws.{yes}
 use Rattle.scalar.specs.declared.argument.Argument.{Argument}
-use Rattle.reply.specs.Frame.{frame, numberField}
+use Rattle.encode.specs.Frame.{frame}
+use Rattle.encode.specs.Field.{numberField}
 use Rattle.protocol.specs.Client as Client
 use Rattle.protocol.specs.Reason as Reason
 use Rattle.args.specs.Arguments.{noArguments, argumentsFrom, argumentsAt, nthArgument}

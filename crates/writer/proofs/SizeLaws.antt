@@ -7,38 +7,13 @@ use mathlib.Core.List.{List, _++_}
 use lib.ListN.{length, length-append}
 use Rattle.varint.specs.Shortest.{varintBytes}
 use Rattle.varint.proofs.VarintLaws.{varint-length}
-use Rattle.reply.specs.Frame.{numberField, bytesField}
-use Rattle.reply.proofs.FrameLaws.{number-parts, bytes-parts}
+use Rattle.encode.specs.Field.{numberField, bytesField}
+use Rattle.encode.proofs.FieldLaws.{number-short, optional-short, prefix-short, bytes-sum}
 use Rattle.message.specs.Operation.{fieldOf}
 use Rattle.writer.specs.declared.Draft.{Draft}
-use Rattle.writer.specs.Payload.{optionalField, prefixOf, executePayload, prepareStmtPayload, preparePayload}
+use Rattle.encode.specs.Field.{optionalField, prefixOf}
+use Rattle.writer.specs.Payload.{executePayload, prepareStmtPayload, preparePayload}
 use Rattle.writer.specs.Payload.{openStmtPayload, openPayload, fetchPayload}
-
-pub number-short : (num v : ℕ) → length (numberField num v) ≤ 20
-number-short num v = omega (arith, number-parts num v, varint-length (num * 8), varint-length v)
-
-pub optional-there : {b : Bool} (num v : ℕ) → b ≡ true → optionalField b num v ≡ numberField num v
-unfolding optionalField
-optional-there num v e = ap (λ (t : Bool). optionalField t num v) e
-
-pub prefix-parts : (num n : ℕ) → length (prefixOf num n) ≡ length (varintBytes (num * 8 + 2)) + length (varintBytes n)
-prefix-parts num n = length-append (varintBytes (num * 8 + 2)) (varintBytes n)
-
-pub prefix-short : (num n : ℕ) → length (prefixOf num n) ≤ 20
-prefix-short num n = omega (arith, prefix-parts num n, varint-length (num * 8 + 2), varint-length n)
-
--- a field with bytes is its prefix and the bytes
-pub bytes-prefixed : (num : ℕ) (bs : List ℕ) → prefixOf num (length bs) ++ bs ≡ bytesField num bs
-unfolding bytesField
-bytes-prefixed num bs = refl
-
-pub bytes-sum : (num : ℕ) (bs : List ℕ) → length (bytesField num bs) ≡ length (prefixOf num (length bs)) + length bs
-bytes-sum num bs = omega (arith, bytes-parts num bs, prefix-parts num (length bs))
-
-pub optional-short : (b : Bool) (num v : ℕ) → length (optionalField b num v) ≤ 20
-unfolding optionalField
-optional-short true num v = number-short num v
-optional-short false num v = omega arith
 
 module _ (d : Draft) (bs : List ℕ) where
   pub execute-parts :

@@ -9,10 +9,10 @@ use lib.ListN.{length}
 use lib.Dec.{leb, eqb}
 use borrow.Author.Tests.{le-leb, lt-leb, eqb-true}
 use Rattle.varint.proofs.PastLaws.{both}
-use Rattle.varint.proofs.PutLaws.{put-fits}
-use Rattle.reply.specs.Puts.{Puts}
-use Rattle.reply.specs.Frame.{fourBytes, frame}
-use Rattle.reply.proofs.PutsLaws.{puts-then, puts-as}
+use Rattle.encode.proofs.PutLaws.{put-fits}
+use Rattle.encode.specs.Puts.{Puts}
+use Rattle.encode.specs.Frame.{fourBytes, frame}
+use Rattle.encode.proofs.PutsLaws.{puts-then, puts-as}
 use Rattle.protocol.specs.Client as Client
 use Rattle.protocol.specs.Reason as Reason
 use Rattle.message.specs.Head.{maxLength}
@@ -108,7 +108,7 @@ module _ (d : Draft) (body args : List ℕ) where
       unfolding sentOf leftOf
       wrote-all {b₁} {b₂} {p} {q} g f t =
           rw (reason-none e h, le-leb (length (frameBytes d body args)) (length b) (omega (arith, room))) (
-            ap (λ (n : ℕ). sent Reason.accepted n) (whole .behind ∙ zero),
+            ap (λ (n : ℕ). sent Reason.accepted n) end,
             whole .stored ∙ put-fits b 0 (frameBytes d body args) room .1,
           )
         where
@@ -122,5 +122,5 @@ module _ (d : Draft) (body args : List ℕ) where
           room : 0 + length (frameBytes d body args) ≤ length b
           room = omega (arith, frame-length (d .kind) (payloadOf d body args))
 
-          zero : 0 + length (frameBytes d body args) ≡ length (frameBytes d body args)
-          zero = omega arith
+          end : q ≡ length (frameBytes d body args)
+          end = omega (arith, whole .behind)

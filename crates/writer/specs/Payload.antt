@@ -1,22 +1,13 @@
 -- The payload of each message as it is written (C2, L1): known fields in number order, shortest varints, absent
 -- optionals left out.
-use Prim.Native.Nat.{ℕ, _+_, _*_}
+use Prim.Native.Nat.{ℕ}
 use mathlib.Core.Bool.{Bool, cond}
 use mathlib.Core.List.{List, [], _++_}
 use lib.Dec.{eqb}
-use Rattle.varint.specs.Shortest.{varintBytes}
-use Rattle.reply.specs.Frame.{numberField, bytesField}
+use Rattle.encode.specs.Field.{numberField, optionalField, bytesField}
 use Rattle.protocol.specs.Client as Client
 use Rattle.message.specs.Operation.{fieldOf}
 use Rattle.writer.specs.declared.Draft.{Draft}
-
--- a field with a number, where it is present
-unfoldable pub optionalField : Bool → ℕ → ℕ → List ℕ
-optionalField present num v = cond present (numberField num v) []
-
--- what stands before the n bytes of a field: its tag, of wire type 2, and their count
-abbrev pub prefixOf : ℕ → ℕ → List ℕ
-prefixOf num n = varintBytes (num * 8 + 2) ++ varintBytes n
 
 -- stmt_id, args, compact_metadata
 unfoldable pub executePayload : Draft → List ℕ → List ℕ

@@ -7,8 +7,8 @@ use mathlib.Core.List.{List}
 use lib.ListN.{length}
 use lib.Dec.{leb, eqb}
 use Rattle.protocol.specs.Reason as Reason
-use Rattle.varint.specs.Put.{written}
-use Rattle.reply.specs.Frame.{frame}
+use Rattle.encode.specs.Put.{written}
+use Rattle.encode.specs.Frame.{frame}
 use Rattle.message.specs.Head.{maxLength}
 use Rattle.writer.specs.declared.Draft.{Draft}
 use Rattle.writer.specs.declared.Sent.{Sent}

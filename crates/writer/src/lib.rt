@@ -2,11 +2,11 @@
 ghost use mathlib.Core.Path.{_≡_};
 ghost use lib.ListN.{length};
 ghost use Rattle.writer.specs.Write.{leftOf, sentOf};
+use encode::head::put_head;
 use message::head::MAX_LENGTH;
 use message::payload::PAYLOAD;
 use protocol::reason;
 
-mod fields;
 mod judge;
 mod payload;
 
@@ -60,7 +60,7 @@ pub fn write_message(draft: Draft, body: &[u8], args: &[u8], buf: &mut [u8]) -> 
             len: 0,
         };
     }
-    let at = fields::put_head(buf, n as u64 + 1, draft.kind);
+    let at = put_head(buf, 0, n as u64 + 1, (draft.kind % 256) as u8);
     let end = payload::put_payload(draft, body, args, buf, at);
     Sent {
         reason: reason::ACCEPTED,

@@ -6,8 +6,8 @@ use mathlib.Core.List.{List}
 use lib.ListN.{length}
 use lib.Dec.{eqb}
 use Rattle.protocol.specs.Reason as Reason
-use Rattle.varint.specs.Put.{written}
-use Rattle.varint.specs.declared.write.Put.{Put}
+use Rattle.encode.specs.Put.{written}
+use Rattle.encode.specs.declared.put.Put.{Put}
 use Rattle.args.specs.declared.arguments.Arguments.{Arguments}
 use Rattle.message.specs.Request.{stmtOf, cursorOf, argsOf}
 use Rattle.message.specs.declared.request.Request.{Request}

@@ -8,7 +8,7 @@ use lib.Seq.{length-take-le}
 use Rattle.reply.specs.declared.Refusal.{Refusal}
 use Rattle.reply.specs.Reply.{messageOf}
 use Rattle.reply.specs.Frame.{errorFrame}
-use Rattle.reply.proofs.PutsLaws.{if-room-as, front, front-within}
+use Rattle.encode.proofs.PutsLaws.{if-room-as, front, front-within}
 use Rattle.reply.proofs.TextLaws.{text-within}
 use Rattle.reply.proofs.write_refusal.Statement.{statement}
 use Rattle.reply.proofs.write_refusal.Tie as tie
@@ -16,21 +16,16 @@ use Rattle.reply.proofs.write_refusal.Tie as tie
 room : (r : Refusal) → length (messageOf r) ≤ length (replicate {A = ℕ} 128 0)
 room r = omega (arith, text-within (r .reason) (r .number) (r .kind))
 
-array-share-prefix-text : tie.Need-array-share-prefix-text
-array-share-prefix-text c =
-    let a = c .before .before .before .before .args .refusal in
-    front-within (room a) (c .before .put-text .ensures)
-
 slice-aggregate-write-error : tie.Need-slice-aggregate-write-error
 slice-aggregate-write-error c =
-    let a = c .before .before .before .before .before .args .refusal in
-    let t = c .before .before in
+    let t = c .before .before .before in
+    let a = t .before .before .before .args .refusal in
     sym (length-take-le (t .put-text .result) _ (front-within (room a) (t .put-text .ensures)))
 
 returns : tie.Need-returns
 returns c =
     let w = c .before .before in
-    let t = w .before .before .before in
+    let t = w .before .before .before .before in
     let a = t .before .before .before .args .refusal in
     if-room-as (ap (errorFrame (a .code)) (front (room a) (t .put-text .ensures))) (w .write-error .ensures)
 
@@ -38,9 +33,10 @@ pub write-refusal-spec : {M : Type 1} → statement M
 write-refusal-spec =
     tie.close
     (tie.spec
-    (λ c κs. search needs)
-    array-share-prefix-text
+    (λ c. search needs)
+    (λ c. search needs)
+    (λ c. search needs)
     slice-aggregate-write-error
-    (λ c κs. search needs)
+    (λ c. search needs)
     (λ c. search needs)
     returns)

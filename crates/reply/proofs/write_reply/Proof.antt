@@ -1,14 +1,15 @@
 -- `reply::write_reply` meets its contract: one law of `ReplyLaws` for each reply. Assumes nothing.
 use borrow.Author.Needs.{needs}
 use native.Mathlib.Omega.{arith}
-use Rattle.reply.proofs.PutsLaws.{equations, puts-room, puts-nothing}
+use Rattle.encode.proofs.PutsLaws.{equations, puts-room, puts-nothing}
 use Rattle.reply.proofs.ReplyLaws.{reply-nothing, reply-ok, reply-suspended, reply-done, reply-executed, reply-error}
 use Rattle.reply.proofs.write_reply.Statement.{statement}
 use Rattle.reply.proofs.write_reply.Tie as tie
 
 returns : tie.Need-returns
 returns c =
-    equations (reply-nothing (c .enum-told .given .1)) (puts-room (omega arith) (puts-nothing (c .before .before .before .args .buf .now)))
+    equations (reply-nothing (c .enum-told .given .1))
+    (puts-room (omega arith) (puts-nothing (c .before .before .before .args .buf .now) 0))
 
 returns-2 : tie.Need-returns-2
 returns-2 c =

@@ -1,6 +1,6 @@
 -- Each way out is one of draftReason or writeReason; what is put is the head, and behind it the payload.
-use Rattle.reply.specs.Frame.{fourBytes}
-use Rattle.reply.proofs.PutsLaws.{puts-as}
+use Rattle.encode.specs.Frame.{fourBytes}
+use Rattle.encode.proofs.PutsLaws.{puts-as}
 use Rattle.writer.proofs.WriteLaws.{wrote-bad, wrote-long, wrote-short, wrote-all}
 use borrow.Author.Tests.{not-true, not-false}
 use mathlib.Core.List.{[], _∷_, _++_}
@@ -34,16 +34,17 @@ returns-3 c =
 
 returns-4 : tie.Need-returns-4
 returns-4 c =
-    let far = c .before .before .before .before .before .before .before .before in
-    let a = far .before .before .before .before .before .before .before .before .args in
-    let n = far .before .before .payload-len in
-    wrote-all (a .draft) (a .body .now) (a .args .now) (a .buf .now) (sym
-    (far .before .before .before .before .is-accepted .ensures) ∙ not-false _
-    (far .before .before .before .if1 .left))
-    (omega (arith, n .ensures)) (omega (arith, n .ensures))
-    (puts-as (ap (λ (m : ℕ). fourBytes (m + 1) ++ (a .draft .kind % 256 ∷ [])) (n .ensures))
-    (c .before .before .before .before .before .before .put-head .ensures))
-    (c .before .before .put-payload .ensures)
+    let w = c .before .before in
+    let h = w .before .before .before .before in
+    let e = h .before .before .before in
+    let n = e .before .before .payload-len in
+    let k = e .before .before .before .before in
+    let a = k .before .before .before .before .args in
+    wrote-all (a .draft) (a .body .now) (a .args .now) (a .buf .now)
+    (sym (k .is-accepted .ensures) ∙ not-false _ (e .before .before .before .if1 .left)) (omega (arith, n .ensures))
+    (omega (arith, n .ensures))
+    (puts-as (ap (λ (m : ℕ). fourBytes (m + 1) ++ (a .draft .kind % 256 ∷ [])) (n .ensures)) (h .put-head .ensures))
+    (w .put-payload .ensures)
 
 pub write-message-spec : {M : Type 1} → statement M
 write-message-spec =
@@ -55,6 +56,7 @@ write-message-spec =
     returns-2
     (λ c. search needs)
     returns-3
+    (λ c. search needs)
     (λ c. search needs)
     (λ c κs. search needs)
     (λ c κs. search needs)

@@ -1,25 +1,26 @@
 -- `args_writer::field::any_len` meets its contract. Assumes nothing.
-use Rattle.args_writer.specs.Form.{pair, valueIn}
-use Rattle.args_writer.proofs.SizeLaws.{pair-short, scalar-short, any-parts}
-use Prim.Native.Nat.{ℕ}
-use lib.ListN.{length}
-use mathlib.Core.Path.{ap}
-use native.Mathlib.Omega.{arith}
 use borrow.Author.Needs.{needs}
+use native.Mathlib.Omega.{arith}
+use Prim.Native.Nat.{ℕ}
+use mathlib.Core.Path.{ap}
+use lib.ListN.{length}
+use Rattle.encode.specs.Field.{prefixOf}
+use Rattle.args_writer.specs.private.Form.{valueIn}
+use Rattle.encode.proofs.FieldLaws.{number-short, prefix-short}
+use Rattle.args_writer.proofs.SizeLaws.{scalar-short, any-parts}
 use Rattle.args_writer.proofs.field.any_len.Statement.{statement}
 use Rattle.args_writer.proofs.field.any_len.Tie as tie
 
 add-result : tie.Need-add-result
-add-result c =
-    omega (arith, pair-short 8 1, pair-short 18 (c .before .before .scalar-len .result))
+add-result c = omega (arith, number-short 1 1, prefix-short 2 (c .before .before .scalar-len .result))
 
 add-result-2 : tie.Need-add-result-2
 add-result-2 c =
     let a = c .before .before .before .before .args in
     omega (
       arith,
-      pair-short 8 1,
-      pair-short 18 (c .before .before .scalar-len .result),
+      number-short 1 1,
+      prefix-short 2 (c .before .before .scalar-len .result),
       scalar-short (a .f .kind) (a .f) (a .bytes .now),
     )
 
@@ -29,7 +30,7 @@ returns c =
     omega (
       arith,
       any-parts (a .f .kind) (valueIn (a .f) (a .bytes .now)),
-      ap (λ (n : ℕ). length (pair 18 n)) (c .before .before .scalar-len .ensures),
+      ap (λ (n : ℕ). length (prefixOf 2 n)) (c .before .before .scalar-len .ensures),
     )
 
 pub any-len-spec : {M : Type 1} → statement M

@@ -1,5 +1,6 @@
 -- `args_writer::form::bool_form` meets its contract. Assumes nothing.
-use Rattle.args_writer.specs.Form.{valueForm}
+use Rattle.protocol.specs.Scalars as Scalars
+use Rattle.args_writer.specs.private.Form.{valueForm}
 use mathlib.Core.Bool.{Bool, cond}
 use mathlib.Core.Path.{sym, ap, _∙_}
 use borrow.Author.Needs.{needs}
@@ -8,11 +9,11 @@ use Rattle.args_writer.proofs.form.bool_form.Tie as tie
 
 returns : tie.Need-returns
 returns c =
-    c .value-form .ensures ∙ ap (λ (b : Bool). valueForm 7 64 0 (cond b 1 0)) (sym (c .before .if1 .taken))
+    c .value-form .ensures ∙ ap (λ (b : Bool). valueForm Scalars.bool Scalars.boolField 0 (cond b 1 0)) (sym (c .before .if1 .taken))
 
 returns-2 : tie.Need-returns-2
 returns-2 c =
-    c .value-form2 .ensures ∙ ap (λ (b : Bool). valueForm 7 64 0 (cond b 1 0)) (sym (c .before .if1 .left))
+    c .value-form2 .ensures ∙ ap (λ (b : Bool). valueForm Scalars.bool Scalars.boolField 0 (cond b 1 0)) (sym (c .before .if1 .left))
 
 pub bool-form-spec : {M : Type 1} → statement M
 bool-form-spec =

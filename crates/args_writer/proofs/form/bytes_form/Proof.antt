@@ -9,17 +9,17 @@ use Rattle.args_writer.proofs.form.bytes_form.Tie as tie
 returns : tie.Need-returns
 returns c =
     let a = c .before .before .args in
-    c .no-form .ensures ∙ bytes-past (a .kind) (a .tag) (a .start) (a .len) (a .n) (omega arith)
+    c .no-form .ensures ∙ bytes-past (a .kind) (a .num) (a .start) (a .len) (a .n) (omega arith)
 
 returns-2 : tie.Need-returns-2
 returns-2 c =
     let a = c .before .before .before .args in
-    c .no-form2 .ensures ∙ bytes-past (a .kind) (a .tag) (a .start) (a .len) (a .n) (omega arith)
+    c .no-form2 .ensures ∙ bytes-past (a .kind) (a .num) (a .start) (a .len) (a .n) (omega arith)
 
 returns-3 : tie.Need-returns-3
 returns-3 c =
     let a = c .before .before .args in
-    bytes-in (a .kind) (a .tag) (a .start) (a .len) (a .n) (omega arith)
+    bytes-in (a .kind) (a .num) (a .start) (a .len) (a .n) (omega arith)
 
 pub bytes-form-spec : {M : Type 1} → statement M
 bytes-form-spec =

@@ -1,7 +1,8 @@
 -- `args_writer::form::float_form` meets its contract. Assumes nothing.
+use Rattle.protocol.specs.Scalars as Scalars
 use lib.Ieee.{binary32, toBits}
 use Rattle.args.proofs.PartLaws.{yes, no}
-use Rattle.args_writer.specs.Form.{noForm, valueForm}
+use Rattle.args_writer.specs.private.Form.{noForm, valueForm}
 use Rattle.args_writer.proofs.FormLaws.{nan-told, nan-not, nan-asked}
 use Prim.Native.Nat.{ℕ}
 use mathlib.Core.Path.{ap, _∙_}
@@ -12,7 +13,7 @@ use Rattle.args_writer.proofs.form.float_form.Tie as tie
 returns : tie.Need-returns
 returns c =
     let x = c .before .before .args .x in
-    c .no-form .ensures ∙ yes noForm (valueForm 6 61 5 (toBits binary32 x)) (nan-told x (c .before .if1 .taken))
+    c .no-form .ensures ∙ yes noForm (valueForm Scalars.float Scalars.floatField 5 (toBits binary32 x)) (nan-told x (c .before .if1 .taken))
 
 float-to-bits-wide : tie.Need-float-to-bits-wide
 float-to-bits-wide c =
@@ -23,8 +24,8 @@ returns-2 : tie.Need-returns-2
 returns-2 c =
     let x = c .before .before .before .args .x in
     c .value-form .ensures
-    ∙ ap (λ (n : ℕ). valueForm 6 61 5 n) (c .before .wide .ensures)
-    ∙ no noForm (valueForm 6 61 5 (toBits binary32 x)) (nan-not x (c .before .before .if1 .left))
+    ∙ ap (λ (n : ℕ). valueForm Scalars.float Scalars.floatField 5 n) (c .before .wide .ensures)
+    ∙ no noForm (valueForm Scalars.float Scalars.floatField 5 (toBits binary32 x)) (nan-not x (c .before .before .if1 .left))
 
 pub float-form-spec : {M : Type 1} → statement M
 float-form-spec =

@@ -1,8 +1,9 @@
 -- `args_writer::form::float_nan_form` meets its contract. Assumes nothing.
+use Rattle.protocol.specs.Scalars as Scalars
 use lib.Ieee.{binary32}
 use Rattle.args.proofs.PartLaws.{yes, no}
 use Rattle.scalar.proofs.ArgumentLaws.{is-nan, no-nan}
-use Rattle.args_writer.specs.Form.{noForm, valueForm}
+use Rattle.args_writer.specs.private.Form.{noForm, valueForm}
 use mathlib.Core.Path.{_∙_}
 use borrow.Author.Needs.{needs}
 use Rattle.args_writer.proofs.form.float_nan_form.Statement.{statement}
@@ -11,12 +12,12 @@ use Rattle.args_writer.proofs.form.float_nan_form.Tie as tie
 returns : tie.Need-returns
 returns c =
     let n = c .before .before .args .bits in
-    c .no-form .ensures ∙ no (valueForm 6 61 5 n) noForm (no-nan binary32 n (c .before .if1 .taken))
+    c .no-form .ensures ∙ no (valueForm Scalars.float Scalars.floatField 5 n) noForm (no-nan binary32 n (c .before .if1 .taken))
 
 returns-2 : tie.Need-returns-2
 returns-2 c =
     let n = c .before .before .args .bits in
-    c .value-form .ensures ∙ yes (valueForm 6 61 5 n) noForm (is-nan binary32 n (c .before .if1 .left))
+    c .value-form .ensures ∙ yes (valueForm Scalars.float Scalars.floatField 5 n) noForm (is-nan binary32 n (c .before .if1 .left))
 
 pub float-nan-form-spec : {M : Type 1} → statement M
 float-nan-form-spec =

@@ -1,6 +1,7 @@
 -- `args_writer::form::form_of` meets its contract. Assumes nothing.
 use Rattle.scalar.specs.declared.argument.Argument.{Argument}
-use Rattle.args_writer.specs.Form.{valueForm, formOf}
+use Rattle.protocol.specs.Scalars as Scalars
+use Rattle.args_writer.specs.private.Form.{valueForm, formOf}
 use Rattle.scalar.specs.Zigzag.{zigzag}
 use mir.Syntax.{w64}
 use mir.ValLaws.{toZ-ofZ}
@@ -14,7 +15,7 @@ returns : tie.Need-returns
 returns c =
     let n = c .before .before .before .before .before .args .n in
     c .value-form .ensures
-    ∙ ap (λ (v : ℕ). valueForm 1 16 0 v) (c .before .zigzag-encode .ensures ∙ ap zigzag (toZ-ofZ w64 (c .before .before .before .a .given .0 .0) (search needs)))
+    ∙ ap (λ (v : ℕ). valueForm Scalars.sint Scalars.sintField 0 v) (c .before .zigzag-encode .ensures ∙ ap zigzag (toZ-ofZ w64 (c .before .before .before .a .given .0 .0) (search needs)))
     ∙ ap (λ (a : Argument). formOf a n) (sym (c .before .before .before .a .given .1))
 
 returns-2 : tie.Need-returns-2

@@ -2,8 +2,8 @@
 use borrow.Author.Needs.{needs}
 use native.Mathlib.Omega.{arith}
 use mathlib.Core.List.{[]}
-use Rattle.reply.specs.Frame.{frame}
-use Rattle.reply.proofs.PutsLaws.{puts-none, puts-room}
+use Rattle.encode.specs.Frame.{frame}
+use Rattle.encode.proofs.PutsLaws.{puts-none, puts-room}
 use Rattle.reply.proofs.frame.write_empty.Statement.{statement}
 use Rattle.reply.proofs.frame.write_empty.Tie as tie
 

@@ -4,7 +4,7 @@ use native.Mathlib.Omega.{arith}
 use lib.ListN.{length}
 use Rattle.varint.proofs.VarintLaws.{varint-length}
 use Rattle.reply.specs.Frame.{errorFrame}
-use Rattle.reply.proofs.PutsLaws.{puts-none, puts-room}
+use Rattle.encode.proofs.PutsLaws.{puts-none, puts-room}
 use Rattle.reply.proofs.FrameLaws.{error-framed, payload-length}
 use Rattle.reply.proofs.frame.write_error.Statement.{statement}
 use Rattle.reply.proofs.frame.write_error.Tie as tie
@@ -32,31 +32,27 @@ returns c =
     let a = c .before .before .before .before .before .args in
     puts-none (errorFrame (a .code) (a .message .now)) (omega (arith, payload-length (a .code) (a .message .now)))
 
-put-error-requires : tie.Need-put-error-requires
-put-error-requires c κs =
-    let a = c .before .before .before .before .before .before .before .before .before .before .args in
-    omega (arith, payload-length (a .code) (a .message .now))
-
 returns-2 : tie.Need-returns-2
 returns-2 c =
     let p = c .before .before in
     let h = p .before .before .before .before in
     let a = h .before .before .before .before .before .before .before .args in
     let long = payload-length (a .code) (a .message .now) in
-    puts-room (omega arith) (error-framed (a .code) (a .message .now) (h .put-head .ensures) (p .put-error .ensures) (omega arith))
+    puts-room (omega arith)
+    (error-framed (a .code) (a .message .now) (h .put-head .ensures) (p .put-error .ensures) (omega arith))
 
 pub write-error-spec : {M : Type 1} → statement M
 write-error-spec =
     tie.close
     (tie.spec
-    (λ c κs. search needs)
+    (λ c. search needs)
     add-size
-    (λ c κs. search needs)
+    (λ c. search needs)
     add-size-2
     add-size-3
     add-if1
     returns
-    (λ c κs. search needs)
-    put-error-requires
+    (λ c. search needs)
+    (λ c. search needs)
     (λ c. search needs)
     returns-2)

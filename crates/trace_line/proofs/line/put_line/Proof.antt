@@ -1,31 +1,34 @@
 -- `trace_line::line::put_line` meets its contract: its parts stand one behind the other. Assumes nothing.
 use borrow.Author.Needs.{needs}
-use Rattle.reply.proofs.PutsLaws.{puts-then}
+use Rattle.encode.proofs.PutsLaws.{puts-then, puts-length}
 use Rattle.trace_line.specs.Line.{lineOf}
-use Rattle.trace_line.proofs.LineLaws.{puts-one, puts-two}
 use Rattle.trace_line.proofs.line.put_line.Statement.{statement}
 use Rattle.trace_line.proofs.line.put_line.Tie as tie
 
 returns : tie.Need-returns
 unfolding lineOf
 returns c =
-    let g = c .before .before in
-    let f = g .before .before in
-    let e = f .before .before in
-    let d = e .before .before in
-    let b = d .before .before in
-    let a = b .before .before in
-    puts-one 10
-    (puts-then
-    (puts-then
-    (puts-then
-    (puts-two (a .before .before .args .l .mark) 32
-    (puts-then
-    (puts-then (puts-then (a .put-column .ensures .0) (b .put-column2 .ensures .0)) (d .put-column3 .ensures .0))
-    (e .put-column4 .ensures .0)))
-    (f .put-column5 .ensures .0))
-    (g .put-column6 .ensures .0))
-    (c .put-decimal .ensures .0))
+    let j = c .before .before in
+    let i = j .before .before .before .before in
+    let h = i .before .before .before .before in
+    let g = h .before .before .before .before in
+    let f = g .before .before .before .before in
+    let e = f .before .before .before .before in
+    let d = e .before .before .before .before in
+    let k = d .before .before .before .before in
+    let b = k .before .before .before .before in
+    let a = b .before .before .before .before in
+    let four =
+    puts-then (puts-then (puts-then (a .put-column .ensures) (b .put-column2 .ensures)) (k .put-column3 .ensures))
+    (d .put-column4 .ensures) in
+    let mark = puts-then (e .put-byte .ensures) (f .put-byte2 .ensures) in
+    puts-then
+    (puts-then (puts-then (puts-then (puts-then four mark) (g .put-column5 .ensures)) (h .put-column6 .ensures))
+    (i .put-decimal .ensures))
+    (j .put-byte3 .ensures)
+
+same-length : tie.Need-same-length
+same-length c = puts-length (returns c)
 
 pub put-line-spec : {M : Type 1} → statement M
 put-line-spec =
@@ -35,13 +38,11 @@ put-line-spec =
     (λ c κs. search needs)
     (λ c κs. search needs)
     (λ c κs. search needs)
-    (λ c. search needs)
-    (λ c. search needs)
-    (λ c. search needs)
-    (λ c. search needs)
     (λ c κs. search needs)
     (λ c κs. search needs)
     (λ c κs. search needs)
-    (λ c. search needs)
-    (λ c. search needs)
+    (λ c κs. search needs)
+    (λ c κs. search needs)
+    (λ c κs. search needs)
+    same-length
     returns)

@@ -6,7 +6,7 @@ use native.Mathlib.Omega.{arith}
 use mathlib.Core.Path.{sym}
 use lib.ListN.{length, replicate}
 use lib.Seq.{length-take-le}
-use Rattle.reply.proofs.PutsLaws.{front, front-within, equations-as}
+use Rattle.encode.proofs.PutsLaws.{front, front-within, equations-as}
 use Rattle.trace_line.specs.declared.line.Line.{Line}
 use Rattle.trace_line.specs.Line.{lineOf}
 use Rattle.trace_line.proofs.LineLaws.{line-within}
@@ -16,14 +16,9 @@ use Rattle.trace_line.proofs.line.write_line.Tie as tie
 room : (l : Line) → length (lineOf l) ≤ length (replicate {A = ℕ} 160 0)
 room l = omega (arith, line-within l)
 
-array-share-prefix-text : tie.Need-array-share-prefix-text
-array-share-prefix-text c =
-    let p = c .before in
-    front-within (room (p .before .before .before .args .l)) (p .put-line .ensures)
-
 slice-aggregate-write-bytes : tie.Need-slice-aggregate-write-bytes
 slice-aggregate-write-bytes c =
-    let p = c .before .before in
+    let p = c .before .before .before in
     sym
     (length-take-le (p .put-line .result) _
     (front-within (room (p .before .before .before .args .l)) (p .put-line .ensures)))
@@ -31,7 +26,7 @@ slice-aggregate-write-bytes c =
 returns : tie.Need-returns
 returns c =
     let w = c .before .before in
-    let p = w .before .before .before in
+    let p = w .before .before .before .before in
     let a = p .before .before .before .args in
     equations-as (a .buf .now) (a .at) (front (room (a .l)) (p .put-line .ensures)) (w .write-bytes .ensures)
 
@@ -39,8 +34,9 @@ pub write-line-spec : {M : Type 1} → statement M
 write-line-spec =
     tie.close
     (tie.spec
+    (λ c. search needs)
     (λ c κs. search needs)
-    array-share-prefix-text
+    (λ c. search needs)
     slice-aggregate-write-bytes
     (λ c κs. search needs)
     (λ c. search needs)

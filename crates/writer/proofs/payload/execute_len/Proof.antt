@@ -1,6 +1,7 @@
 -- The sum of its fields' lengths.
-use Rattle.writer.specs.Payload.{optionalField}
-use Rattle.writer.proofs.SizeLaws.{execute-parts, number-short, optional-short}
+use Rattle.encode.specs.Field.{optionalField}
+use Rattle.encode.proofs.FieldLaws.{number-short, optional-short}
+use Rattle.writer.proofs.SizeLaws.{execute-parts}
 use Prim.Native.Nat.{ℕ}
 use lib.ListN.{length}
 use mathlib.Core.Path.{ap}

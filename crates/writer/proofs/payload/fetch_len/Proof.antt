@@ -1,5 +1,6 @@
 -- The sum of its fields' lengths.
-use Rattle.writer.proofs.SizeLaws.{fetch-parts, number-short, optional-short}
+use Rattle.encode.proofs.FieldLaws.{number-short, optional-short}
+use Rattle.writer.proofs.SizeLaws.{fetch-parts}
 use native.Mathlib.Omega.{arith}
 use borrow.Author.Needs.{needs}
 use Rattle.writer.proofs.payload.fetch_len.Statement.{statement}

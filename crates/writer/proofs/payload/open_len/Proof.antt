@@ -1,6 +1,7 @@
 -- The sum of its fields' lengths.
-use Rattle.writer.specs.Payload.{prefixOf}
-use Rattle.writer.proofs.SizeLaws.{open-parts, open-stmt-short, number-short, prefix-short, optional-short}
+use Rattle.encode.specs.Field.{prefixOf}
+use Rattle.encode.proofs.FieldLaws.{number-short, prefix-short, optional-short}
+use Rattle.writer.proofs.SizeLaws.{open-parts, open-stmt-short}
 use Prim.Native.Nat.{ℕ}
 use lib.ListN.{length}
 use mathlib.Core.Path.{ap}

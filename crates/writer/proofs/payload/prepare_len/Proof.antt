@@ -1,6 +1,7 @@
 -- The sum of its fields' lengths.
-use Rattle.writer.specs.Payload.{prefixOf}
-use Rattle.writer.proofs.SizeLaws.{prepare-parts, prepare-stmt-short, number-short, prefix-short}
+use Rattle.encode.specs.Field.{prefixOf}
+use Rattle.encode.proofs.FieldLaws.{number-short, prefix-short}
+use Rattle.writer.proofs.SizeLaws.{prepare-parts, prepare-stmt-short}
 use Prim.Native.Nat.{ℕ}
 use lib.ListN.{length}
 use mathlib.Core.Path.{ap}

@@ -1,6 +1,7 @@
 -- The sum of its fields' lengths.
-use Rattle.writer.specs.Payload.{prefixOf}
-use Rattle.writer.proofs.SizeLaws.{prepare-stmt-parts, number-short, prefix-short}
+use Rattle.encode.specs.Field.{prefixOf}
+use Rattle.encode.proofs.FieldLaws.{number-short, prefix-short}
+use Rattle.writer.proofs.SizeLaws.{prepare-stmt-parts}
 use Prim.Native.Nat.{ℕ}
 use lib.ListN.{length}
 use mathlib.Core.Path.{ap}
@@ -42,6 +43,7 @@ prepare-stmt-len-spec =
     tie.close
     (tie.spec
     (λ c κs. search needs)
+    (λ c. search needs)
     (λ c κs. search needs)
     (λ c κs. search needs)
     add-result

@@ -1,0 +1,13 @@
+-- `encode::put::put_byte` meets its contract: past the end nothing is stored. Assumes nothing.
+use borrow.Author.Needs.{needs}
+use mathlib.Core.List.{[], _∷_}
+use Rattle.encode.proofs.PutsLaws.{past-end}
+use Rattle.encode.proofs.put.put_byte.Statement.{statement}
+use Rattle.encode.proofs.put.put_byte.Tie as tie
+
+returns : tie.Need-returns
+returns c = let a = c .before .args in past-end (a .buf .now) (a .at) (a .b ∷ []) (c .if1 .taken)
+
+pub put-byte-spec : {M : Type 1} → statement M
+put-byte-spec =
+    tie.close (tie.spec returns (λ c. search needs) (λ c. search needs) (λ c. search needs) (λ c. search needs))

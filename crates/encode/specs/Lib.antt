@@ -1,0 +1,5 @@
+pub mod Field
+pub mod Fixed
+pub mod Frame
+pub mod Put
+pub mod Puts
