@@ -146,28 +146,27 @@ module _ {b bs b₁ : List ℕ} {r : ℕ} (h : length bs ≤ length b) (f : Puts
       let e : length bs ≡ r = omega (arith, f .behind) in
       ap (λ (l : List ℕ). take r l) (f .stored ∙ sets-eq bs b 0 room) ∙ take-at bs (drop (0 + length bs) b) r e
 
--- ---- the copying loop: what is left of the n bytes, stored from here on, gives the buffer that is to be
+-- ---- the copying loop: what is left of `src`, stored from here on, gives the buffer that is to be
 
-pub record Copying (b₀ : List ℕ) (at n : ℕ) (src b : List ℕ) (i : ℕ) : Type 0 where
-  pub within : i ≤ n
-  pub some : n ≡ min (length src) (length b₀ - at)
+pub record Copying (b₀ : List ℕ) (at : ℕ) (src b : List ℕ) (i : ℕ) : Type 0 where
+  pub room : at + length src ≤ length b₀
+  pub within : i ≤ length src
   pub left : sets b (at + i) (drop i src) ≡ sets b₀ at src
   pub kept : length b ≡ length b₀
 
-pub copy-starts : (b : List ℕ) (at n : ℕ) (src : List ℕ) → n ≡ min (length src) (length b - at) → Copying b at n src b 0
-copy-starts b at n src e =
-    record { within = omega arith; some = e; left = ap (λ (i : ℕ). sets b i src) (add-zero at); kept = refl }
+pub copy-starts : (b : List ℕ) (at : ℕ) (src : List ℕ) → at + length src ≤ length b → Copying b at src b 0
+copy-starts b at src h =
+    record { room = h; within = omega arith; left = ap (λ (i : ℕ). sets b i src) (add-zero at); kept = refl }
 
-pub copy-goes-on : {b₀ src b : List ℕ} {at n i : ℕ} → Copying b₀ at n src b i → i < n →
-    Copying b₀ at n src (set b (at + i) (getD src i 0)) (i + 1)
-copy-goes-on {b₀} {src} {b} {at} {n} {i} r h =
-    let inside : i < length src = omega (arith, r .some) in
+pub copy-goes-on : {b₀ src b : List ℕ} {at i : ℕ} → Copying b₀ at src b i → i < length src →
+    Copying b₀ at src (set b (at + i) (getD src i 0)) (i + 1)
+copy-goes-on {b₀} {src} {b} {at} {i} r h =
     record {
+      room = r .room;
       within = omega arith;
-      some = r .some;
       left =
           rw (add-one i) (ap (λ (j : ℕ). sets (set b (at + i) (getD src i 0)) j (drop (suc i) src)) next)
-          ∙ sym (ap (sets b (at + i)) (drop-cons src i 0 inside))
+          ∙ sym (ap (sets b (at + i)) (drop-cons src i 0 h))
           ∙ r .left;
       kept = rw length-set (r .kept);
     }
@@ -175,13 +174,9 @@ copy-goes-on {b₀} {src} {b} {at} {n} {i} r h =
     next : at + suc i ≡ suc (at + i)
     next = omega arith
 
--- all of `src` is stored, or the buffer is full
-pub copy-ends : {b₀ src b : List ℕ} {at n i : ℕ} → at < length b₀ → Copying b₀ at n src b i → n ≤ i →
-    Puts b₀ at src (at + i) b
-copy-ends {b₀} {src} {b} {at} {n} {i} h r e =
-    record { behind = omega (arith, r .within, r .some); stored = sym left-out ∙ r .left }
-  where
-    left-out : sets b (at + i) (drop i src) ≡ b
-    left-out =
-        either (length src) i (λ l. ap (sets b (at + i)) (drop-of-length-le src l))
-        (λ l. sets-out (drop i src) b (at + i) (omega (arith, r .within, r .some, r .kept)))
+pub copy-ends : {b₀ src b : List ℕ} {at i : ℕ} → Copying b₀ at src b i → length src ≤ i → Puts b₀ at src (at + i) b
+copy-ends {b₀} {src} {b} {at} {i} r h =
+    record {
+      behind = omega (arith, r .within, r .room);
+      stored = sym (ap (sets b (at + i)) (drop-of-length-le src h)) ∙ r .left;
+    }

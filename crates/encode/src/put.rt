@@ -2,7 +2,7 @@
 // one goes on; who needs all or nothing counts first.
 ghost use mathlib.Core.Path.{_≡_};
 ghost use mathlib.Core.List.{[], _∷_};
-ghost use Prim.Native.Nat.{_+_, min};
+ghost use Prim.Native.Nat.{_+_};
 ghost use lib.Dec.{leb};
 ghost use Rattle.encode.specs.Fixed.{fixedBytes};
 ghost use Rattle.encode.specs.Put.{putAt, written};
@@ -24,19 +24,32 @@ pub fn put_byte(buf: &mut [u8], at: usize, b: u8) -> usize
     at + 1
 }
 
+// Where all of it fits, the length of the loop is that of `src`, which the compiler often knows.
 pub fn put_slice(buf: &mut [u8], at: usize, src: &[u8]) -> usize
     ensures { λ r. ⌜ Puts (now (buf .entry)) at (now (src .entry)) r (now (buf .exit)) ⌝ }
 {
-    if buf.len() <= at {
-        return at;
+    if !has_room(buf.len(), at, src.len()) {
+        return put_each(buf, at, src);
     }
-    let n = least(src.len(), buf.len() - at);
     let mut i = 0;
-    while i < n {
+    while i < src.len() {
         buf[at + i] = src[i];
         i += 1;
     }
     at + i
+}
+
+// The same byte by byte, whether they fit or not.
+fn put_each(buf: &mut [u8], at: usize, src: &[u8]) -> usize
+    ensures { λ r. ⌜ Puts (now (buf .entry)) at (now (src .entry)) r (now (buf .exit)) ⌝ }
+{
+    let mut p = at;
+    let mut i = 0;
+    while i < src.len() {
+        p = put_byte(buf, p, src[i]);
+        i += 1;
+    }
+    p
 }
 
 // The k bytes of v, least first.
@@ -75,10 +88,4 @@ pub fn has_room(size: usize, at: usize, n: usize) -> bool
         return false;
     }
     n <= size - at
-}
-
-fn least(a: usize, b: usize) -> usize
-    ensures { λ r. ⌜ r ≡ min a b ⌝ }
-{
-    if a < b { a } else { b }
 }

@@ -1,33 +1,36 @@
--- `encode::put::put_slice` meets its contract. The loop's invariant is `Copying`; the measure is what is left. Assumes nothing.
+-- `encode::put::put_slice` meets its contract. The loop's invariant is `Copying`; the measure is what is left.
+-- Assumes nothing.
 use borrow.Author.Needs.{needs}
 use native.Mathlib.Omega.{arith}
-use Prim.Native.Nat.{_-_}
-use Rattle.encode.proofs.PutsLaws.{Copying, past-end, copy-starts, copy-goes-on, copy-ends}
+use Prim.Native.Nat.{_+_, _-_}
+use mathlib.Core.Path.{sym, _∙_}
+use lib.ListN.{length}
+use borrow.Author.Tests.{leb-true, not-false}
+use Rattle.encode.proofs.PutsLaws.{Copying, copy-starts, copy-goes-on, copy-ends}
 use Rattle.encode.proofs.put.put_slice.Statement.{statement}
 use Rattle.encode.proofs.put.put_slice.Tie as tie
 
 abbrev Inv-loop : tie.InvT-loop
-Inv-loop buf₀ at src n i₀ buf i = Copying buf₀ at n src buf i
+Inv-loop buf₀ at src i₀ buf i = Copying buf₀ at src buf i
 
 abbrev μ-loop : tie.MeasureT-loop
-μ-loop buf₀ at src n i₀ buf i = n - i
-
-returns : tie.Need-returns Inv-loop μ-loop
-returns c = let a = c .before .before .before .args in past-end (a .buf .now) (a .at) (a .src .now) (c .if1 .taken)
+μ-loop buf₀ at src i₀ buf i = length src - i
 
 loop-holds : tie.Need-loop-holds Inv-loop μ-loop
 loop-holds c =
-    let a = c .before .before .before .before .args in
-    copy-starts (a .buf .now) (a .at) (c .least .result) (a .src .now) (c .least .ensures)
+    let h = c .before in
+    let a = h .before .before .before .args in
+    copy-starts (a .buf .now) (a .at) (a .src .now)
+    (leb-true (a .at + length (a .src .now)) (length (a .buf .now)) (sym (h .has-room .ensures) ∙ not-false _ (c .if1 .left)))
 
 loop-again : tie.Need-loop-again Inv-loop μ-loop
 loop-again c = copy-goes-on (c .before .before .loop .inv) (c .before .loop-test .taken)
 
-same-length : tie.Need-same-length Inv-loop μ-loop
-same-length c = c .before .loop .inv .kept
+same-length-2 : tie.Need-same-length-2 Inv-loop μ-loop
+same-length-2 c = c .before .loop .inv .kept
 
 returns-2 : tie.Need-returns-2 Inv-loop μ-loop
-returns-2 c = copy-ends (c .before .before .before .if1 .left) (c .before .loop .inv) (c .loop-test .left)
+returns-2 c = copy-ends (c .before .loop .inv) (c .loop-test .left)
 
 pub put-slice-spec : {M : Type 1} → statement M
 put-slice-spec =
@@ -35,9 +38,10 @@ put-slice-spec =
     (tie.spec
     Inv-loop
     μ-loop
-    returns
-    (λ c. search needs)
     (λ c κs. search needs)
+    (λ c κs. search needs)
+    (λ c. search needs)
+    (λ c. search needs)
     loop-holds
     (λ c. search needs)
     (λ c. search needs)
@@ -46,5 +50,5 @@ put-slice-spec =
     (λ c. search needs)
     loop-again
     (λ c. search needs)
-    same-length
+    same-length-2
     returns-2)
