@@ -59,7 +59,7 @@ module _ (x : Arguments) (t : ℕ) where
 before-suc : (m : ℕ) → m ≡ suc m - 1
 before-suc m = omega arith
 
-from-none : (most : ℕ) (s : List ℕ) (p : ℕ) → nextArgument s p ≡ NextArgument.End → argumentsFrom most s p ≡ []
+pub from-none : (most : ℕ) (s : List ℕ) (p : ℕ) → nextArgument s p ≡ NextArgument.End → argumentsFrom most s p ≡ []
 unfolding argumentsFrom
 from-none zero s p e = refl
 from-none (suc m) s p e = ap (andMore (λ next. argumentsFrom m s next)) e

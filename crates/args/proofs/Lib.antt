@@ -6,3 +6,4 @@ pub mod ArgumentsLaws
 pub mod TypedLaws
 pub mod ArrayLaws
 pub mod NoneLaws
+pub mod EnoughLaws

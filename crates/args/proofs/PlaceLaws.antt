@@ -28,7 +28,7 @@ pub record Seeking (s : List ℕ) (at p : ℕ) : Type 0 where
 pub starts : (s : List ℕ) (at : ℕ) → Seeking s at at
 starts s at = record { most = length s; enough = omega arith; whole = refl }
 
-place-end : (most : ℕ) (s : List ℕ) (p : ℕ) → length s ≤ p → placeFrom most s p ≡ ArgPlace.End
+pub place-end : (most : ℕ) (s : List ℕ) (p : ℕ) → length s ≤ p → placeFrom most s p ≡ ArgPlace.End
 unfolding placeFrom
 place-end zero s p h = refl
 place-end (suc m) s p h = simp (le-ltb p (length s) h)

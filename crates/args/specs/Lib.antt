@@ -3,3 +3,4 @@ pub mod Value
 pub mod Pair
 pub mod Arguments
 pub mod Typed
+pub mod ArgumentsRules

@@ -53,7 +53,8 @@ pub record Listing (rows : List (List ℕ)) (s : List ℕ) (from p : ℕ) (x : S
 pub starts : (rows : List (List ℕ)) (s : List ℕ) (from : ℕ) → Listing rows s from from noSlots
 starts rows s from = record { most = length s; enough = omega arith; whole = refl }
 
-from-end : (most : ℕ) (rows : List (List ℕ)) (s : List ℕ) (p : ℕ) (x : Slots) → length s ≤ p → fieldsFrom most rows s p x ≡ x
+pub from-end : (most : ℕ) (rows : List (List ℕ)) (s : List ℕ) (p : ℕ) (x : Slots) → length s ≤ p →
+    fieldsFrom most rows s p x ≡ x
 unfolding fieldsFrom
 from-end zero rows s p x h = refl
 from-end (suc m) rows s p x h = simp (le-ltb p (length s) h)

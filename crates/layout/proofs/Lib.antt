@@ -2,3 +2,4 @@ pub mod RowLaws
 pub mod FieldsLaws
 pub mod ArrayLaws
 pub mod CountLaws
+pub mod EnoughLaws

@@ -3,3 +3,4 @@ pub mod Row
 pub mod Slots
 pub mod Fields
 pub mod Arrays
+pub mod FieldsRules

@@ -1,6 +1,6 @@
 -- Laws of the shortest form of a number: how it unfolds, how long it is, what its bytes are. Assumes nothing.
 use Prim.Native.Nat.{ℕ, zero, suc, pred, _+_, _-_, _*_, _/_, _%_, _^_, _≤_, _<_}
-use mathlib.Core.Path.{_≡_, refl, ap, _∙_}
+use mathlib.Core.Path.{_≡_, refl, sym, ap, _∙_}
 use mathlib.Core.Bool.{Bool, true, false}
 use mathlib.Core.List.{List, [], _∷_}
 use native.Mathlib.Omega.{arith}
@@ -11,6 +11,7 @@ use lib.Count.{leadingZeros, leading-top}
 use lib.Pow.{pow-add, pow-mono}
 use lib.Dec.{ltb}
 use Rattle.varint.specs.Shortest.{shortest, varintBytes}
+use Rattle.varint.specs.VarintRules.{TenEnough}
 
 -- below 128 the number is its own byte
 pub shortest-last : (n v : ℕ) → v < 128 → shortest (suc n) v ≡ v ∷ []
@@ -66,6 +67,22 @@ shortest-bytes (suc n) v zero =
     below-or-not v (λ a. rw (shortest-last n v a) (omega arith)) (λ a. rw (shortest-more n v a) (omega arith))
 shortest-bytes (suc n) v (suc k) =
     below-or-not v (λ a. rw (shortest-last n v a) (omega arith)) (λ a. rw (shortest-more n v a) (shortest-bytes n (v / 128) k))
+
+-- enough bytes for the number are no limit
+shortest-same : (m j k v : ℕ) → v < 128 ^ suc m → m < j → m < k → shortest j v ≡ shortest k v
+shortest-same m zero k v h a b = absurd (omega arith)
+shortest-same m (suc j) zero v h a b = absurd (omega arith)
+shortest-same zero (suc j) (suc k) v h a b = shortest-last j v h ∙ sym (shortest-last k v h)
+shortest-same (suc m) (suc j) (suc k) v h a b =
+    below-or-not v (λ c. shortest-last j v c ∙ sym (shortest-last k v c))
+    (λ c.
+    shortest-more j v c
+    ∙ ap (λ (l : List ℕ). (128 + v % 128) ∷ l)
+    (shortest-same m j k (v / 128) (omega arith) (omega arith) (omega arith))
+    ∙ sym (shortest-more k v c))
+
+pub ten-enough : TenEnough
+ten-enough n v h b = shortest-same 9 n 10 v (omega arith) h (omega arith)
 
 -- seven bits a group
 group-bits : (k : ℕ) → 2 ^ (7 * k) ≡ 128 ^ k

@@ -5,7 +5,7 @@ use mathlib.Core.List.{List, _++_}
 use lib.ListN.{length}
 use Rattle.varint.specs.declared.Varint.the-variants.{Number}
 use Rattle.varint.specs.Varint.{varintAt}
-use Rattle.varint.specs.Shortest.{varintBytes}
+use Rattle.varint.specs.Shortest.{shortest, varintBytes}
 
 -- what is written reads back, whatever stands before it and behind it
 abbrev pub ReadsBack : Type 0
@@ -16,3 +16,7 @@ ReadsBack =
 -- no varint that reads as v is shorter than the one written for v
 abbrev pub NoneShorter : Type 0
 NoneShorter = (s : List ℕ) (at v next : ℕ) → varintAt s at ≡ Number v next → at + length (varintBytes v) ≤ next
+
+-- ten bytes are no limit: more of them change no number below 2 ^ 64 (C2)
+abbrev pub TenEnough : Type 0
+TenEnough = (n v : ℕ) → 10 ≤ n → v < 2 ^ 64 → shortest n v ≡ varintBytes v

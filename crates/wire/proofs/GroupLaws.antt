@@ -54,7 +54,8 @@ unroll inner zero s p number h = absurd (omega arith)
 unroll inner (suc m) s p number h =
     ap (λ (k : ℕ). groupField inner (λ q. groupFields inner k s q number) s number (tagAt s p)) (before-suc m)
 
-fields-end : (inner : ℕ → ℕ → Skip) (most : ℕ) (s : List ℕ) (p number : ℕ) → length s ≤ p → groupFields inner most s p number ≡ Skip.Bad
+pub fields-end : (inner : ℕ → ℕ → Skip) (most : ℕ) (s : List ℕ) (p number : ℕ) → length s ≤ p →
+    groupFields inner most s p number ≡ Skip.Bad
 unfolding groupFields
 fields-end inner zero s p number h = refl
 fields-end inner (suc m) s p number h = rw (tag-end s p h)

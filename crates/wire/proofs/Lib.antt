@@ -4,3 +4,4 @@ pub mod PastLaws
 pub mod GroupLaws
 pub mod FieldLaws
 pub mod LongLaws
+pub mod EnoughLaws

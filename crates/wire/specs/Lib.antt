@@ -3,3 +3,4 @@ pub mod Value
 pub mod Group
 pub mod Field
 pub mod Past
+pub mod GroupRules

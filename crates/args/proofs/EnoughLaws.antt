@@ -1,0 +1,56 @@
+-- Fuel that is enough for the bytes left makes no difference to args fields and arguments. Assumes nothing.
+use Prim.Native.Nat.{ℕ, zero, suc, _+_, _≤_, _<_}
+use native.Mathlib.Omega.{arith}
+use mathlib.Core.Bool.{cond}
+use mathlib.Core.Path.{_≡_, refl, sym, ap, _∙_}
+use mathlib.Core.List.{List, _∷_}
+use lib.ListN.{length}
+use lib.Dec.{ltb, eqb}
+use Rattle.wire.specs.Field.{fieldAt}
+use Rattle.wire.specs.Past.{PastField}
+use Rattle.wire.specs.declared.field.Field.{Field}
+use Rattle.wire.proofs.PastLaws.{field-past}
+use Rattle.scalar.specs.declared.argument.Argument.{Argument}
+use Rattle.args.specs.Arguments.{ofField, placeFrom, nextArgument, andMore, argumentsFrom}
+use Rattle.args.specs.ArgumentsRules.{EnoughFields, EnoughArguments}
+use Rattle.args.specs.declared.arguments.ArgPlace.{ArgPlace}
+use Rattle.args.specs.declared.arguments.NextArgument.{NextArgument}
+use Rattle.args.proofs.PlaceLaws.{place-end, PastNext, next-past, next-end}
+use Rattle.args.proofs.ArgumentsLaws.{from-none}
+
+module _ (s : List ℕ) where
+  -- ways on that agree from here on
+  field-same : (at : ℕ) (z : Field) → PastField at (length s) z → (f g : ℕ → ArgPlace) →
+      ((q : ℕ) → at < q → f q ≡ g q) → ofField f z ≡ ofField g z
+  field-same at (Field.Good number wire v start len next) h f g e =
+      ap (λ (x : ArgPlace). cond (eqb number 2) (cond (eqb wire 2) (ArgPlace.At start len next) x) x) (e next (h .2))
+  field-same at Field.Bad h f g e = refl
+
+  places-same : (m n at : ℕ) → length s ≤ at + m → length s ≤ at + n → placeFrom m s at ≡ placeFrom n s at
+  unfolding placeFrom
+  places-same zero n at h i = sym (place-end n s at (omega arith))
+  places-same (suc m) zero at h i = place-end (suc m) s at (omega arith)
+  places-same (suc m) (suc n) at h i =
+      ap (λ (x : ArgPlace). cond (ltb at (length s)) x ArgPlace.End)
+      (field-same at (fieldAt s at) (field-past s at) (λ next. placeFrom m s next) (λ next. placeFrom n s next)
+      (λ q j. places-same m n q (omega arith) (omega arith)))
+
+  more-same : (at : ℕ) (z : NextArgument) → PastNext at (length s) z → (f g : ℕ → List Argument) →
+      ((q : ℕ) → at < q → f q ≡ g q) → andMore f z ≡ andMore g z
+  more-same at (NextArgument.Found a next) h f g e = ap (λ (l : List Argument). a ∷ l) (e next (h .0))
+  more-same at NextArgument.End h f g e = refl
+
+  arguments-same : (m n at : ℕ) → length s ≤ at + m → length s ≤ at + n → argumentsFrom m s at ≡ argumentsFrom n s at
+  unfolding argumentsFrom
+  arguments-same zero n at h i = sym (from-none n s at (next-end s at (omega arith)))
+  arguments-same (suc m) zero at h i = from-none (suc m) s at (next-end s at (omega arith))
+  arguments-same (suc m) (suc n) at h i =
+      more-same at (nextArgument s at) (next-past s at) (λ next. argumentsFrom m s next)
+      (λ next. argumentsFrom n s next)
+      (λ q j. arguments-same m n q (omega arith) (omega arith))
+
+pub enough-fields : EnoughFields
+enough-fields most s at h = places-same s most (length s) at h (omega arith)
+
+pub enough-arguments : EnoughArguments
+enough-arguments most s from h = arguments-same s most (length s) from h (omega arith)

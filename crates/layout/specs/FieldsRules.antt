@@ -1,0 +1,13 @@
+-- What holds of every field list beside its definition.
+use Prim.Native.Nat.{ℕ, _+_, _≤_}
+use mathlib.Core.Path.{_≡_}
+use mathlib.Core.List.{List}
+use lib.ListN.{length}
+use Rattle.layout.specs.Slots.{noSlots}
+use Rattle.layout.specs.Fields.{fieldsFrom, fieldList}
+
+-- the number of fields is no limit: any that is enough for the bytes left gives the same (W9)
+abbrev pub EnoughFields : Type 0
+EnoughFields =
+    (most : ℕ) (rows : List (List ℕ)) (s : List ℕ) (from : ℕ) →
+    length s ≤ from + most → fieldsFrom most rows s from noSlots ≡ fieldList rows s from
