@@ -3,3 +3,4 @@ pub mod FieldsLaws
 pub mod ArrayLaws
 pub mod CountLaws
 pub mod EnoughLaws
+pub mod TableLaws

@@ -3,4 +3,5 @@ pub mod Row
 pub mod Slots
 pub mod Fields
 pub mod Arrays
+pub mod TableRules
 pub mod FieldsRules

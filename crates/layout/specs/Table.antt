@@ -56,6 +56,19 @@ abbrev pub listing : List ℕ → ℕ
 listing [] = 0
 listing (v ∷ vs) = 2 ^ v + listing vs
 
+-- the types of a prepared statement, of an Open's statement, of an Any and of a Scalar
+abbrev pub stmtTypes : List ℕ
+stmtTypes = 0 ∷ 1 ∷ 2 ∷ 4 ∷ 5 ∷ []
+
+abbrev pub openTypes : List ℕ
+openTypes = 0 ∷ []
+
+abbrev pub anyTypes : List ℕ
+anyTypes = 1 ∷ 2 ∷ 3 ∷ []
+
+abbrev pub scalarTypes : List ℕ
+scalarTypes = 1 ∷ 2 ∷ 3 ∷ 4 ∷ 5 ∷ 6 ∷ 7 ∷ 8 ∷ []
+
 abbrev pub row : ℕ → ℕ → ℕ → ℕ → ℕ → List ℕ → List ℕ
 row message number wire required repeated values =
     message ∷ number ∷ wire ∷ required ∷ repeated ∷ listing values ∷ []
@@ -64,7 +77,7 @@ abbrev pub layout : List (List ℕ)
 layout =
     row prepare 1 num must once []  -- stmt_id uint32
     ∷ row prepare 2 len must once []  -- stmt
-    ∷ row prepareStmt 1 num must once (0 ∷ 1 ∷ 2 ∷ 4 ∷ 5 ∷ [])  -- type
+    ∷ row prepareStmt 1 num must once stmtTypes  -- type
     ∷ row prepareStmt 2 len may once []  -- find
     ∷ row prepareStmt 3 len may once []  -- insert
     ∷ row prepareStmt 4 len may once []  -- update
@@ -81,14 +94,14 @@ layout =
     ∷ row open' 1 num must once []  -- cursor_id uint32
     ∷ row open' 4 len must once []  -- stmt
     ∷ row open' 5 num may once []  -- fetch_rows uint64
-    ∷ row openStmt 1 num must once (0 ∷ [])  -- type
+    ∷ row openStmt 1 num must once openTypes  -- type
     ∷ row openStmt 2 len may once []  -- Execute
     ∷ row fetch 1 num must once []  -- cursor_id uint32
     ∷ row fetch 2 num may once []  -- fetch_rows uint64
     ∷ row close 1 num must once []  -- cursor_id uint32
-    ∷ row any 1 num must once (1 ∷ 2 ∷ 3 ∷ [])  -- type
+    ∷ row any 1 num must once anyTypes  -- type
     ∷ row any 2 len may once []  -- scalar
-    ∷ row scalar 1 num must once (1 ∷ 2 ∷ 3 ∷ 4 ∷ 5 ∷ 6 ∷ 7 ∷ 8 ∷ [])  -- type
+    ∷ row scalar 1 num must once scalarTypes  -- type
     ∷ row scalar 2 num may once []  -- sint64
     ∷ row scalar 3 num may once []  -- uint64
     ∷ row scalar 5 len may once []  -- octets
