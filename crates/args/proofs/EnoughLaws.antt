@@ -5,13 +5,13 @@ use mathlib.Core.Bool.{cond}
 use mathlib.Core.Path.{_≡_, refl, sym, ap, _∙_}
 use mathlib.Core.List.{List, _∷_}
 use lib.ListN.{length}
-use lib.Dec.{ltb, eqb}
+use lib.Dec.{ltb}
 use Rattle.wire.specs.Field.{fieldAt}
 use Rattle.wire.specs.Past.{PastField}
 use Rattle.wire.specs.declared.field.Field.{Field}
 use Rattle.wire.proofs.PastLaws.{field-past}
 use Rattle.scalar.specs.declared.argument.Argument.{Argument}
-use Rattle.args.specs.Arguments.{ofField, placeFrom, nextArgument, andMore, argumentsFrom}
+use Rattle.args.specs.Arguments.{isArgs, ofField, placeFrom, nextArgument, andMore, argumentsFrom}
 use Rattle.args.specs.ArgumentsRules.{EnoughFields, EnoughArguments}
 use Rattle.args.specs.declared.arguments.ArgPlace.{ArgPlace}
 use Rattle.args.specs.declared.arguments.NextArgument.{NextArgument}
@@ -23,7 +23,7 @@ module _ (s : List ℕ) where
   field-same : (at : ℕ) (z : Field) → PastField at (length s) z → (f g : ℕ → ArgPlace) →
       ((q : ℕ) → at < q → f q ≡ g q) → ofField f z ≡ ofField g z
   field-same at (Field.Good number wire v start len next) h f g e =
-      ap (λ (x : ArgPlace). cond (eqb number 2) (cond (eqb wire 2) (ArgPlace.At start len next) x) x) (e next (h .2))
+      ap (λ (x : ArgPlace). cond (isArgs number wire v) (ArgPlace.At start len next) x) (e next (h .2))
   field-same at Field.Bad h f g e = refl
 
   places-same : (m n at : ℕ) → length s ≤ at + m → length s ≤ at + n → placeFrom m s at ≡ placeFrom n s at

@@ -7,3 +7,4 @@ pub mod TypedLaws
 pub mod ArrayLaws
 pub mod NoneLaws
 pub mod EnoughLaws
+pub mod ArgsFieldLaws

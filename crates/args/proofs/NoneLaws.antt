@@ -5,8 +5,7 @@ use mathlib.Core.Bool.{Bool, true, false, cond}
 use mathlib.Core.Path.{_≡_, refl, sym, ap, _∙_}
 use mathlib.Core.List.{List}
 use lib.ListN.{length, getD}
-use lib.Dec.{ltb, eqb}
-use borrow.Author.Tests.{eqb-true}
+use lib.Dec.{ltb}
 use Rattle.varint.proofs.PastLaws.{both}
 use Rattle.wire.specs.Field.{fieldAt}
 use Rattle.wire.specs.declared.field.Field.{Field}
@@ -15,8 +14,9 @@ use Rattle.layout.specs.Fields.{useOf, noted, onField, fieldsFrom, fieldList}
 use Rattle.layout.specs.declared.slots.Slots.{Slots}
 use Rattle.layout.specs.declared.fields.Use.{Use}
 use Rattle.layout.proofs.CountLaws.{noted-length, noted-counted, from-grows}
-use Rattle.args.specs.Arguments.{ofField, placeFrom, noArguments, argumentsIn}
+use Rattle.args.specs.Arguments.{isArgs, ofField, placeFrom, noArguments, argumentsIn}
 use Rattle.args.specs.declared.arguments.ArgPlace.{ArgPlace}
+use Rattle.args.proofs.ArgsFieldLaws.{args-number}
 use Rattle.args.proofs.PlaceLaws.{next-placed}
 use Rattle.args.proofs.ArgumentsLaws.{starts, none-left}
 
@@ -33,8 +33,8 @@ module _ (rows : List (List ℕ)) (counts : (v : ℕ) → Use.Counted ≡ useOf 
       record {
         none =
             λ good absent.
-            both End (eqb number 2) _ _
-            (λ e. both End (eqb wire 2) _ _ (λ f. absurd (seen (eqb-true number 2 e) (eqb-true wire 2 f) good absent)) (λ _. on .none good absent))
+            both End (isArgs number wire v) _ _
+            (λ e. let a = args-number number wire v e in absurd (seen (a .0) (a .1) good absent))
             (λ _. on .none good absent);
       }
     where

@@ -5,8 +5,8 @@ use mathlib.Core.Bool.{Bool, true, false, cond}
 use mathlib.Core.Path.{_≡_, refl, sym, ap, _∙_}
 use mathlib.Core.List.{List}
 use lib.ListN.{length, getD}
-use lib.Dec.{ltb, eqb}
-use borrow.Author.Tests.{lt-ltb, le-ltb, eq-eqb, ne-eqb, ltb-true}
+use lib.Dec.{ltb}
+use borrow.Author.Tests.{lt-ltb, le-ltb, ltb-true}
 use Rattle.varint.proofs.PastLaws.{both}
 use Rattle.wire.specs.Value.{asLength}
 use Rattle.wire.specs.Field.{ofValue, fieldAt}
@@ -15,9 +15,10 @@ use Rattle.wire.specs.declared.value.Value.{Value}
 use Rattle.wire.specs.declared.field.Field.{Field}
 use Rattle.wire.proofs.FieldLaws.{quick-wire}
 use Rattle.wire.proofs.PastLaws.{field-past}
-use Rattle.args.specs.Arguments.{ofField, placeOf, placeFrom, argPlace, ofPlace, nextArgument}
+use Rattle.args.specs.Arguments.{isArgs, ofField, placeOf, placeFrom, argPlace, ofPlace, nextArgument}
 use Rattle.args.specs.declared.arguments.ArgPlace.{ArgPlace}
 use Rattle.args.specs.declared.arguments.NextArgument.{NextArgument}
+use Rattle.args.proofs.ArgsFieldLaws.{is-args, no-wire, no-number}
 
 -- where the loop stands: what is left at p answers for the whole
 pub record Seeking (s : List ℕ) (at p : ℕ) : Type 0 where
@@ -64,17 +65,23 @@ module _ {s : List ℕ} {at p : ℕ} (k : Seeking s at p) (inside : p < length s
         go : PastField p (length s) (fieldAt s p) → p < next
         go = rw e (λ h. h .2)
 
+    by-args : (b : Bool) → b ≡ isArgs number wire v →
+        cond b (ArgPlace.At start len next) (placeFrom (k .most - 1) s next) ≡ argPlace s at
+    by-args b h =
+        ap (λ (c : Bool). cond c (ArgPlace.At start len next) (placeFrom (k .most - 1) s next)) h
+        ∙ turn (Field.Good number wire v start len next) e
+
     pub found : number ≡ 2 → wire ≡ 2 → ArgPlace.At start len next ≡ argPlace s at
-    found h g = sym (simp (eq-eqb number 2 h, eq-eqb wire 2 g)) ∙ turn (Field.Good number wire v start len next) e
+    found h g = by-args true (is-args number wire v h g)
 
     on : placeFrom (k .most - 1) s next ≡ argPlace s at → Seeking s at next
     on w = record { most = k .most - 1; enough = omega (arith, k .enough, advances); whole = w }
 
     pub other-wire : number ≡ 2 → (wire ≡ 2 → ⊥) → Seeking s at next
-    other-wire h g = on (sym (simp (eq-eqb number 2 h, ne-eqb wire 2 g)) ∙ turn (Field.Good number wire v start len next) e)
+    other-wire h g = on (by-args false (no-wire number wire v h g))
 
     pub other-number : (number ≡ 2 → ⊥) → Seeking s at next
-    other-number h = on (sym (simp (ne-eqb number 2 h)) ∙ turn (Field.Good number wire v start len next) e)
+    other-number h = on (by-args false (no-number number wire v h))
 
 -- at the end there is none; an args field at the very place is the next
 pub place-none : (s : List ℕ) (at : ℕ) → length s ≤ at → ArgPlace.End ≡ argPlace s at
@@ -108,10 +115,7 @@ further at p end h ArgPlace.Bad g = omega arith
 ofField-past : (at end : ℕ) → at < end → (f : Field) → PastField at end f → (more : ℕ → ArgPlace) →
     ((q : ℕ) → PastPlace q end (more q)) → PastPlace at end (ofField more f)
 ofField-past at end i (Field.Good number wire v start len next) h more m =
-    both (PastPlace at end) (eqb number 2) _ _
-    (λ _.
-    both (PastPlace at end) (eqb wire 2) _ _ (λ _. (h .2, h .3))
-    (λ _. further at next end (omega arith) (more next) (m next)))
+    both (PastPlace at end) (isArgs number wire v) _ _ (λ _. (h .2, h .3))
     (λ _. further at next end (omega arith) (more next) (m next))
 ofField-past at end i Field.Bad h more m = i
 

@@ -1,4 +1,4 @@
--- The arguments of a message, in order. Execute and StmtExecute carry them in field 2, each an Any.
+-- The arguments of a message, in order. Execute and StmtExecute carry them in their one repeated field, each an Any.
 use Prim.Native.Nat.{ℕ, zero, suc, _+_}
 use mathlib.Core.Bool.{Bool, true, false, cond}
 use mathlib.Core.List.{List, [], _∷_}
@@ -7,6 +7,9 @@ use lib.Dec.{ltb, eqb}
 use Rattle.wire.specs.Field.{fieldAt}
 use Rattle.wire.specs.declared.field.Field.{Field}
 use Rattle.wire.specs.declared.value.Value.{Value}
+use Rattle.protocol.specs.Client as Client
+use Rattle.layout.specs.Table.{rowsOf}
+use Rattle.layout.specs.Fields.{useOf, isCounted}
 use Rattle.scalar.specs.Argument.{reasonOf}
 use Rattle.scalar.specs.declared.argument.Argument.{Argument}
 use Rattle.scalar.specs.declared.argument.Argument.the-variants as Va
@@ -15,10 +18,15 @@ use Rattle.args.specs.declared.arguments.ArgPlace.{ArgPlace}
 use Rattle.args.specs.declared.arguments.NextArgument.{NextArgument}
 use Rattle.args.specs.declared.arguments.Arguments.{Arguments}
 
--- one field: an args field (number 2, wire type 2) is what is looked for, and `more` goes on behind any other
+-- an args field is the one that the table calls repeated, here by the rows of an Execute; those of a StmtExecute say
+-- the same (`ArgumentsRules.ArgsField`)
+abbrev pub isArgs : ℕ → ℕ → ℕ → Bool
+isArgs number wire value = isCounted (useOf (rowsOf Client.execute) number wire value)
+
+-- one field: an args field is what is looked for, and `more` goes on behind any other
 abbrev pub ofField : (ℕ → ArgPlace) → Field → ArgPlace
 ofField more (Field.Good number wire v start len next) =
-    cond (eqb number 2) (cond (eqb wire 2) (ArgPlace.At start len next) (more next)) (more next)
+    cond (isArgs number wire v) (ArgPlace.At start len next) (more next)
 ofField more Field.Bad = ArgPlace.Bad
 
 -- the first args field among at most `most` fields from the place `at` on

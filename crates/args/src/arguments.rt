@@ -96,7 +96,11 @@ impl Arguments {
     }
 }
 
-// The tag of an args field in one byte: number 2, wire type 2.
+// An args field: its number, its wire type (bytes), and both as its tag in one byte.
+const ARGS_NUMBER: u64 = 2;
+
+const ARGS_WIRE: u64 = 2;
+
 const ARGS_TAG: u8 = 18;
 
 fn seek_place(s: &[u8], at: usize) -> ArgPlace
@@ -115,8 +119,8 @@ fn seek_place(s: &[u8], at: usize) -> ArgPlace
         else {
             return ArgPlace::Bad;
         };
-        if number == 2 {
-            if wire == 2 {
+        if number == ARGS_NUMBER {
+            if wire == ARGS_WIRE {
                 return ArgPlace::At { start, len, next };
             }
         }

@@ -8,10 +8,13 @@ use lib.Dec.{ltb, eqb}
 use borrow.Author.Tests.{ne-eqb, eqb-true, eqb-false, ltb-true, ltb-false}
 use Rattle.layout.specs.Row.{rowFor}
 use Rattle.layout.specs.Table.{listing, rowsOf, stmtTypes, openTypes, anyTypes, scalarTypes}
-use Rattle.layout.specs.TableRules.{RowsApart, among, TypesListed}
+use Rattle.layout.specs.TableRules.{RowsApart, RepeatedAreArgs, among, TypesListed}
 
 pub rows-apart : RowsApart
 rows-apart = refl
+
+pub repeated-are-args : RepeatedAreArgs
+repeated-are-args = record { noOther = refl; ofExecute = refl; ofStmtExecute = refl }
 
 -- ---- listed values, a bit for each
 

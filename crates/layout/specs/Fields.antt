@@ -19,6 +19,12 @@ useOf rows number wire value =
     (cond (isRepeated (rowFor rows number)) Use.Counted Use.Kept)
     Use.Unknown
 
+-- the field is a repeated one of the message
+abbrev pub isCounted : Use → Bool
+isCounted Use.Unknown = false
+isCounted Use.Counted = true
+isCounted Use.Kept = false
+
 -- one occurrence more of the number k, with its value, place and length where it is kept
 abbrev pub noted : Use → Slots → ℕ → ℕ → ℕ → ℕ → Slots
 noted Use.Unknown x k v start len = x

@@ -1,11 +1,12 @@
 -- What holds of the layout table, row by row (L1, W14).
 use Prim.Native.Nat.{ℕ, _+_, _%_, _^_}
-use mathlib.Core.Bool.{Bool, true, false, cond, _&&_, _||_}
+use mathlib.Core.Bool.{Bool, true, false, not, cond, _&&_, _||_}
 use mathlib.Core.Path.{_≡_}
 use mathlib.Core.List.{List, [], _∷_}
 use lib.Dec.{ltb, eqb}
-use Rattle.layout.specs.Row.{messageOf, numberOf, slotCount, rowFor, takes}
-use Rattle.layout.specs.Table.{layout, rowsOf, num, prepareStmt, openStmt, any, scalar}
+use Rattle.protocol.specs.Client.{execute}
+use Rattle.layout.specs.Row.{messageOf, numberOf, isRepeated, slotCount, rowFor, takes}
+use Rattle.layout.specs.Table.{layout, rowsOf, num, prepareStmt, stmtExecute, openStmt, any, scalar}
 use Rattle.layout.specs.Table.{stmtTypes, openTypes, anyTypes, scalarTypes}
 
 -- how many rows pass a test, and whether all do
@@ -28,6 +29,18 @@ sameField row other = eqb (messageOf row) (messageOf other) && eqb (numberOf row
 -- every row has a slot, and no other row has its message and number
 abbrev pub RowsApart : Type 0
 RowsApart = all (λ row. hasSlot row && eqb (howMany (sameField row) layout) 1) layout ≡ true
+
+-- an Execute and a StmtExecute have one repeated field each, their args, and no other message has any
+abbrev pub hasArgs : List ℕ → Bool
+hasArgs row = eqb (messageOf row) execute || eqb (messageOf row) stmtExecute
+
+abbrev pub repeats : ℕ → List ℕ → Bool
+repeats message row = eqb (messageOf row) message && isRepeated row
+
+pub record RepeatedAreArgs : Type 0 where
+  pub noOther : all (λ row. not (isRepeated row) || hasArgs row) layout ≡ true
+  pub ofExecute : howMany (repeats execute) layout ≡ 1
+  pub ofStmtExecute : howMany (repeats stmtExecute) layout ≡ 1
 
 -- whether a number is one of the values
 abbrev pub among : ℕ → List ℕ → Bool
