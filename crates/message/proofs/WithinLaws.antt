@@ -4,7 +4,7 @@ use native.Mathlib.Omega.{arith}
 use mathlib.Core.Bool.{Bool, true, false, not, _&&_}
 use mathlib.Core.Path.{_≡_, refl, sym, ap, _∙_}
 use mathlib.Core.List.{List, [], _∷_}
-use lib.ListN.{length, take, length-take}
+use lib.ListN.{length, take, drop, length-take, length-drop}
 use lib.Dec.{leb, ltb, eqb}
 use borrow.Author.Tests.{ltb-false}
 use Rattle.protocol.specs.Client as Client
@@ -21,20 +21,20 @@ use Rattle.args.specs.declared.part.Part.{Part}
 use Rattle.args.specs.declared.arguments.Arguments.{Arguments}
 use Rattle.message.specs.Head.{lengthBytes, headOf, lengthOf, maxLength}
 use Rattle.message.specs.Operation as Operation
-use Rattle.message.specs.Request.{bodyOf, argsOf}
+use Rattle.message.specs.Request as Request
 use Rattle.message.specs.Payload.{payload, ifGood}
 use Rattle.message.specs.Simple.{resetFrame, sessionCloseFrame, deallocateFrame, closeFrame, fetchFrame}
 use Rattle.message.specs.Execute.{argumentsWithin, badExecute, executeOf, executeIn, executeFrame, openFrame}
 use Rattle.message.specs.Prepare.{bodyIn, prepareFrame}
-use Rattle.message.specs.Frame.{frameIn, ofHead, frameOf, partOf}
+use Rattle.message.specs.Frame.{frameIn, ofHead, frameOf, partOf, chosenPart, bodyOf}
 use Rattle.message.specs.declared.head.Head.{Head}
 use Rattle.message.specs.declared.request.Request.{Request}
 use Rattle.message.specs.declared.request.Frame.{Frame}
 
 -- a request's body and arguments end within n bytes
 pub record Inside (n : ℕ) (q : Request) : Type 0 where
-  pub body : bodyOf q .start + bodyOf q .len ≤ n
-  pub args : argsOf q .end ≤ n
+  pub body : Request.bodyOf q .start + Request.bodyOf q .len ≤ n
+  pub args : Request.argsOf q .end ≤ n
 
 -- so do those of a frame that holds one
 abbrev pub Within : ℕ → Frame → Type 0
@@ -138,8 +138,8 @@ module _ (s : List ℕ) (P : Frame → Type 0) (bad : (kind : ℕ) → P (Frame.
   if-good kind false q h = bad kind
 
   -- a request with no body and no arguments
-  bare : (kind : ℕ) (b : Bool) (q : Request) → bodyOf q .start + bodyOf q .len ≡ 0 → argsOf q .end ≡ 0 →
-      P (ifGood s kind b q)
+  bare : (kind : ℕ) (b : Bool) (q : Request) → Request.bodyOf q .start + Request.bodyOf q .len ≡ 0 →
+      Request.argsOf q .end ≡ 0 → P (ifGood s kind b q)
   bare kind b q e f = if-good kind b q (λ _. record { body = omega arith; args = omega arith })
 
   reset-has : P (resetFrame s)
@@ -235,6 +235,12 @@ read-within s x e = rw e (head-within s (headOf s))
 
 pub chosen-within : (s : List ℕ) (p : Part) → p ≡ partOf (frameOf s) → p .start + p .len ≤ length s
 chosen-within s p e = rw e (part-within (length s) (frameOf s) (read-within s (frameOf s) refl))
+
+-- so the chosen body is as long as its part says
+pub body-length : (s : List ℕ) → length (bodyOf s) ≡ chosenPart s .len
+body-length s =
+    let p = chosenPart s in
+    omega (arith, chosen-within s p refl, length-take (p .len) (drop (p .start) s), length-drop (p .start) s)
 
 -- a whole frame lies within the bytes
 abbrev Ends : ℕ → Head → Type 0

@@ -76,11 +76,15 @@ partOf (UnknownType used) = Request.noPart
 partOf (BadPayload used kind) = Request.noPart
 partOf (Good used q) = Request.bodyOf q
 
+-- where it stands in the bytes s: its start and its length (A1, A2)
+abbrev pub chosenPart : List ℕ → Part
+chosenPart s = partOf (frameOf s)
+
 abbrev pub bodyIn : List ℕ → Part → List ℕ
 bodyIn s body = take (body .len) (drop (body .start) s)
 
 abbrev pub bodyOf : List ℕ → List ℕ
-bodyOf s = bodyIn s (partOf (frameOf s))
+bodyOf s = bodyIn s (chosenPart s)
 
 -- one argument by its index from 0: refused as the frame is by itself, 9 past the last, 8 for an object or array (A4,
 -- A5, A6)

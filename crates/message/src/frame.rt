@@ -1,6 +1,8 @@
 // A frame by itself: the request it holds, its chosen body, its arguments.
 ghost use mathlib.Core.Path.{_≡_};
-ghost use Rattle.message.specs.Frame.{argumentOf, bodyOf, frameIn, frameOf, partOf, refusedHead};
+ghost use Prim.Native.Nat.{_+_};
+ghost use lib.ListN.{length};
+ghost use Rattle.message.specs.Frame.{argumentOf, bodyOf, chosenPart, frameIn, frameOf, refusedHead};
 use crate::head::Head;
 use crate::request::Frame;
 use args::part::Part;
@@ -55,7 +57,7 @@ pub fn read_frame(s: &[u8]) -> Frame
 // Where the chosen body stands: a Prepare's body, an Open's Execute. Empty, and at the frame's start, where the
 // frame is refused or has no chosen body.
 pub fn chosen_part(s: &[u8]) -> Part
-    ensures { λ r. ⌜ r ≡ partOf (frameOf (now (s .entry))) ⌝ }
+    ensures { λ r. ⌜ r ≡ chosenPart (now (s .entry)) ⌝ }
 {
     match read_frame(s) {
         Frame::NotAllThere => Part { start: 0, len: 0 },
@@ -66,9 +68,14 @@ pub fn chosen_part(s: &[u8]) -> Part
     }
 }
 
-// The chosen body as that part of the frame.
+// The chosen body as that part of the caller's own bytes: it starts at the chosen part's place, also where it is
+// empty, and has its length.
 pub fn chosen_body(s: &[u8]) -> &[u8]
-    ensures { λ r. ⌜ now r ≡ bodyOf (now (s .entry)) ⌝ }
+    ensures bytes { λ r. ⌜ now r ≡ bodyOf (now (s .entry)) ⌝ }
+    ensures place { λ r. ⌜
+        r .ptr ≡ (s .entry .ptr .0, chosenPart (now (s .entry)) .start + s .entry .ptr .1)
+        ⌝ }
+    ensures size { λ r. ⌜ length (now r) ≡ chosenPart (now (s .entry)) .len ⌝ }
 {
     let body = chosen_part(s);
     let start = body.start;

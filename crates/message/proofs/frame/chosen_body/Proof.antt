@@ -1,11 +1,12 @@
 -- The chosen part lies within the frame.
-use Prim.Native.Nat.{ℕ}
+use Prim.Native.Nat.{ℕ, _+_}
 use native.Mathlib.Nat.{add-sub-cancel-left}
 use native.Mathlib.Omega.{arith}
 use mathlib.Core.Path.{ap, _∙_}
-use lib.ListN.{take, drop}
+use lib.ListN.{length, take, drop}
+use Rattle.args.specs.declared.part.Part.{Part}
 use Rattle.message.specs.Frame.{bodyIn}
-use Rattle.message.proofs.WithinLaws.{chosen-within}
+use Rattle.message.proofs.WithinLaws.{chosen-within, body-length}
 use borrow.Author.Needs.{needs}
 use Rattle.message.proofs.frame.chosen_body.Statement.{statement}
 use Rattle.message.proofs.frame.chosen_body.Tie as tie
@@ -24,8 +25,11 @@ returns : tie.Need-returns
 returns c =
     let s = c .before .before .before .before .args .s .now in
     let p = c .before .before .chosen-part in
+    let bytes =
     ap (λ (k : ℕ). take k (drop (p .result .start) s)) (add-sub-cancel-left (p .result .start) (p .result .len))
-    ∙ ap (bodyIn s) (p .ensures)
+    ∙ ap (bodyIn s) (p .ensures) in
+    let q = c .before .before .before .before .args .s .ptr in
+    (bytes, (ap (λ (x : Part). (q .0, x .start + q .1)) (p .ensures), ap length bytes ∙ body-length s))
 
 pub chosen-body-spec : {M : Type 1} → statement M
 chosen-body-spec =
