@@ -7,12 +7,16 @@ use mathlib.Core.List.{List, [], _∷_}
 use lib.ListN.{length, getD}
 use lib.Dec.{ltb, eqb}
 use borrow.Author.Tests.{lt-ltb, le-ltb, eq-eqb, ne-eqb, eqb-true, eqb-false}
+use Rattle.varint.proofs.PastLaws.{both}
+use Rattle.scalar.specs.Argument.{reasonOf}
 use Rattle.scalar.specs.declared.argument.Argument.{Argument}
 use Rattle.scalar.specs.declared.argument.Argument.the-variants as Va
 use Rattle.args.specs.Arguments.{nextArgument, andMore, argumentsFrom, argumentsAt, anyTypeOf, noArguments, badArguments, counted, withType, together, argumentsIn, asked}
 use Rattle.args.specs.declared.arguments.NextArgument.{NextArgument}
 use Rattle.args.specs.declared.arguments.Arguments.{Arguments}
-use Rattle.args.proofs.PlaceLaws.{PastNext, next-past, next-end}
+use Rattle.args.specs.WithinRules.{EndsBy, GoesOn, FewArguments, NthWithin}
+use Rattle.args.proofs.PlaceLaws.{next-goes-on, next-end}
+use Rattle.args.proofs.WithinLaws.{ends-later}
 
 -- one argument more, by its Any type
 module _ (x : Arguments) (t : ℕ) where
@@ -72,10 +76,51 @@ from-found (suc m) s p {a} {next} g e =
     ap (andMore (λ q. argumentsFrom m s q)) e ∙ ap (λ (k : ℕ). a ∷ argumentsFrom k s next) (before-suc m)
 
 pub advances : (s : List ℕ) (p : ℕ) {a : Argument} {next : ℕ} → nextArgument s p ≡ NextArgument.Found a next → (p < next) × (next ≤ length s)
-advances s p {a} {next} e = go (next-past s p)
+advances s p {a} {next} e = go (next-goes-on s p)
   where
-    go : PastNext p (length s) (nextArgument s p) → (p < next) × (next ≤ length s)
-    go = rw e (λ h. h)
+    go : GoesOn p (length s) (nextArgument s p) → (p < next) × (next ≤ length s)
+    go = rw e (λ h. (h .0, h .1))
+
+-- the list of them, one argument at a time
+module _ (s : List ℕ) where
+  more-few : (p : ℕ) (x : NextArgument) → GoesOn p (length s) x → (more : ℕ → List Argument) →
+      ((q : ℕ) → length (more q) ≤ length s - q) → length (andMore more x) ≤ length s - p
+  more-few p (NextArgument.Found a next) h more m = omega (arith, m next)
+  more-few p NextArgument.End h more m = omega arith
+
+  from-few : (most p : ℕ) → length (argumentsFrom most s p) ≤ length s - p
+  unfolding argumentsFrom
+  from-few zero p = omega arith
+  from-few (suc most) p =
+      more-few p (nextArgument s p) (next-goes-on s p) (λ next. argumentsFrom most s next) (from-few most)
+
+  -- each of a list ends within the bytes
+  Each : List Argument → Type 0
+  Each l = (k : ℕ) → EndsBy (length s) (getD l k (Va.Refused 9))
+
+  more-each : (p : ℕ) (x : NextArgument) → GoesOn p (length s) x → (more : ℕ → List Argument) →
+      ((q : ℕ) → Each (more q)) → Each (andMore more x)
+  unfolding Each
+  more-each p (NextArgument.Found a next) h more m zero = ends-later next (length s) (h .1) a (h .2)
+  more-each p (NextArgument.Found a next) h more m (suc k) = m next k
+  more-each p NextArgument.End h more m k = tt
+
+  from-each : (most p : ℕ) → Each (argumentsFrom most s p)
+  unfolding argumentsFrom Each
+  from-each zero p = λ k. tt
+  from-each (suc most) p =
+      more-each p (nextArgument s p) (next-goes-on s p) (λ next. argumentsFrom most s next) (from-each most)
+
+  asked-ends : (n : ℕ) (a : Argument) → EndsBy n a → EndsBy n (asked a)
+  asked-ends n a h = both (EndsBy n) (eqb (reasonOf a) 0) a (Va.Refused (reasonOf a)) (λ _. h) (λ _. tt)
+
+pub few-arguments : FewArguments
+few-arguments s from = from-few s (length s) from
+
+pub nth-within : NthWithin
+unfolding Each
+nth-within s from index =
+    asked-ends s (length s) (getD (argumentsAt s from) index (Va.Refused 9)) (from-each s (length s) from index)
 
 together-none : (x : Arguments) → together x [] ≡ x
 unfolding together

@@ -13,9 +13,10 @@ use Rattle.wire.proofs.PastLaws.{field-past}
 use Rattle.scalar.specs.declared.argument.Argument.{Argument}
 use Rattle.args.specs.Arguments.{isArgs, ofField, placeFrom, nextArgument, andMore, argumentsFrom}
 use Rattle.args.specs.ArgumentsRules.{EnoughFields, EnoughArguments}
+use Rattle.args.specs.WithinRules.{GoesOn}
 use Rattle.args.specs.declared.arguments.ArgPlace.{ArgPlace}
 use Rattle.args.specs.declared.arguments.NextArgument.{NextArgument}
-use Rattle.args.proofs.PlaceLaws.{place-end, PastNext, next-past, next-end}
+use Rattle.args.proofs.PlaceLaws.{place-end, next-goes-on, next-end}
 use Rattle.args.proofs.ArgumentsLaws.{from-none}
 
 module _ (s : List ℕ) where
@@ -35,7 +36,7 @@ module _ (s : List ℕ) where
       (field-same at (fieldAt s at) (field-past s at) (λ next. placeFrom m s next) (λ next. placeFrom n s next)
       (λ q j. places-same m n q (omega arith) (omega arith)))
 
-  more-same : (at : ℕ) (z : NextArgument) → PastNext at (length s) z → (f g : ℕ → List Argument) →
+  more-same : (at : ℕ) (z : NextArgument) → GoesOn at (length s) z → (f g : ℕ → List Argument) →
       ((q : ℕ) → at < q → f q ≡ g q) → andMore f z ≡ andMore g z
   more-same at (NextArgument.Found a next) h f g e = ap (λ (l : List Argument). a ∷ l) (e next (h .0))
   more-same at NextArgument.End h f g e = refl
@@ -45,7 +46,7 @@ module _ (s : List ℕ) where
   arguments-same zero n at h i = sym (from-none n s at (next-end s at (omega arith)))
   arguments-same (suc m) zero at h i = from-none (suc m) s at (next-end s at (omega arith))
   arguments-same (suc m) (suc n) at h i =
-      more-same at (nextArgument s at) (next-past s at) (λ next. argumentsFrom m s next)
+      more-same at (nextArgument s at) (next-goes-on s at) (λ next. argumentsFrom m s next)
       (λ next. argumentsFrom n s next)
       (λ q j. arguments-same m n q (omega arith) (omega arith))
 

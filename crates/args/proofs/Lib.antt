@@ -8,3 +8,4 @@ pub mod ArrayLaws
 pub mod NoneLaws
 pub mod EnoughLaws
 pub mod ArgsFieldLaws
+pub mod WithinLaws

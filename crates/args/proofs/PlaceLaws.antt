@@ -16,9 +16,12 @@ use Rattle.wire.specs.declared.field.Field.{Field}
 use Rattle.wire.proofs.FieldLaws.{quick-wire}
 use Rattle.wire.proofs.PastLaws.{field-past}
 use Rattle.args.specs.Arguments.{isArgs, ofField, placeOf, placeFrom, argPlace, ofPlace, nextArgument}
+use Rattle.args.specs.Value.{argumentIn}
+use Rattle.args.specs.WithinRules.{GoesOn, NextGoesOn}
 use Rattle.args.specs.declared.arguments.ArgPlace.{ArgPlace}
 use Rattle.args.specs.declared.arguments.NextArgument.{NextArgument}
 use Rattle.args.proofs.ArgsFieldLaws.{is-args, no-wire, no-number}
+use Rattle.args.proofs.WithinLaws.{ends-later, argument-ends}
 
 -- where the loop stands: what is left at p answers for the whole
 pub record Seeking (s : List ℕ) (at p : ℕ) : Type 0 where
@@ -97,25 +100,21 @@ place-here s at h e = go (asLength s (at + 1)) refl
     go (Value.Good n start len next) f = found (starts s at) h (here (Value.Good n start len next) f) refl refl
     go Value.Bad f = no-field (starts s at) h (here Value.Bad f)
 
--- the next argument ends past the place asked, and within the bytes
+-- the next args field ends past the place asked, and within the bytes
 abbrev PastPlace : ℕ → ℕ → ArgPlace → Type 0
-PastPlace at end (ArgPlace.At start len next) = (at < next) × (next ≤ end)
+PastPlace at end (ArgPlace.At start len next) = (at < next) × (next ≤ end) × (start + len ≤ next)
 PastPlace at end ArgPlace.End = Unit {0}
 PastPlace at end ArgPlace.Bad = at < end
 
-abbrev pub PastNext : ℕ → ℕ → NextArgument → Type 0
-PastNext at end (NextArgument.Found a next) = (at < next) × (next ≤ end)
-PastNext at end NextArgument.End = Unit {0}
-
 further : (at p end : ℕ) → at ≤ p → (x : ArgPlace) → PastPlace p end x → PastPlace at end x
-further at p end h (ArgPlace.At start len next) g = (omega arith, g .1)
+further at p end h (ArgPlace.At start len next) g = (omega arith, g .1, g .2)
 further at p end h ArgPlace.End g = tt
 further at p end h ArgPlace.Bad g = omega arith
 
 ofField-past : (at end : ℕ) → at < end → (f : Field) → PastField at end f → (more : ℕ → ArgPlace) →
     ((q : ℕ) → PastPlace q end (more q)) → PastPlace at end (ofField more f)
 ofField-past at end i (Field.Good number wire v start len next) h more m =
-    both (PastPlace at end) (isArgs number wire v) _ _ (λ _. (h .2, h .3))
+    both (PastPlace at end) (isArgs number wire v) _ _ (λ _. (h .2, h .3, h .1))
     (λ _. further at next end (omega arith) (more next) (m next))
 ofField-past at end i Field.Bad h more m = i
 
@@ -129,14 +128,15 @@ place-past (suc most) s at =
     (place-past most s))
     (λ _. tt)
 
-ofPlace-past : (s : List ℕ) (at : ℕ) (x : ArgPlace) → PastPlace at (length s) x → PastNext at (length s) (ofPlace s x)
-ofPlace-past s at (ArgPlace.At start len next) h = h
+ofPlace-past : (s : List ℕ) (at : ℕ) (x : ArgPlace) → PastPlace at (length s) x → GoesOn at (length s) (ofPlace s x)
+ofPlace-past s at (ArgPlace.At start len next) h =
+    (h .0, h .1, ends-later (start + len) next (h .2) (argumentIn s start len) (argument-ends s start len))
 ofPlace-past s at ArgPlace.End h = tt
-ofPlace-past s at ArgPlace.Bad h = (h, omega arith)
+ofPlace-past s at ArgPlace.Bad h = (h, omega arith, tt)
 
-pub next-past : (s : List ℕ) (at : ℕ) → PastNext at (length s) (nextArgument s at)
+pub next-goes-on : NextGoesOn
 unfolding nextArgument
-next-past s at = ofPlace-past s at (argPlace s at) (place-past (length s) s at)
+next-goes-on s at = ofPlace-past s at (argPlace s at) (place-past (length s) s at)
 
 pub next-end : (s : List ℕ) (at : ℕ) → length s ≤ at → nextArgument s at ≡ NextArgument.End
 unfolding nextArgument

@@ -4,3 +4,4 @@ pub mod Pair
 pub mod Arguments
 pub mod Typed
 pub mod ArgumentsRules
+pub mod WithinRules

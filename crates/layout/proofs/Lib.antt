@@ -4,3 +4,4 @@ pub mod ArrayLaws
 pub mod CountLaws
 pub mod EnoughLaws
 pub mod TableLaws
+pub mod KeptLaws

@@ -1,14 +1,14 @@
--- The parts of a request lie within its frame; a law for every frame. Assumes nothing.
+-- The parts of a request lie within its frame, as a law for every frame. Assumes nothing.
 use Prim.Native.Nat.{ℕ, _+_, _-_, _≤_}
 use native.Mathlib.Omega.{arith}
 use mathlib.Core.Bool.{Bool, true, false, not, _&&_}
-use mathlib.Core.Path.{_≡_, refl, sym, ap, _∙_}
+use mathlib.Core.Path.{_≡_, refl, sym, subst, _∙_}
 use mathlib.Core.List.{List, [], _∷_}
-use lib.ListN.{length, take, drop, length-take, length-drop}
+use lib.ListN.{length, take}
+use lib.Seq.{length-take-le}
 use lib.Dec.{leb, ltb, eqb}
-use borrow.Author.Tests.{ltb-false}
+use borrow.Author.Tests.{ltb-false, leb-true}
 use Rattle.protocol.specs.Client as Client
-use Rattle.protocol.specs.Reason as Reason
 use Rattle.varint.proofs.PastLaws.{both}
 use Rattle.scalar.specs.declared.argument.Argument.{Argument}
 use Rattle.layout.specs.Table.{rowsOf, prepareStmt, stmtExecute, openStmt}
@@ -16,8 +16,7 @@ use Rattle.layout.specs.Fields.{fieldsAt}
 use Rattle.layout.specs.declared.slots.Slots.{Slots}
 use Rattle.layout.proofs.CountLaws.{good-list}
 use Rattle.args.specs.Part.{embedded, absent, valueOf, startOf, lenOf, low32}
-use Rattle.args.specs.Arguments.{anyTypeOf, noArguments, withType, together, argumentsAt}
-use Rattle.args.specs.declared.part.Part.{Part}
+use Rattle.args.specs.Arguments.{anyTypeOf, noArguments, badArguments, withType, together, argumentsAt}
 use Rattle.args.specs.declared.arguments.Arguments.{Arguments}
 use Rattle.message.specs.Head.{lengthBytes, headOf, lengthOf, maxLength}
 use Rattle.message.specs.Operation as Operation
@@ -26,66 +25,44 @@ use Rattle.message.specs.Payload.{payload, ifGood}
 use Rattle.message.specs.Simple.{resetFrame, sessionCloseFrame, deallocateFrame, closeFrame, fetchFrame}
 use Rattle.message.specs.Execute.{argumentsWithin, badExecute, executeOf, executeIn, executeFrame, openFrame}
 use Rattle.message.specs.Prepare.{bodyIn, prepareFrame}
-use Rattle.message.specs.Frame.{frameIn, ofHead, frameOf, partOf, chosenPart, bodyOf}
+use Rattle.message.specs.Frame.{frameIn}
+use Rattle.message.specs.WithinRules.{Inside}
 use Rattle.message.specs.declared.head.Head.{Head}
 use Rattle.message.specs.declared.request.Request.{Request}
 use Rattle.message.specs.declared.request.Frame.{Frame}
 
--- a request's body and arguments end within n bytes
-pub record Inside (n : ℕ) (q : Request) : Type 0 where
-  pub body : Request.bodyOf q .start + Request.bodyOf q .len ≤ n
-  pub args : Request.argsOf q .end ≤ n
-
--- so do those of a frame that holds one
-abbrev pub Within : ℕ → Frame → Type 0
-Within n Frame.NotAllThere = Unit {0}
-Within n Frame.BadLength = Unit {0}
-Within n (Frame.UnknownType used) = Unit {0}
-Within n (Frame.BadPayload used kind) = Unit {0}
-Within n (Frame.Good used q) = Inside n q
-
-part-within : (n : ℕ) (x : Frame) → Within n x → partOf x .start + partOf x .len ≤ n
-part-within n Frame.NotAllThere w = omega arith
-part-within n Frame.BadLength w = omega arith
-part-within n (Frame.UnknownType used) w = omega arith
-part-within n (Frame.BadPayload used kind) w = omega arith
-part-within n (Frame.Good used q) w = w .body
-
-widen : {n m : ℕ} → n ≤ m → (x : Frame) → Within n x → Within m x
-widen h Frame.NotAllThere w = tt
-widen h Frame.BadLength w = tt
-widen h (Frame.UnknownType used) w = tt
-widen h (Frame.BadPayload used kind) w = tt
-widen h (Frame.Good used q) w = record { body = omega (arith, w .body); args = omega (arith, w .args) }
-
 -- arguments end where their bytes do, or are bad
-type-end : (x : Arguments) (t : ℕ) → withType x t .end ≤ x .end
-type-end x t =
-    both (λ (y : Arguments). y .end ≤ x .end) (eqb t 0) _ _ (λ _. omega arith)
-    (λ _.
-    both (λ (y : Arguments). y .end ≤ x .end) (ltb t 2) _ _ (λ _. omega arith)
-    (λ _. both (λ (y : Arguments). y .end ≤ x .end) (eqb (x .kind) 0) _ _ (λ _. omega arith) (λ _. omega arith)))
+abbrev Stretch : ℕ → Arguments → Type 0
+Stretch n y = (y .start ≤ y .end) × (y .end ≤ n)
 
-together-end : (x : Arguments) (l : List Argument) → together x l .end ≤ x .end
-unfolding together
-together-end x [] = omega arith
-together-end x (a ∷ rest) =
-    both (λ (y : Arguments). y .end ≤ x .end) (eqb (anyTypeOf a) 0) _ _ (λ _. omega arith)
-    (λ _. omega (arith, together-end (withType x (anyTypeOf a)) rest, type-end x (anyTypeOf a)))
+module _ (n : ℕ) where
+  bad-stretch : Stretch n badArguments
+  bad-stretch = (omega arith, omega arith)
 
-take-short : (n : ℕ) (s : List ℕ) → length (take n s) ≤ length s
-take-short n s = omega (arith, length-take n s)
+  type-stretch : (x : Arguments) (t : ℕ) → Stretch n x → Stretch n (withType x t)
+  type-stretch x t h =
+      both (Stretch n) (eqb t 0) _ _ (λ _. bad-stretch)
+      (λ _.
+      both (Stretch n) (ltb t 2) _ _ (λ _. (h .0, h .1))
+      (λ _. both (Stretch n) (eqb (x .kind) 0) _ _ (λ _. (h .0, h .1)) (λ _. (h .0, h .1))))
 
-within-end : (s : List ℕ) (at n : ℕ) → argumentsWithin s at n .end ≤ length s
+  together-stretch : (x : Arguments) (l : List Argument) → Stretch n x → Stretch n (together x l)
+  unfolding together
+  together-stretch x [] h = h
+  together-stretch x (a ∷ rest) h =
+      both (Stretch n) (eqb (anyTypeOf a) 0) _ _ (λ _. bad-stretch)
+      (λ _. together-stretch (withType x (anyTypeOf a)) rest (type-stretch x (anyTypeOf a) h))
+
+within-stretch : (s : List ℕ) (at n : ℕ) → Stretch (length s) (argumentsWithin s at n)
 unfolding argumentsWithin
-within-end s at n =
-    both (λ (y : Arguments). y .end ≤ length s) (leb (at + n) (length s)) _ _
-    (λ _. omega (
-      arith,
-      together-end (noArguments at (length (take (at + n) s))) (argumentsAt (take (at + n) s) at),
-      take-short (at + n) s,
-    ))
-    (λ _. omega arith)
+within-stretch s at n =
+    both (Stretch (length s)) (leb (at + n) (length s)) _ _
+    (λ e.
+    let h = leb-true (at + n) (length s) e in
+    let l = length-take-le (at + n) s h in
+    together-stretch (length s) (noArguments at (length (take (at + n) s))) (argumentsAt (take (at + n) s) at)
+    (omega arith, omega arith))
+    (λ _. bad-stretch (length s))
 
 -- what is good lies within the bytes
 embedded-within : (rows : List (List ℕ)) (s : List ℕ) (at n : ℕ) → embedded rows s at n .good ≡ true → at + n ≤ length s
@@ -104,29 +81,29 @@ execute-good-inv x a h = go (x .good) refl (a .good) refl
         absurd (let g : badExecute .args .good ≡ true = sym (rw e) ∙ h in let z : _≡_ {A = ℕ} 0 1 = cc in omega arith)
 
 execute-inside : (s : List ℕ) (at n : ℕ) → executeIn s at n .args .good ≡ true →
-    (at + n ≤ length s) × (executeIn s at n .args .end ≤ length s)
+    (at + n ≤ length s) × Stretch (length s) (executeIn s at n .args)
 unfolding executeIn
 execute-inside s at n g =
     let h = execute-good-inv (embedded (rowsOf Client.execute) s at n) (argumentsWithin s at n) g in (
       embedded-within (rowsOf Client.execute) s at n (h .0),
-      omega (arith, ap (λ (y : Arguments). y .end) (h .1), within-end s at n),
+      subst (Stretch (length s)) (sym (h .1)) (within-stretch s at n),
     )
 
 body-inside : (s : List ℕ) (t at n : ℕ) → bodyIn s t at n .good ≡ true →
-    (at + n ≤ length s) × (bodyIn s t at n .end ≤ length s)
+    (at + n ≤ length s) × Stretch (length s) (bodyIn s t at n)
 unfolding bodyIn
 body-inside s t at n =
     both P (eqb t Operation.stmtExecute) _ _
     (λ _.
     both P (embedded (rowsOf stmtExecute) s at n .good) _ _
-    (λ g _. (embedded-within (rowsOf stmtExecute) s at n g, within-end s at n))
+    (λ g _. (embedded-within (rowsOf stmtExecute) s at n g, within-stretch s at n))
     (λ _ h. absurd (let z : _≡_ {A = ℕ} 0 1 = cc in omega arith)))
     (λ _.
-    both P (embedded [] s at n .good) _ _ (λ g _. (embedded-within [] s at n g, omega arith))
+    both P (embedded [] s at n .good) _ _ (λ g _. (embedded-within [] s at n g, (omega arith, omega arith)))
     (λ _ h. absurd (let z : _≡_ {A = ℕ} 0 1 = cc in omega arith)))
   where
     P : Arguments → Type 0
-    P y = y .good ≡ true → (at + n ≤ length s) × (y .end ≤ length s)
+    P y = y .good ≡ true → (at + n ≤ length s) × Stretch (length s) y
 
 -- what holds of a bad payload, of an unknown type and of every request that lies within the frame, holds of each
 -- frame, whatever its type
@@ -139,35 +116,35 @@ module _ (s : List ℕ) (P : Frame → Type 0) (bad : (kind : ℕ) → P (Frame.
 
   -- a request with no body and no arguments
   bare : (kind : ℕ) (b : Bool) (q : Request) → Request.bodyOf q .start + Request.bodyOf q .len ≡ 0 →
-      Request.argsOf q .end ≡ 0 → P (ifGood s kind b q)
-  bare kind b q e f = if-good kind b q (λ _. record { body = omega arith; args = omega arith })
+      (Request.argsOf q .start ≡ 0) × (Request.argsOf q .end ≡ 0) → P (ifGood s kind b q)
+  bare kind b q e f = if-good kind b q (λ _. record { body = omega arith; stretch = omega arith; args = omega arith })
 
   reset-has : P (resetFrame s)
   unfolding resetFrame
-  reset-has = bare Client.reset (fieldsAt [] s payload .good) Request.Reset refl refl
+  reset-has = bare Client.reset (fieldsAt [] s payload .good) Request.Reset refl (refl, refl)
 
   session-close-has : P (sessionCloseFrame s)
   unfolding sessionCloseFrame
-  session-close-has = bare Client.sessionClose (fieldsAt [] s payload .good) Request.SessionClose refl refl
+  session-close-has = bare Client.sessionClose (fieldsAt [] s payload .good) Request.SessionClose refl (refl, refl)
 
   deallocate-has : P (deallocateFrame s)
   unfolding deallocateFrame
-  deallocate-has = bare Client.deallocate (fieldsAt (rowsOf Client.deallocate) s payload .good) _ refl refl
+  deallocate-has = bare Client.deallocate (fieldsAt (rowsOf Client.deallocate) s payload .good) _ refl (refl, refl)
 
   close-has : P (closeFrame s)
   unfolding closeFrame
-  close-has = bare Client.close (fieldsAt (rowsOf Client.close) s payload .good) _ refl refl
+  close-has = bare Client.close (fieldsAt (rowsOf Client.close) s payload .good) _ refl (refl, refl)
 
   fetch-has : P (fetchFrame s)
   unfolding fetchFrame
-  fetch-has = bare Client.fetch (fieldsAt (rowsOf Client.fetch) s payload .good) _ refl refl
+  fetch-has = bare Client.fetch (fieldsAt (rowsOf Client.fetch) s payload .good) _ refl (refl, refl)
 
   execute-has : P (executeFrame s)
   unfolding executeFrame
   execute-has =
       let n = length s - payload in
       if-good Client.execute (executeIn s payload n .args .good) _
-      (λ g. record { body = omega arith; args = execute-inside s payload n g .1 })
+      (λ g. let h = execute-inside s payload n g in record { body = omega arith; stretch = h .1 .0; args = h .1 .1 })
 
   open-has : P (openFrame s)
   unfolding openFrame
@@ -181,7 +158,7 @@ module _ (s : List ℕ) (P : Frame → Type 0) (bad : (kind : ℕ) → P (Frame.
       if-good Client.open' (executeIn s (startOf y 2) (lenOf y 2) .args .good) _
       (λ g.
       let h = execute-inside s (startOf y 2) (lenOf y 2) g in
-      record { body = h .0; args = h .1 }))
+      record { body = h .0; stretch = h .1 .0; args = h .1 .1 }))
       (λ _. bad Client.open'))
       (λ _. bad Client.open')
 
@@ -199,7 +176,7 @@ module _ (s : List ℕ) (P : Frame → Type 0) (bad : (kind : ℕ) → P (Frame.
       if-good Client.prepare (bodyIn s t (startOf y k) (lenOf y k) .good) _
       (λ g.
       let h = body-inside s t (startOf y k) (lenOf y k) g in
-      record { body = h .0; args = h .1 }))
+      record { body = h .0; stretch = h .1 .0; args = h .1 .1 }))
       (λ _. bad Client.prepare))
       (λ _. bad Client.prepare)
 
@@ -220,27 +197,6 @@ module _ (s : List ℕ) (P : Frame → Type 0) (bad : (kind : ℕ) → P (Frame.
       (λ _.
       both P (eqb kind Client.close) _ _ (λ _. close-has)
       (λ _. both P (eqb kind Client.fetch) _ _ (λ _. fetch-has) (λ _. unknown))))))))
-
-kind-within : (s : List ℕ) (kind : ℕ) → Within (length s) (frameIn s kind)
-kind-within s = every-frame s (Within (length s)) (λ _. tt) tt (λ q h. h)
-
-head-within : (s : List ℕ) (h : Head) → Within (length s) (ofHead s h)
-head-within s (Head.Frame kind end) =
-    widen (take-short end s) (frameIn (take end s) kind) (kind-within (take end s) kind)
-head-within s (Head.Refused reason) = both (Within (length s)) (eqb reason Reason.badLength) _ _ (λ _. tt) (λ _. tt)
-
-pub read-within : (s : List ℕ) (x : Frame) → x ≡ frameOf s → Within (length s) x
-unfolding frameOf
-read-within s x e = rw e (head-within s (headOf s))
-
-pub chosen-within : (s : List ℕ) (p : Part) → p ≡ partOf (frameOf s) → p .start + p .len ≤ length s
-chosen-within s p e = rw e (part-within (length s) (frameOf s) (read-within s (frameOf s) refl))
-
--- so the chosen body is as long as its part says
-pub body-length : (s : List ℕ) → length (bodyOf s) ≡ chosenPart s .len
-body-length s =
-    let p = chosenPart s in
-    omega (arith, chosen-within s p refl, length-take (p .len) (drop (p .start) s), length-drop (p .start) s)
 
 -- a whole frame lies within the bytes
 abbrev Ends : ℕ → Head → Type 0

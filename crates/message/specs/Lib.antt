@@ -6,3 +6,4 @@ pub mod Simple
 pub mod Execute
 pub mod Prepare
 pub mod Frame
+pub mod WithinRules

@@ -4,7 +4,7 @@ use mathlib.Core.Path.{sym, ap, _∙_}
 use lib.Seq.{length-take-le}
 use Rattle.args.specs.declared.arguments.Arguments.{Arguments}
 use Rattle.message.specs.Frame.{argumentAt, argumentIn}
-use Rattle.message.proofs.WithinLaws.{read-within}
+use Rattle.message.proofs.UsedLaws.{read-within}
 use borrow.Author.Needs.{needs}
 use Rattle.message.proofs.frame.argument.Statement.{statement}
 use Rattle.message.proofs.frame.argument.Tie as tie
@@ -16,7 +16,9 @@ slice-aggregate-nth-argument c =
     let a = r .args-of in
     let w = read-within s _
     (sym (r .before .before .request .given .1) ∙ r .before .before .before .before .read-frame .ensures) in
-    sym (length-take-le (a .result .end) s (omega (arith, ap (λ (y : Arguments). y .end) (a .ensures), w .args)))
+    sym
+    (length-take-le (a .result .end) s
+    (omega (arith, ap (λ (y : Arguments). y .end) (a .ensures), w .0, w .1 .args)))
 
 returns : tie.Need-returns
 returns c =

@@ -6,7 +6,7 @@ use mathlib.Core.Path.{ap, _∙_}
 use lib.ListN.{length, take, drop}
 use Rattle.args.specs.declared.part.Part.{Part}
 use Rattle.message.specs.Frame.{bodyIn}
-use Rattle.message.proofs.WithinLaws.{chosen-within, body-length}
+use Rattle.message.proofs.UsedLaws.{chosen-within, body-length}
 use borrow.Author.Needs.{needs}
 use Rattle.message.proofs.frame.chosen_body.Statement.{statement}
 use Rattle.message.proofs.frame.chosen_body.Tie as tie
