@@ -10,7 +10,7 @@ use Rattle.varint.proofs.PastLaws.{both}
 use Rattle.scalar.specs.Argument.{signedOf, doubleOf, floatOf, reasonOf, typeOf}
 use Rattle.scalar.specs.declared.argument.Argument.{Argument}
 use Rattle.scalar.specs.declared.argument.Argument.the-variants as Va
-use Rattle.scalar.proofs.ArgumentLaws.{double-type, float-type}
+use Rattle.scalar.proofs.ArgumentLaws.{floats-typed}
 use Rattle.layout.specs.declared.slots.Slots.{Slots}
 use Rattle.args.specs.Part.{embedded, countOf, valueOf, startOf, lenOf, low32}
 use Rattle.args.specs.Value.{bad, present, bytesOf, bytesIn, ofType, scalarOf}
@@ -46,10 +46,14 @@ type-of s x t =
     (bytes-of t true (embedded (rowsOf bytes) s (startOf x 5) (lenOf x 5)) (sym (eqb-true t 4 e))))
     (λ _.
     both (Of t) (eqb t 5) _ _
-    (λ e. present-of t (countOf x 6) (doubleOf (valueOf x 6)) (λ _. double-type (valueOf x 6) ∙ sym (eqb-true t 5 e)))
+    (λ e.
+    present-of t (countOf x 6) (doubleOf (valueOf x 6))
+    (λ _. floats-typed .double (valueOf x 6) ∙ sym (eqb-true t 5 e)))
     (λ _.
     both (Of t) (eqb t 6) _ _
-    (λ e. present-of t (countOf x 7) (floatOf (low32 (valueOf x 7))) (λ _. float-type (low32 (valueOf x 7)) ∙ sym (eqb-true t 6 e)))
+    (λ e.
+    present-of t (countOf x 7) (floatOf (low32 (valueOf x 7)))
+    (λ _. floats-typed .float (low32 (valueOf x 7)) ∙ sym (eqb-true t 6 e)))
     (λ _.
     both (Of t) (eqb t 7) _ _
     (λ e. present-of t (countOf x 8) (Va.Bool (not (eqb (valueOf x 8) 0))) (λ _. sym (eqb-true t 7 e)))

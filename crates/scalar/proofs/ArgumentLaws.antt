@@ -1,5 +1,5 @@
 -- Doubles and floats are carried with every bit kept, NaNs too (W6): one law over the format, and its two cases.
-use Prim.Native.Nat.{ℕ, _*_, _%_, _^_, _≤_, _<_}
+use Prim.Native.Nat.{ℕ, _*_, _%_, _≤_, _<_}
 use mathlib.Core.Path.{_≡_, refl, sym, ap, _∙_}
 use mathlib.Core.Bool.{Bool, true, false, not, cond}
 use mathlib.Core.List.{List, [], _∷_}
@@ -9,7 +9,9 @@ use lib.Ieee.Bits.{toBits-ofBits, nanBits-is, nanBits-above}
 use borrow.Author.Tests.{lt-ltb, le-ltb}
 use Rattle.scalar.specs.declared.argument.Argument.{Argument}
 use Rattle.scalar.specs.declared.argument.Argument.the-variants as Va
-use Rattle.scalar.specs.Argument.{carried, doubleOf, floatOf, typeOf, valuesOf}
+use Rattle.scalar.specs.Argument.{carried, typeOf, valuesOf}
+use Rattle.scalar.specs.ScalarRules.{BitsKept, FloatsTyped}
+use Rattle.scalar.proofs.ZigzagLaws.{zigzag-both-ways}
 
 module _ (f : Format) (n : ℕ) where
   -- with the sign taken off, a NaN's bits are above the infinity's, and no other's
@@ -25,7 +27,8 @@ module _ (f : Format) (n : ℕ) where
 
 module _ (f : Format) (raw : ℕ → Argument) (number : Float → Argument) where
   -- both cases have a type number: the argument has it
-  pub typed : (k : ℕ) → ((n : ℕ) → typeOf (raw n) ≡ k) → ((d : Float) → typeOf (number d) ≡ k) → (n : ℕ) → typeOf (carried f raw number n) ≡ k
+  typed : (k : ℕ) → ((n : ℕ) → typeOf (raw n) ≡ k) → ((d : Float) → typeOf (number d) ≡ k) → (n : ℕ) →
+      typeOf (carried f raw number n) ≡ k
   typed k a b n = go (nanBits f n)
     where
       go : (t : Bool) → typeOf (cond t (raw n) (number (ofBits f n))) ≡ k
@@ -33,7 +36,7 @@ module _ (f : Format) (raw : ℕ → Argument) (number : Float → Argument) whe
       go false = b (ofBits f n)
 
   -- both cases hold bits: those of the argument are the ones that came
-  pub kept : ((n : ℕ) → valuesOf (raw n) ≡ n ∷ []) → ((d : Float) → valuesOf (number d) ≡ toBits f d ∷ []) →
+  kept : ((n : ℕ) → valuesOf (raw n) ≡ n ∷ []) → ((d : Float) → valuesOf (number d) ≡ toBits f d ∷ []) →
       (n : ℕ) → n < 2 * top f → valuesOf (carried f raw number n) ≡ n ∷ []
   kept a b n h = go (nanBits f n) (sym (nanBits-is f n))
     where
@@ -41,16 +44,17 @@ module _ (f : Format) (raw : ℕ → Argument) (number : Float → Argument) whe
       go true e = a n
       go false e = b (ofBits f n) ∙ ap (λ (m : ℕ). m ∷ []) (toBits-ofBits f n h (rw e tt))
 
--- a double is of Scalar type 5 and has the bits that it came with
-pub double-type : (n : ℕ) → typeOf (doubleOf n) ≡ 5
-double-type = typed binary64 Va.DoubleNan Va.Double 5 (λ n. refl) (λ d. refl)
+pub floats-typed : FloatsTyped
+floats-typed =
+    record {
+      double = typed binary64 Va.DoubleNan Va.Double 5 (λ n. refl) (λ d. refl);
+      float = typed binary32 Va.FloatNan Va.Float 6 (λ n. refl) (λ d. refl);
+    }
 
-pub double-kept : (n : ℕ) → n < 2 ^ 64 → valuesOf (doubleOf n) ≡ n ∷ []
-double-kept = kept binary64 Va.DoubleNan Va.Double (λ n. refl) (λ d. refl)
-
--- a float is of Scalar type 6 and has the bits that it came with
-pub float-type : (n : ℕ) → typeOf (floatOf n) ≡ 6
-float-type = typed binary32 Va.FloatNan Va.Float 6 (λ n. refl) (λ d. refl)
-
-pub float-kept : (n : ℕ) → n < 2 ^ 32 → valuesOf (floatOf n) ≡ n ∷ []
-float-kept = kept binary32 Va.FloatNan Va.Float (λ n. refl) (λ d. refl)
+pub bits-kept : BitsKept
+bits-kept =
+    record {
+      sint = λ n. ap (λ (m : ℕ). m ∷ []) (zigzag-both-ways .forth n);
+      double = kept binary64 Va.DoubleNan Va.Double (λ n. refl) (λ d. refl);
+      float = kept binary32 Va.FloatNan Va.Float (λ n. refl) (λ d. refl);
+    }

@@ -1,7 +1,6 @@
 -- Zigzag loses nothing, either way; and how wrapping sums on bits in two's complement compute it.
 use Prim.Native.Nat.{ℕ, suc, _+_, _*_, _-_, _/_, _%_, _^_, _≤_, _<_}
 use mathlib.Core.Path.{_≡_, refl, ap, sym, _∙_}
-use mathlib.Core.List.{[], _∷_, map}
 use mathlib.Core.Logic.{_⊎_, inl, inr}
 use native.Mathlib.Nat.{eq-zero-or-pos}
 use native.Mathlib.Omega.{arith}
@@ -11,6 +10,7 @@ use mir.Val.{SFits, ofZ, toZ}
 use mir.ValLaws.{toZ-pos, toZ-neg}
 use borrow.Author.Tests.{eq-eqb, ne-eqb}
 use Rattle.scalar.specs.Zigzag.{zigzag, unzigzag}
+use Rattle.scalar.specs.ScalarRules.{ZigzagBothWays}
 
 unzigzag-even : (n k : ℕ) → n ≡ 2 * k → unzigzag n ≡ pos k
 unzigzag-even n k e = simp (eq-eqb (n % 2) 0 (omega arith)) (ap pos (omega arith))
@@ -22,16 +22,15 @@ pub unzigzag-zigzag : (z : ℤ) → unzigzag (zigzag z) ≡ z
 unzigzag-zigzag (pos k) = unzigzag-even (2 * k) k refl
 unzigzag-zigzag (negsuc k) = unzigzag-odd (2 * k + 1) k refl
 
-pub zigzag-unzigzag : (n : ℕ) → zigzag (unzigzag n) ≡ n
+zigzag-unzigzag : (n : ℕ) → zigzag (unzigzag n) ≡ n
 zigzag-unzigzag n = go (eq-zero-or-pos (n % 2))
   where
     go : (n % 2 ≡ 0) ⊎ (0 < n % 2) → zigzag (unzigzag n) ≡ n
     go (inl e) = ap zigzag (unzigzag-even n (n / 2) (omega arith)) ∙ omega arith
     go (inr h) = ap zigzag (unzigzag-odd n (n / 2) (omega arith)) ∙ omega arith
 
--- the four examples of W5
-pub zigzag-samples : map zigzag (pos 0 ∷ negsuc 0 ∷ pos 1 ∷ negsuc (2 ^ 63 - 1) ∷ []) ≡ 0 ∷ 1 ∷ 2 ∷ (2 ^ 64 - 1) ∷ []
-zigzag-samples = refl
+pub zigzag-both-ways : ZigzagBothWays
+zigzag-both-ways = record { back = unzigzag-zigzag; forth = zigzag-unzigzag; samples = refl }
 
 -- decoding: the bits b are n / 2, minus n where n is odd
 pub decode-even : (n b : ℕ) → n < 2 ^ 64 → b < 2 ^ 64 → (n % 2 ≡ 1 → ⊥) → (b + 0) % 2 ^ 64 ≡ n / 2 → toZ w64 b ≡ unzigzag n

@@ -1,3 +1,4 @@
 pub mod Argument
 pub mod Fixed
 pub mod Zigzag
+pub mod ScalarRules
