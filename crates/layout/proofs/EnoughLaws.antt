@@ -18,7 +18,7 @@ use Rattle.layout.proofs.FieldsLaws.{from-end}
 
 module _ (rows : List (List ℕ)) (s : List ℕ) where
   -- ways on that agree from here on
-  field-same : (at : ℕ) (x : Slots) (z : Field) → PastField at (length s) z → (f g : ℕ → Slots → Slots) →
+  pub field-same : (at : ℕ) (x : Slots) (z : Field) → PastField at (length s) z → (f g : ℕ → Slots → Slots) →
       ((q : ℕ) (y : Slots) → at < q → f q y ≡ g q y) → onField rows x f z ≡ onField rows x g z
   field-same at x (Field.Good number wire v start len next) h f g e =
       e next (noted (useOf rows number wire v) x number v start len) (h .2)

@@ -40,14 +40,14 @@ pub record Kept (n : ℕ) (x : Slots) : Type 0 where
   pub lens : length (x .len) ≡ slotCount
   pub inside : (k : ℕ) → getD (x .start) k 0 + getD (x .len) k 0 ≤ n
 
-none-kept : (n : ℕ) → Kept n noSlots
+pub none-kept : (n : ℕ) → Kept n noSlots
 none-kept n = record { starts = refl; lens = refl; inside = λ k. omega (arith, zeros slotCount k) }
 
-bad-kept : (n : ℕ) → Kept n badSlots
+pub bad-kept : (n : ℕ) → Kept n badSlots
 bad-kept n = record { starts = refl; lens = refl; inside = λ k. omega (arith, zeros slotCount k) }
 
 module _ (rows : List (List ℕ)) (n : ℕ) where
-  noted-kept : {x : Slots} → Kept n x → (number wire v start len : ℕ) → start + len ≤ n → (u : Use) →
+  pub noted-kept : {x : Slots} → Kept n x → (number wire v start len : ℕ) → start + len ≤ n → (u : Use) →
       u ≡ useOf rows number wire v → Kept n (noted u x number v start len)
   noted-kept a number wire v start len h Use.Unknown e = a
   noted-kept a number wire v start len h Use.Counted e =
@@ -85,7 +85,7 @@ module _ (rows : List (List ℕ)) (s : List ℕ) where
       (noted-kept rows (length s) a number wire v start len (omega arith) (useOf rows number wire v) refl)
   field-kept at a more m Field.Bad h = bad-kept (length s)
 
-  from-kept : (most at : ℕ) {x : Slots} → Kept (length s) x → Kept (length s) (fieldsFrom most rows s at x)
+  pub from-kept : (most at : ℕ) {x : Slots} → Kept (length s) x → Kept (length s) (fieldsFrom most rows s at x)
   unfolding fieldsFrom
   from-kept zero at a = a
   from-kept (suc most) at a =

@@ -5,3 +5,5 @@ pub mod CountLaws
 pub mod EnoughLaws
 pub mod TableLaws
 pub mod KeptLaws
+pub mod UnreadLaws
+pub mod ApartLaws

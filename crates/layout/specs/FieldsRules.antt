@@ -1,10 +1,16 @@
 -- What holds of every field list beside its definition.
 use Prim.Native.Nat.{ℕ, _+_, _≤_}
+use mathlib.Core.Bool.{true, false}
+use mathlib.Core.Logic.{_⊎_}
 use mathlib.Core.Path.{_≡_}
 use mathlib.Core.List.{List}
 use lib.ListN.{length, getD}
+use Rattle.layout.specs.SameBut.{SameBut}
+use Rattle.layout.specs.Row.{wireOf, isRepeated, rowFor}
+use Rattle.layout.specs.Table.{len}
 use Rattle.layout.specs.Slots.{noSlots}
 use Rattle.layout.specs.Fields.{fieldsFrom, fieldList, fieldsAt}
+use Rattle.layout.specs.declared.slots.Slots.{Slots}
 
 -- the number of fields is no limit: any that is enough for the bytes left gives the same (W9)
 abbrev pub EnoughFields : Type 0
@@ -12,8 +18,32 @@ EnoughFields =
     (most : ℕ) (rows : List (List ℕ)) (s : List ℕ) (from : ℕ) →
     length s ≤ from + most → fieldsFrom most rows s from noSlots ≡ fieldList rows s from
 
+-- the place and length that a list keeps of a field number, and the place behind
+abbrev pub startIn : Slots → ℕ → ℕ
+startIn x k = getD (x .start) k 0
+
+abbrev pub endIn : Slots → ℕ → ℕ
+endIn x k = startIn x k + getD (x .len) k 0
+
 -- the bytes of each field that is kept lie within those of the list (W8)
 abbrev pub KeptWithin : Type 0
-KeptWithin =
-    (rows : List (List ℕ)) (s : List ℕ) (from k : ℕ) →
-    getD (fieldsAt rows s from .start) k 0 + getD (fieldsAt rows s from .len) k 0 ≤ length s
+KeptWithin = (rows : List (List ℕ)) (s : List ℕ) (from k : ℕ) → endIn (fieldsAt rows s from) k ≤ length s
+
+-- those of one field lie before those of another, or behind them
+abbrev pub KeptApart : Type 0
+KeptApart =
+    (rows : List (List ℕ)) (s : List ℕ) (from i k : ℕ) →
+    (i ≡ k → ⊥) →
+    (endIn (fieldsAt rows s from) i ≤ startIn (fieldsAt rows s from) k)
+    ⊎ (endIn (fieldsAt rows s from) k ≤ startIn (fieldsAt rows s from) i)
+
+-- a list does not read the bytes of a field that has bytes: with any others of the same length it is the same (L10)
+abbrev pub BytesUnread : Type 0
+BytesUnread =
+    (rows : List (List ℕ)) (s t : List ℕ) (from k : ℕ) →
+    wireOf (rowFor rows k) ≡ len →
+    isRepeated (rowFor rows k) ≡ false →
+    fieldsAt rows s from .good ≡ true →
+    (getD (fieldsAt rows s from .count) k 0 ≡ 0 → ⊥) →
+    SameBut s t (startIn (fieldsAt rows s from) k) (endIn (fieldsAt rows s from) k) →
+    fieldsAt rows t from ≡ fieldsAt rows s from

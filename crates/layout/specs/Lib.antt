@@ -5,3 +5,4 @@ pub mod Fields
 pub mod Arrays
 pub mod TableRules
 pub mod FieldsRules
+pub mod SameBut

@@ -2,3 +2,4 @@ pub mod GroupLaws
 pub mod PastLaws
 pub mod ShortestLaws
 pub mod VarintLaws
+pub mod AgreeLaws

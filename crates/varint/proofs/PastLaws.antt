@@ -20,7 +20,7 @@ onto-past : (low w at end : ℕ) (x : Varint) → Past (at + 1) end x → Past a
 onto-past low w at end (Varint.Number v next) h = (omega arith, omega arith)
 onto-past low w at end Varint.Bad h = tt
 
-groups-past : (n : ℕ) (s : List ℕ) (at : ℕ) → Past at (length s) (groups n s at)
+pub groups-past : (n : ℕ) (s : List ℕ) (at : ℕ) → Past at (length s) (groups n s at)
 unfolding groups
 groups-past zero s at = tt
 groups-past (suc n) s at =

@@ -5,3 +5,4 @@ pub mod GroupLaws
 pub mod FieldLaws
 pub mod LongLaws
 pub mod EnoughLaws
+pub mod AgreeLaws

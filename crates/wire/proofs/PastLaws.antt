@@ -78,20 +78,25 @@ andThen-past at end (Skip.At q) more h m = further at q end (h .0) (more q) (m q
 andThen-past at end Skip.Bad more h m = tt
 
 module _ (inner : ℕ → ℕ → Skip) (s : List ℕ) (number : ℕ) (inner-past : (n p : ℕ) → PastSkip p (length s) (inner n p)) where
+  -- behind its tag
+  pub tagged-past : (more : ℕ → Skip) → ((q : ℕ) → PastSkip q (length s) (more q)) → (n w next : ℕ) → next ≤ length s →
+      PastSkip next (length s) (groupField inner more s number (Tag.Field n w next))
+  tagged-past more m n w next h =
+      both (PastSkip next (length s)) (eqb w 4) _ _
+      (λ _. both (PastSkip next (length s)) (eqb n number) _ _ (λ _. (omega arith, h)) (λ _. tt))
+      (λ _.
+      both (PastSkip next (length s)) (eqb w 3) _ _
+      (λ _. andThen-past next (length s) (inner n next) more (inner-past n next) m)
+      (λ _. andThen-past next (length s) (skipValue s w next) more (skip-past s w next) m))
+
   groupField-past : (more : ℕ → Skip) → ((q : ℕ) → PastSkip q (length s) (more q)) → (at : ℕ) (t : Tag) →
       PastTag at (length s) t → PastSkip at (length s) (groupField inner more s number t)
   groupField-past more m at (Tag.Field n w next) h =
-      both (PastSkip at (length s)) (eqb w 4) _ _
-      (λ _. both (PastSkip at (length s)) (eqb n number) _ _ (λ _. (omega arith, h .1)) (λ _. tt))
-      (λ _.
-      both (PastSkip at (length s)) (eqb w 3) _ _
-      (λ _. further at next (length s) (omega arith) (andThen (inner n next) more)
-      (andThen-past next (length s) (inner n next) more (inner-past n next) m))
-      (λ _. further at next (length s) (omega arith) (andThen (skipValue s w next) more)
-      (andThen-past next (length s) (skipValue s w next) more (skip-past s w next) m)))
+      further at next (length s) (omega arith) (groupField inner more s number (Tag.Field n w next))
+      (tagged-past more m n w next (h .1))
   groupField-past more m at Tag.Bad h = tt
 
-  groupFields-past : (most at : ℕ) → PastSkip at (length s) (groupFields inner most s at number)
+  pub groupFields-past : (most at : ℕ) → PastSkip at (length s) (groupFields inner most s at number)
   unfolding groupFields
   groupFields-past zero at = tt
   groupFields-past (suc most) at =
