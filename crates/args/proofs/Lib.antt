@@ -9,3 +9,4 @@ pub mod NoneLaws
 pub mod EnoughLaws
 pub mod ArgsFieldLaws
 pub mod WithinLaws
+pub mod MovedArgLaws

@@ -5,3 +5,4 @@ pub mod Arguments
 pub mod Typed
 pub mod ArgumentsRules
 pub mod WithinRules
+pub mod Moved

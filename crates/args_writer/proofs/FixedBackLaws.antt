@@ -19,7 +19,7 @@ use Rattle.layout.specs.Fields.{useOf, noted}
 use Rattle.layout.specs.declared.slots.Slots.{Slots}
 use Rattle.layout.specs.declared.fields.Use.{Use}
 use Rattle.layout.proofs.FieldsLaws.{goes-on}
-use Rattle.writer.proofs.TailLaws.{tail-byte, Stands, stands-length, stands-first, stands-next}
+use Rattle.varint.proofs.TailLaws.{tail-byte, Stands, stands-length, stands-first, stands-next}
 use Rattle.writer.proofs.FieldLaws.{tag-reads, behindTag, Reads}
 use Rattle.encode.specs.Field.{fixedField}
 use Rattle.encode.specs.Fixed.{fixedBytes}

@@ -21,11 +21,13 @@ use Rattle.args.specs.Value.{argumentIn}
 use Rattle.args.specs.Arguments.{anyTypeOf, argumentsFrom, argumentsAt}
 use Rattle.args.proofs.PlaceLaws.{next-end}
 use Rattle.writer.specs.Judge.{argsFrom, goodStretch}
-use Rattle.writer.specs.Moved.{moved}
-use Rattle.writer.proofs.TailLaws.{Stands, stands-length}
+use Rattle.args.specs.Moved.{moved}
+use Rattle.varint.proofs.TailLaws.{Stands, stands-length}
 use Rattle.writer.proofs.FieldLaws.{bytes-reads, stands-inside}
-use Rattle.writer.proofs.MovedArgLaws.{argument-moved}
-use Rattle.writer.proofs.ArgListLaws.{field-inside, type-moved, args-none, args-found}
+use Rattle.args.proofs.MovedArgLaws.{argument-moved}
+use Rattle.args.proofs.MovedArgLaws.{field-inside, args-found}
+use Rattle.args.proofs.ArgumentsLaws.{from-none as args-none}
+use Rattle.writer.proofs.ArgListLaws.{type-moved}
 use Rattle.writer.proofs.StretchLaws.{Stretch, done, more, stretch-of, there}
 use Rattle.writer.proofs.ListsLaws.{next-finds, lists-then, lists-stretch, lists-whole}
 use Rattle.args_writer.specs.Scalar.{bytesOf, writable, valueField, anyBytes, argField}

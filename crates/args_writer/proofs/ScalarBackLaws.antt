@@ -27,7 +27,7 @@ use Rattle.encode.specs.Field.{numberField, bytesField}
 use Rattle.args.specs.Part.{embedded, low32}
 use Rattle.args.specs.Value.{bytesOf as bytesTaken, bytesIn, ofType, scalarOf, ofAnyType, anyOf, argumentIn}
 use Rattle.args.proofs.PartLaws.{yes, no as without}
-use Rattle.writer.proofs.TailLaws.{Stands, stands-length, stands-bytes, stands-next}
+use Rattle.varint.proofs.TailLaws.{Stands, stands-length, stands-bytes, stands-next}
 use Rattle.writer.proofs.FieldLaws.{Reads, withNumber, withBytes, reads-number, reads-bytes, reads-then, embedded-good, stands-inside}
 use Rattle.writer.proofs.ExecuteBackLaws.{partStart}
 use Rattle.encode.specs.Field.{fixedField}

@@ -7,3 +7,4 @@ pub mod TableLaws
 pub mod KeptLaws
 pub mod UnreadLaws
 pub mod ApartLaws
+pub mod AlikeLaws

@@ -41,7 +41,7 @@ from-tail (suc most) rows s t p x a =
 
 -- ---- what becomes of one field number k
 
-counted-repeated : (rows : List (List ℕ)) (number w v : ℕ) → useOf rows number w v ≡ Use.Counted →
+pub counted-repeated : (rows : List (List ℕ)) (number w v : ℕ) → useOf rows number w v ≡ Use.Counted →
     isRepeated (rowFor rows number) ≡ true
 counted-repeated rows number w v = go (takes (rowFor rows number) number w v) (isRepeated (rowFor rows number))
   where

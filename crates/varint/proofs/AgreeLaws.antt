@@ -1,26 +1,16 @@
 -- A number that is read in some bytes is read alike in others that have the same bytes there. Assumes nothing.
 use Prim.Native.Nat.{ℕ, zero, suc, _+_, _%_, _≤_, _<_}
 use native.Mathlib.Omega.{arith}
-use mathlib.Core.Bool.{Bool, true, false}
 use mathlib.Core.Path.{_≡_, refl, sym, ap, _∙_}
 use mathlib.Core.List.{List}
 use lib.ListN.{length, getD}
-use lib.Dec.{ltb}
-use borrow.Author.Tests.{ltb-true, ltb-false}
 use Rattle.varint.specs.Varint.{onto, groups, low64, varintAt}
 use Rattle.varint.specs.Past.{Past}
 use Rattle.varint.specs.declared.Varint.{Varint}
 use Rattle.varint.proofs.GroupLaws.{groups-none, groups-last, groups-more}
 use Rattle.varint.proofs.PastLaws.{groups-past}
 use Rattle.varint.proofs.ShortestLaws.{below-or-not}
-
--- which of two numbers is less
-pub less-or-not : {A : Type 0} (a b : ℕ) → (a < b → A) → (b ≤ a → A) → A
-less-or-not {A} a b f g = go (ltb a b) refl
-  where
-    go : (t : Bool) → ltb a b ≡ t → A
-    go true e = f (ltb-true a b e)
-    go false e = g (ltb-false a b e)
+use Rattle.varint.proofs.TailLaws.{less-or-not}
 
 -- s and t have the same bytes from p to before m
 pub record Agree (s t : List ℕ) (p m : ℕ) : Type 0 where

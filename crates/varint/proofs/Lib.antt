@@ -3,3 +3,4 @@ pub mod PastLaws
 pub mod ShortestLaws
 pub mod VarintLaws
 pub mod AgreeLaws
+pub mod TailLaws

@@ -4,14 +4,14 @@ use Prim.Native.Nat.{ℕ, zero, suc, _+_, _-_, _%_, _^_, _≤_, _<_}
 use native.Mathlib.Omega.{arith}
 use mathlib.Core.Bool.{Bool, true, false, cond}
 use mathlib.Core.Path.{_≡_, refl, sym, ap, subst, _∙_}
-use mathlib.Core.List.{List}
-use lib.ListN.{length, getD}
+use mathlib.Core.List.{List, _++_}
+use lib.ListN.{length, getD, length-append, List·getD-append}
 use lib.Dec.{ltb, leb, eqb}
 use borrow.Author.Tests.{le-leb, eqb-true, eqb-false, ne-eqb}
 use Rattle.varint.specs.Varint.{varintAt}
 use Rattle.varint.specs.declared.Varint.{Varint}
 use Rattle.varint.proofs.PastLaws.{both}
-pub use Rattle.varint.proofs.AgreeLaws.{Agree, less-or-not}
+pub use Rattle.varint.proofs.AgreeLaws.{Agree}
 use Rattle.varint.proofs.AgreeLaws.{agree-later, KeepsVarint, varint-keeps}
 use Rattle.scalar.specs.Fixed.{little, fixedAt}
 use Rattle.wire.specs.Tag.{tagOf, tagAt}
@@ -266,6 +266,14 @@ module _ (s t : List ℕ) (m : ℕ) where
   unfolding fieldAt
   field-keeps p a = ofTag-keeps p a (tagAt s p) (tagAt t p) (tag-keeps s t m a) (tag-past s p)
 
+-- what is read of a field lies within the bytes
+field-read : (s : List ℕ) (p : ℕ) {n w v start len next : ℕ} → fieldAt s p ≡ Field.Good n w v start len next →
+    (reach w start next ≤ length s) × (next ≤ length s)
+field-read s p {n} {w} {v} {start} {len} {next} e = go (field-past s p)
+  where
+    go : PastField p (length s) (fieldAt s p) → (reach w start next ≤ length s) × (next ≤ length s)
+    go = rw e (λ h. (omega (arith, reach-le w start next (omega arith)), h .3))
+
 -- the same, of a field that was read
 pub field-kept : (s t : List ℕ) (m p : ℕ) → Agree s t p m → {n w v start len next : ℕ} →
     fieldAt s p ≡ Field.Good n w v start len next → reach w start next ≤ m → next ≤ length t →
@@ -275,6 +283,16 @@ field-kept s t m p a {n} {w} {v} {start} {len} {next} e = go (field-keeps s t m 
     go : KeepsField m (length t) (fieldAt s p) (fieldAt t p) → reach w start next ≤ m → next ≤ length t →
         fieldAt t p ≡ Field.Good n w v start len next
     go = rw e (λ k. k)
+
+-- where more bytes follow
+pub field-longer : (s q : List ℕ) (p : ℕ) {n w v start len next : ℕ} → fieldAt s p ≡ Field.Good n w v start len next →
+    fieldAt (s ++ q) p ≡ Field.Good n w v start len next
+field-longer s q p e =
+    let more = length-append s q in
+    let read = field-read s p e in
+    field-kept s (s ++ q) (length s) p
+    (record { here = omega arith; there = omega arith; same = λ i _ h. List·getD-append s q 0 i h }) e (read .0)
+    (omega (arith, read .1))
 
 -- the same bytes from p on
 pub record Tails (s t : List ℕ) (p : ℕ) : Type 0 where
@@ -289,14 +307,8 @@ tail-kept : (s t : List ℕ) (p : ℕ) → Tails s t p → {n w v start len next
     fieldAt s p ≡ Field.Good n w v start len next → fieldAt t p ≡ Field.Good n w v start len next
 tail-kept s t p a {n} {w} {v} {start} {len} {next} e =
     field-kept s t (length s) p
-    (record { here = omega arith; there = omega (arith, a .size); same = λ i h _. a .same i h }) e (read .0)
-    (omega (arith, a .size, read .1))
-  where
-    within : PastField p (length s) (fieldAt s p) → (reach w start next ≤ length s) × (next ≤ length s)
-    within = rw e (λ h. (omega (arith, reach-le w start next (omega arith)), h .3))
-
-    read : (reach w start next ≤ length s) × (next ≤ length s)
-    read = within (field-past s p)
+    (record { here = omega arith; there = omega (arith, a .size); same = λ i h _. a .same i h }) e
+    (field-read s p e .0) (omega (arith, a .size, field-read s p e .1))
 
 pub field-tail : (s t : List ℕ) (p : ℕ) → Tails s t p → fieldAt t p ≡ fieldAt s p
 field-tail s t p a = go (fieldAt s p) refl

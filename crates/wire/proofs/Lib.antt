@@ -6,3 +6,4 @@ pub mod FieldLaws
 pub mod LongLaws
 pub mod EnoughLaws
 pub mod AgreeLaws
+pub mod MovedLaws

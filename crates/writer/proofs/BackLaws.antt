@@ -31,7 +31,7 @@ use Rattle.message.specs.Simple.{fetchIn, fetchFrame}
 use Rattle.encode.specs.Field.{optionalField}
 use Rattle.writer.specs.RoundTrip.{given}
 use Rattle.writer.proofs.FieldLaws.{withNumber, reads-number, reads-optional, reads-then, whole-good}
-use Rattle.writer.proofs.TailLaws.{Tail}
+use Rattle.varint.proofs.TailLaws.{Tail}
 use Rattle.writer.proofs.WriteLaws.{frame-length}
 
 -- ---- the head

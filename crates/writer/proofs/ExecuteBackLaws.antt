@@ -28,11 +28,11 @@ use Rattle.message.specs.declared.request.Execute.{Execute}
 use Rattle.message.specs.declared.request.Request.{Request}
 use Rattle.message.specs.declared.request.Frame.{Frame}
 use Rattle.message.proofs.MessageLaws.{payload-good, within-there, execute-good}
-use Rattle.writer.specs.Moved.{moved}
+use Rattle.args.specs.Moved.{moved}
 use Rattle.encode.specs.Field.{optionalField}
 use Rattle.writer.specs.RoundTrip.{given}
-use Rattle.writer.proofs.TailLaws.{tail-length, tail-stands, Stands, stands-length, stands-first, stands-next}
-use Rattle.writer.proofs.TailLaws.{stands-cut}
+use Rattle.varint.proofs.TailLaws.{tail-length, tail-stands, Stands, stands-length, stands-first, stands-next}
+use Rattle.varint.proofs.TailLaws.{stands-cut}
 use Rattle.writer.proofs.FieldLaws.{withNumber, withBytes, behindTag, reads-number, reads-bytes, reads-optional}
 use Rattle.writer.proofs.FieldLaws.{reads-then, whole-good, embedded-good, stands-inside}
 use Rattle.writer.proofs.ArgListLaws.{together-kept, together-moved}

@@ -26,8 +26,8 @@ use Rattle.layout.proofs.FieldsLaws.{Listing, starts, ends, goes-on, checked-go
 use Rattle.args.specs.Part.{embedded}
 use Rattle.args.proofs.PartLaws.{part-within}
 use Rattle.encode.specs.Field.{optionalField}
-use Rattle.writer.proofs.TailLaws.{Stands, stands-length, stands-first, stands-next, stands-cut, Tail}
-use Rattle.writer.proofs.TailLaws.{tail-length, tail-stands}
+use Rattle.varint.proofs.TailLaws.{Stands, stands-length, stands-first, stands-next, stands-cut, Tail}
+use Rattle.varint.proofs.TailLaws.{tail-length, tail-stands}
 
 -- ---- one field
 

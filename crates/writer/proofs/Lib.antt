@@ -2,12 +2,7 @@ pub mod SizeLaws
 pub mod JudgeLaws
 pub mod PayloadLaws
 pub mod WriteLaws
-pub mod TailLaws
-pub mod MovedLaws
-pub mod AlikeLaws
-pub mod MovedArgLaws
 pub mod ArgListLaws
-pub mod LongerLaws
 pub mod FieldLaws
 pub mod StretchLaws
 pub mod ListsLaws

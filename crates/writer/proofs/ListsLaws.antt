@@ -20,12 +20,13 @@ use Rattle.args.proofs.PlaceLaws.{Seeking, starts, ends, no-field, advances, fo
 use Rattle.args.proofs.PlaceLaws.{next-placed}
 use Rattle.args.proofs.ArgumentsLaws.{type-good}
 use Rattle.encode.specs.Field.{numberField}
-use Rattle.writer.specs.Moved.{moved}
+use Rattle.args.specs.Moved.{moved}
 use Rattle.encode.specs.Field.{optionalField}
-use Rattle.writer.proofs.TailLaws.{less-or-not, Tail, tail-length, tail-stands, Stands, stands-length}
-use Rattle.writer.proofs.TailLaws.{stands-first, stands-next}
-use Rattle.writer.proofs.MovedArgLaws.{argument-moved}
-use Rattle.writer.proofs.ArgListLaws.{field-inside, args-none, args-found}
+use Rattle.varint.proofs.TailLaws.{less-or-not, Tail, tail-length, tail-stands, Stands, stands-length}
+use Rattle.varint.proofs.TailLaws.{stands-first, stands-next}
+use Rattle.args.proofs.MovedArgLaws.{argument-moved}
+use Rattle.args.proofs.MovedArgLaws.{field-inside, args-found}
+use Rattle.args.proofs.ArgumentsLaws.{from-none as args-none}
 use Rattle.writer.proofs.FieldLaws.{number-reads}
 use Rattle.writer.proofs.StretchLaws.{Stretch, done, more, there}
 

@@ -28,14 +28,15 @@ use Rattle.message.specs.Prepare.{bodyIn, prepareFrom, prepareRead, prepareOf, 
 use Rattle.message.specs.declared.request.Request.{Request}
 use Rattle.message.specs.declared.request.Frame.{Frame}
 use Rattle.message.proofs.MessageLaws.{payload-good, within-there, body-list, body-list-bad}
-use Rattle.writer.specs.Moved.{moved}
+use Rattle.args.specs.Moved.{moved}
 use Rattle.writer.specs.Judge.{isType, goodBody}
-use Rattle.writer.proofs.TailLaws.{tail-length, tail-stands, Stands, stands-length, stands-next, stands-cut}
+use Rattle.varint.proofs.TailLaws.{tail-length, tail-stands, Stands, stands-length, stands-next, stands-cut}
 use Rattle.writer.proofs.FieldLaws.{withNumber, withBytes, reads-number, reads-bytes, reads-then, whole-good}
 use Rattle.writer.proofs.FieldLaws.{embedded-good, stands-inside}
 use Rattle.writer.proofs.JudgeLaws.{type-none}
-use Rattle.writer.proofs.AlikeLaws.{same-or-not, embedded-alike}
-use Rattle.writer.proofs.ArgListLaws.{args-moved, together-kept, together-moved}
+use Rattle.layout.proofs.KeptLaws.{same-or-not}
+use Rattle.args.proofs.MovedArgLaws.{embedded-alike, args-moved}
+use Rattle.writer.proofs.ArgListLaws.{together-kept, together-moved}
 use Rattle.writer.proofs.BackLaws.{payload-tail}
 use Rattle.writer.proofs.ExecuteBackLaws.{Held, partStart}
 

@@ -27,7 +27,7 @@ use Rattle.message.specs.Frame.{frameIn, frameOf, partOf, bodyIn, argumentAt, a
 use Rattle.message.specs.declared.request.Request.{Request}
 use Rattle.message.specs.declared.request.Frame.{Frame}
 use Rattle.writer.specs.declared.Draft.{Draft}
-use Rattle.writer.specs.Moved.{moved}
+use Rattle.args.specs.Moved.{moved}
 use Rattle.writer.specs.Judge.{accepted, acceptedAs, goodPrepare, goodStretch, isType, goodBody}
 use Rattle.writer.specs.Payload.{payloadAs, payloadOf, executePayload, prepareStmtPayload, preparePayload}
 use Rattle.writer.specs.Payload.{openStmtPayload, openPayload, fetchPayload}
@@ -36,9 +36,9 @@ use Rattle.writer.specs.RoundTrip.{Sized, hasStmt, hasCursor, hasRows, h
 use Rattle.writer.specs.RoundTrip.{RoundTrip, WrittenReads}
 use Rattle.writer.proofs.JudgeLaws.{kind-none}
 use Rattle.writer.proofs.WriteLaws.{frame-length}
-use Rattle.writer.proofs.TailLaws.{Stands, stands-length, stands-bytes, stands-more, tail-stands}
+use Rattle.varint.proofs.TailLaws.{Stands, stands-length, stands-bytes, stands-more, tail-stands}
 use Rattle.writer.proofs.ArgListLaws.{nth-moved}
-use Rattle.writer.proofs.AlikeLaws.{same-or-not}
+use Rattle.layout.proofs.KeptLaws.{same-or-not}
 use Rattle.writer.proofs.StretchLaws.{stretch-of}
 use Rattle.writer.proofs.BackLaws.{frame-is, payload-tail, reset-back, session-close-back, deallocate-back}
 use Rattle.writer.proofs.BackLaws.{close-back, fetch-back}

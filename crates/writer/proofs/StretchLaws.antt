@@ -17,10 +17,10 @@ use Rattle.layout.proofs.FieldsLaws.{Listing, goes-on}
 use Rattle.args.specs.Value.{argumentIn}
 use Rattle.args.specs.Arguments.{anyTypeOf}
 use Rattle.writer.specs.Judge.{onArg, argsFrom, goodStretch}
-use Rattle.writer.proofs.TailLaws.{less-or-not, Stands, stands-length}
-use Rattle.writer.proofs.MovedLaws.{movedField, field-moved}
-use Rattle.writer.proofs.ArgListLaws.{field-inside}
-use Rattle.writer.proofs.LongerLaws.{field-longer}
+use Rattle.varint.proofs.TailLaws.{less-or-not, Stands, stands-length}
+use Rattle.wire.proofs.MovedLaws.{movedField, field-moved}
+use Rattle.wire.proofs.AgreeLaws.{field-longer}
+use Rattle.args.proofs.MovedArgLaws.{field-inside}
 use Rattle.writer.proofs.FieldLaws.{Reads}
 
 -- good args fields from the place i to the end of a
@@ -91,7 +91,7 @@ module _ {s : List ℕ} {at : ℕ} {a q : List ℕ} (k : Stands s at a q) where
       fieldAt s (at + i) ≡ Field.Good 2 2 v (at + st) ln (at + next)
   there i {v} {st} {ln} {next} e =
       field-moved (record { within = k .within; is = k .there }) i
-      ∙ ap (movedField at) (field-longer a q 2 v st ln next i e)
+      ∙ ap (movedField at) (field-longer a q i e)
 
   listing-stretch : (rows : List (List ℕ)) → ((v : ℕ) → useOf rows 2 2 v ≡ Use.Counted) →
       (from i : ℕ) (x : Slots) (g : Stretch a i) →

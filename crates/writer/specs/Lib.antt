@@ -1,5 +1,4 @@
 pub mod Judge
 pub mod Payload
 pub mod Write
-pub mod Moved
 pub mod RoundTrip

@@ -15,7 +15,7 @@ use Rattle.message.specs.declared.request.Optional.{Optional}
 use Rattle.message.specs.declared.request.Request.{Request}
 use Rattle.message.specs.declared.request.Frame.{Frame}
 use Rattle.writer.specs.declared.Draft.{Draft}
-use Rattle.writer.specs.Moved.{moved}
+use Rattle.args.specs.Moved.{moved}
 use Rattle.writer.specs.Payload.{executePayload}
 use Rattle.writer.specs.Write.{frameBytes, draftReason, writeReason, leftOf}
 

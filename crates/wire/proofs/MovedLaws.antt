@@ -14,18 +14,19 @@ use Rattle.varint.proofs.GroupLaws.{groups-none, groups-end, groups-last, group
 use Rattle.varint.proofs.ShortestLaws.{below-or-not}
 use Rattle.scalar.specs.Fixed.{little}
 use Rattle.scalar.specs.declared.fixed.Fixed.{Fixed}
 use Rattle.wire.specs.Tag.{tagOf, tagAt}
 use Rattle.wire.specs.Value.{ofVarint, ofLength, ofFixed, asFixed, valueAt}
 use Rattle.wire.specs.Group.{behind, skipValue, groupEnd}
 use Rattle.wire.specs.Field.{maxDepth, ofValue, ofGroup, ofTag, fieldAt}
 use Rattle.wire.specs.declared.tag.Tag.{Tag}
 use Rattle.wire.specs.declared.value.Value.{Value}
 use Rattle.wire.specs.declared.group.Skip.{Skip}
 use Rattle.wire.specs.declared.field.Field.{Field}
 use Rattle.wire.proofs.FieldLaws.{field-tagged}
-use Rattle.wire.proofs.GroupLaws.{Skipping, starts, shut, unended, no-tag, ended, misended, inner-bad, inner-past}
-use Rattle.wire.proofs.GroupLaws.{inner-on, value-bad, value-past, value-on}
-use Rattle.writer.proofs.TailLaws.{less-or-not, chosen-alike, leb-add, Tail, tail-length, tail-byte}
+use Rattle.wire.proofs.GroupLaws.{Skipping, starts, shut, unended, no-tag, ended, misended, inner-bad}
+use Rattle.wire.proofs.GroupLaws.{inner-past, inner-on, value-bad, value-past, value-on}
+pub use Rattle.varint.proofs.TailLaws.{less-or-not, Tail, tail-length, Stands, stands-length, stands-take}
+use Rattle.varint.proofs.TailLaws.{chosen-alike, leb-add, tail-byte}
 
 abbrev pub movedVarint : ℕ → Varint → Varint
 movedVarint d (Varint.Number v next) = Varint.Number v (d + next)

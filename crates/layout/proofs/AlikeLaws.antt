@@ -1,29 +1,27 @@
 -- Field lists read in bytes and in a byte string that holds these bytes: they are alike but for the places. Assumes
 -- nothing.
-use Prim.Native.Nat.{ℕ, zero, suc, _+_, _-_, _≤_, _<_}
+use Prim.Native.Nat.{ℕ, zero, suc, _+_, _≤_, _<_}
 use native.Mathlib.Omega.{arith}
-use mathlib.Core.Bool.{Bool, true, false, cond}
+use mathlib.Core.Bool.{Bool, true, false}
 use mathlib.Core.Path.{_≡_, refl, sym, ap, subst, _∙_}
 use mathlib.Core.List.{List}
-use lib.ListN.{length, getD, set, take, replicate, length-set}
-use lib.Seq.{getD-set-same, getD-set-other, length-take-le}
-use lib.Dec.{eqb}
-use borrow.Author.Tests.{eqb-true, eqb-false}
+use lib.ListN.{length, getD, set, length-set}
+use lib.Seq.{getD-set-same, getD-set-other}
 use Rattle.wire.specs.Field.{fieldAt}
 use Rattle.wire.specs.Past.{PastField}
 use Rattle.wire.specs.declared.field.Field.{Field}
 use Rattle.wire.proofs.PastLaws.{field-past}
-use Rattle.layout.specs.Row.{isRepeated, rowFor, takes}
+use Rattle.wire.proofs.MovedLaws.{movedField, field-moved, less-or-not, Tail, tail-length}
+use Rattle.layout.specs.Row.{isRepeated, rowFor, slotCount}
 use Rattle.layout.specs.Slots.{noSlots, badSlots}
 use Rattle.layout.specs.Fields.{useOf, noted, fieldList, hasRequired, checked, fieldsAt}
 use Rattle.layout.specs.declared.slots.Slots.{Slots}
 use Rattle.layout.specs.declared.fields.Use.{Use}
-use Rattle.layout.proofs.FieldsLaws.{Listing, starts, ends, no-field, advances, goes-on, kept-slot, checked-good}
-use Rattle.layout.proofs.FieldsLaws.{checked-bad}
-use Rattle.args.specs.Part.{embedded, countOf, startOf, lenOf}
-use Rattle.args.proofs.PartLaws.{part-within}
-use Rattle.writer.proofs.TailLaws.{less-or-not, Tail, tail-length, Stands, stands-length, stands-take}
-use Rattle.writer.proofs.MovedLaws.{movedField, field-moved}
+use Rattle.layout.proofs.FieldsLaws.{Listing, starts, ends, no-field, advances, goes-on, kept-slot}
+use Rattle.layout.proofs.FieldsLaws.{checked-good, checked-bad}
+use Rattle.layout.specs.FieldsRules.{startIn}
+use Rattle.layout.proofs.KeptLaws.{zeros, same-or-not, Kept, none-kept, bad-kept, noted-kept}
+use Rattle.layout.proofs.UnreadLaws.{counted-repeated}
 
 -- x is read in n bytes, and y in a byte string that holds them at the place d
 pub record Alike (rows : List (List ℕ)) (d n : ℕ) (x y : Slots) : Type 0 where
@@ -31,33 +29,11 @@ pub record Alike (rows : List (List ℕ)) (d n : ℕ) (x y : Slots) : Type 0 whe
   pub count : y .count ≡ x .count
   pub value : y .value ≡ x .value
   pub len : y .len ≡ x .len
-  pub slots : (length (x .start) ≡ 10) × (length (y .start) ≡ 10) × (length (x .len) ≡ 10)
-  pub inside : (k : ℕ) → startOf x k + lenOf x k ≤ n
+  pub kept : Kept n x
+  pub starts : length (y .start) ≡ slotCount
   -- a field that is kept and occurs
-  pub start : (k : ℕ) → isRepeated (rowFor rows k) ≡ false → (countOf x k ≡ 0 → ⊥) → startOf y k ≡ d + startOf x k
-
-zeros : (n k : ℕ) → _≡_ {A = ℕ} (getD (replicate n 0) k 0) 0
-zeros zero k = refl
-zeros (suc n) zero = refl
-zeros (suc n) (suc k) = zeros n k
-
--- an index is the one that was set, or another
-pub same-or-not : {A : Type 0} (k i : ℕ) → (k ≡ i → A) → ((k ≡ i → ⊥) → A) → A
-same-or-not {A} k i f g = go (eqb k i) refl
-  where
-    go : (b : Bool) → eqb k i ≡ b → A
-    go true e = f (eqb-true k i e)
-    go false e = g (eqb-false k i e)
-
--- a field that is only counted is a repeated one
-counted-repeated : (rows : List (List ℕ)) (number w v : ℕ) → useOf rows number w v ≡ Use.Counted →
-    isRepeated (rowFor rows number) ≡ true
-counted-repeated rows number w v = go (takes (rowFor rows number) number w v) (isRepeated (rowFor rows number))
-  where
-    go : (a b : Bool) → cond a (cond b Use.Counted Use.Kept) Use.Unknown ≡ Use.Counted → b ≡ true
-    go true true e = refl
-    go true false e = absurd (let z : _≡_ {A = ℕ} 0 1 = cc in omega arith)
-    go false b e = absurd (let z : _≡_ {A = ℕ} 0 1 = cc in omega arith)
+  pub start : (k : ℕ) → isRepeated (rowFor rows k) ≡ false → (getD (x .count) k 0 ≡ 0 → ⊥) →
+      startIn y k ≡ d + startIn x k
 
 module _ (rows : List (List ℕ)) (d n : ℕ) where
   pub none-alike : Alike rows d n noSlots noSlots
@@ -67,9 +43,9 @@ module _ (rows : List (List ℕ)) (d n : ℕ) where
         count = refl;
         value = refl;
         len = refl;
-        slots = (refl, refl, refl);
-        inside = λ k. omega (arith, zeros 10 k);
-        start = λ k _ h. absurd (h (zeros 10 k));
+        kept = none-kept n;
+        starts = refl;
+        start = λ k _ h. absurd (h (zeros slotCount k));
       }
 
   pub bad-alike : Alike rows d n badSlots badSlots
@@ -79,9 +55,9 @@ module _ (rows : List (List ℕ)) (d n : ℕ) where
         count = refl;
         value = refl;
         len = refl;
-        slots = (refl, refl, refl);
-        inside = λ k. omega (arith, zeros 10 k);
-        start = λ k _ h. absurd (h (zeros 10 k));
+        kept = bad-kept n;
+        starts = refl;
+        start = λ k _ h. absurd (h (zeros slotCount k));
       }
 
   pub alike-as : {x y x′ y′ : Slots} → x ≡ x′ → y ≡ y′ → Alike rows d n x y → Alike rows d n x′ y′
@@ -99,8 +75,8 @@ module _ (rows : List (List ℕ)) (d n : ℕ) where
           count = ap (λ (l : List ℕ). set l number (getD l number 0 + 1)) (a .count);
           value = a .value;
           len = a .len;
-          slots = a .slots;
-          inside = a .inside;
+          kept = noted-kept rows n (a .kept) number w v st ln in-n Use.Counted (sym e);
+          starts = a .starts;
           start = λ k r h.
               same-or-not k number
               (λ z.
@@ -109,7 +85,7 @@ module _ (rows : List (List ℕ)) (d n : ℕ) where
               let r″ = counted-repeated rows number w v e in
               let z : _≡_ {A = ℕ} 0 1 = cc in
               omega arith))
-              (λ z. a .start k r (λ o. h (getD-set-other (x .count) number k (countOf x number + 1) 0 z ∙ o)));
+              (λ z. a .start k r (λ o. h (getD-set-other (x .count) number k (getD (x .count) number 0 + 1) 0 z ∙ o)));
         }
     noted-alike Use.Kept e =
         record {
@@ -117,28 +93,8 @@ module _ (rows : List (List ℕ)) (d n : ℕ) where
           count = ap (λ (l : List ℕ). set l number (getD l number 0 + 1)) (a .count);
           value = ap (λ (l : List ℕ). set l number v) (a .value);
           len = ap (λ (l : List ℕ). set l number ln) (a .len);
-          slots = (
-            length-set (x .start) number st ∙ a .slots .0,
-            length-set (y .start) number (d + st) ∙ a .slots .1,
-            length-set (x .len) number ln ∙ a .slots .2,
-          );
-          inside = λ k.
-              same-or-not k number
-              (λ z.
-              omega (
-                arith,
-                ap (λ (m : ℕ). getD (set (x .start) number st) m 0) z,
-                ap (λ (m : ℕ). getD (set (x .len) number ln) m 0) z,
-                getD-set-same (x .start) number st 0 small,
-                getD-set-same (x .len) number ln 0 small-len,
-              ))
-              (λ z.
-              omega (
-                arith,
-                getD-set-other (x .start) number k st 0 z,
-                getD-set-other (x .len) number k ln 0 z,
-                a .inside k,
-              ));
+          kept = noted-kept rows n (a .kept) number w v st ln in-n Use.Kept (sym e);
+          starts = length-set (y .start) number (d + st) ∙ a .starts;
           start = λ k r h.
               same-or-not k number
               (λ z.
@@ -148,18 +104,15 @@ module _ (rows : List (List ℕ)) (d n : ℕ) where
               ∙ ap (λ (m : ℕ). d + getD (set (x .start) number st) m 0) (sym z))
               (λ z.
               getD-set-other (y .start) number k (d + st) 0 z
-              ∙ a .start k r (λ o. h (getD-set-other (x .count) number k (countOf x number + 1) 0 z ∙ o))
+              ∙ a .start k r (λ o. h (getD-set-other (x .count) number k (getD (x .count) number 0 + 1) 0 z ∙ o))
               ∙ ap (λ (m : ℕ). d + m) (sym (getD-set-other (x .start) number k st 0 z)));
         }
       where
         small : number < length (x .start)
-        small = omega (arith, kept-slot rows number w v (sym e), a .slots .0)
+        small = omega (arith, kept-slot rows number w v (sym e), a .kept .starts)
 
         small-too : number < length (y .start)
-        small-too = omega (arith, kept-slot rows number w v (sym e), a .slots .1)
-
-        small-len : number < length (x .len)
-        small-len = omega (arith, kept-slot rows number w v (sym e), a .slots .2)
+        small-too = omega (arith, kept-slot rows number w v (sym e), a .starts)
 
 -- two walks through a field list, one in the bytes and one in what holds them
 module _ (rows : List (List ℕ)) {s : List ℕ} {d : ℕ} {t : List ℕ} (k : Tail s d t) (from : ℕ) where
@@ -213,26 +166,3 @@ module _ (rows : List (List ℕ)) {s : List ℕ} {d : ℕ} {t : List ℕ} (k : T
       go x y a false e =
           alike-as rows d (length t) (checked-bad rows x e) (checked-bad rows y (ap (hasRequired rows) (a .count) ∙ e))
           (bad-alike rows d (length t))
-
-pub alike-more : {rows : List (List ℕ)} {d n m : ℕ} {x y : Slots} → n ≤ m → Alike rows d n x y → Alike rows d m x y
-alike-more h a =
-    record {
-      good = a .good;
-      count = a .count;
-      value = a .value;
-      len = a .len;
-      slots = a .slots;
-      inside = λ k. omega (arith, a .inside k);
-      start = a .start;
-    }
-
--- a message embedded in the bytes
-pub embedded-alike : (rows : List (List ℕ)) {s : List ℕ} {d : ℕ} {t q : List ℕ} → Stands s d t q → (at n : ℕ) →
-    at + n ≤ length t →
-    Alike rows d (length t) (embedded rows t at n) (embedded rows s (d + at) n)
-embedded-alike rows {s} {d} {t} {q} k at n h =
-    let e : d + (at + n) ≡ d + at + n = omega arith in
-    alike-as rows d (length t) (part-within rows t at n h)
-    (ap (λ (m : ℕ). fieldsAt rows (take m s) (d + at)) e
-    ∙ part-within rows s (d + at) n (omega (arith, stands-length k)))
-    (alike-more (omega (arith, length-take-le (at + n) t h)) (fields-alike rows (stands-take k (at + n) h) at))

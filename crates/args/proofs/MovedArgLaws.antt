@@ -1,26 +1,72 @@
 -- Arguments read in bytes and in a byte string that holds these bytes: the same, moved. Assumes nothing.
-use Prim.Native.Nat.{ℕ, _+_, _-_, _≤_}
+use Prim.Native.Nat.{ℕ, zero, suc, _+_, _≤_, _<_}
 use native.Mathlib.Omega.{arith}
 use mathlib.Core.Bool.{Bool, true, false, not, cond}
-use mathlib.Core.Path.{_≡_, refl, ap, _∙_}
-use mathlib.Core.List.{List}
+use mathlib.Core.Path.{_≡_, refl, sym, ap, _∙_}
+use mathlib.Core.List.{List, _∷_, map}
 use lib.ListN.{length, getD, take}
+use lib.Seq.{length-take-le}
 use lib.Dec.{leb, eqb}
 use lib.Ieee.{Float, Format, binary32, binary64, nanBits}
-use borrow.Author.Tests.{eq-eqb, eqb-false}
+use borrow.Author.Tests.{eq-eqb, eqb-true, eqb-false}
+use Rattle.varint.proofs.TailLaws.{chosen-alike, Tail, tail-length, tail-stands, less-or-not}
+use Rattle.varint.proofs.TailLaws.{Stands, stands-length, stands-take}
+use Rattle.wire.specs.Field.{fieldAt}
+use Rattle.wire.specs.Past.{PastField}
+use Rattle.wire.specs.declared.field.Field.{Field}
+use Rattle.wire.proofs.PastLaws.{field-past}
+use Rattle.wire.proofs.MovedLaws.{movedField, field-moved}
 use Rattle.scalar.specs.Argument.{carried, doubleOf, floatOf, signedOf}
 use Rattle.scalar.specs.declared.argument.Argument.{Argument}
 use Rattle.scalar.specs.declared.argument.Argument.the-variants as Va
 use Rattle.layout.specs.Table.{rowsOf, any, scalar, bytes}
 use Rattle.layout.specs.Row.{isRepeated, rowFor}
 use Rattle.layout.specs.Slots.{badSlots}
-use Rattle.layout.specs.Fields.{hasRequired, checked, fieldList}
+use Rattle.layout.specs.Fields.{hasRequired, checked, fieldList, fieldsAt}
 use Rattle.layout.specs.declared.slots.Slots.{Slots}
+use Rattle.layout.proofs.AlikeLaws.{Alike, alike-as, fields-alike}
 use Rattle.args.specs.Part.{embedded, countOf, valueOf, startOf, lenOf, low32}
 use Rattle.args.specs.Value.{bad, present, bytesOf, bytesIn, ofType, scalarOf, ofAnyType, anyOf, argumentIn}
-use Rattle.writer.specs.Moved.{moved}
-use Rattle.writer.proofs.TailLaws.{chosen-alike, Stands}
-use Rattle.writer.proofs.AlikeLaws.{Alike, embedded-alike}
+use Rattle.args.specs.Arguments.{argPlace, ofPlace, nextArgument, andMore, argumentsFrom}
+use Rattle.args.specs.Moved.{moved}
+use Rattle.args.specs.declared.arguments.ArgPlace.{ArgPlace}
+use Rattle.args.specs.declared.arguments.NextArgument.{NextArgument}
+use Rattle.args.proofs.PartLaws.{part-within}
+use Rattle.args.proofs.PlaceLaws.{Seeking, starts, ends, no-field, advances, found, other-wire, other-number}
+use Rattle.args.proofs.PlaceLaws.{next-end, next-placed}
+use Rattle.args.proofs.ArgumentsLaws.{from-none, advances as next-advances}
+
+-- ---- embedded messages
+
+alike-more : {rows : List (List ℕ)} {d n m : ℕ} {x y : Slots} → n ≤ m → Alike rows d n x y → Alike rows d m x y
+alike-more h a =
+    record {
+      good = a .good;
+      count = a .count;
+      value = a .value;
+      len = a .len;
+      kept =
+          record {
+            starts = a .kept .starts;
+            lens = a .kept .lens;
+            inside = λ k. omega (arith, a .kept .inside k);
+          };
+      starts = a .starts;
+      start = a .start;
+    }
+
+-- a message embedded in the bytes
+pub embedded-alike : (rows : List (List ℕ)) {s : List ℕ} {d : ℕ} {t q : List ℕ} → Stands s d t q → (at n : ℕ) →
+    at + n ≤ length t →
+    Alike rows d (length t) (embedded rows t at n) (embedded rows s (d + at) n)
+embedded-alike rows {s} {d} {t} {q} k at n h =
+    let e : d + (at + n) ≡ d + at + n = omega arith in
+    alike-as rows d (length t) (part-within rows t at n h)
+    (ap (λ (m : ℕ). fieldsAt rows (take m s) (d + at)) e
+    ∙ part-within rows s (d + at) n (omega (arith, stands-length k)))
+    (alike-more (omega (arith, length-take-le (at + n) t h)) (fields-alike rows (stands-take k (at + n) h) at))
+
+-- ---- one argument
 
 -- a value that must be present, and then is moved
 present-moved : (d count : ℕ) (a b : Argument) → ((count ≡ 0 → ⊥) → b ≡ moved d a) →
@@ -119,7 +165,7 @@ module _ {s : List ℕ} {d : ℕ} {t q : List ℕ} (k : Stands s d t q) where
         (λ z.
         ap (λ (m : ℕ). bytesIn octets s m (lenOf y i)) (a .start i r z)
         ∙ ap (λ (m : ℕ). bytesIn octets s (d + startOf x i) m) (ap (λ (l : List ℕ). getD l i 0) (a .len))
-        ∙ bytes-moved octets (startOf x i) (lenOf x i) (a .inside i))
+        ∙ bytes-moved octets (startOf x i) (lenOf x i) (a .kept .inside i))
 
     type-moved : (c : ℕ) → ofType s y c ≡ moved d (ofType t x c)
     unfolding ofType
@@ -151,7 +197,7 @@ module _ {s : List ℕ} {d : ℕ} {t q : List ℕ} (k : Stands s d t q) where
         (ap (λ (l : List ℕ). getD l 2 0) (a .len))
         ∙ scalar-moved (embedded (rowsOf scalar) t (startOf x 2) (lenOf x 2))
         (embedded (rowsOf scalar) s (d + startOf x 2) (lenOf x 2))
-        (embedded-alike (rowsOf scalar) k (startOf x 2) (lenOf x 2) (a .inside 2))
+        (embedded-alike (rowsOf scalar) k (startOf x 2) (lenOf x 2) (a .kept .inside 2))
 
     any-type-moved : (c : ℕ) → ofAnyType s y c ≡ moved d (ofAnyType t x c)
     unfolding ofAnyType
@@ -175,3 +221,96 @@ module _ {s : List ℕ} {d : ℕ} {t q : List ℕ} (k : Stands s d t q) where
   argument-moved at n h =
       any-moved (embedded (rowsOf any) t at n) (embedded (rowsOf any) s (d + at) n)
       (embedded-alike (rowsOf any) k at n h)
+
+-- ---- the arguments of a message, one by one and all
+
+abbrev pub movedNext : ℕ → NextArgument → NextArgument
+movedNext d (NextArgument.Found a next) = NextArgument.Found (moved d a) (d + next)
+movedNext d NextArgument.End = NextArgument.End
+
+-- a field ends within the bytes
+pub field-inside : (s : List ℕ) (p : ℕ) {n w v st ln next : ℕ} → fieldAt s p ≡ Field.Good n w v st ln next →
+    (st + ln ≤ length s) × (p < next) × (next ≤ length s)
+field-inside s p {n} {w} {v} {st} {ln} {next} e = go (field-past s p)
+  where
+    go : PastField p (length s) (fieldAt s p) → (st + ln ≤ length s) × (p < next) × (next ≤ length s)
+    go = rw e (λ h. (omega arith, h .2, h .3))
+
+-- ---- the next argument
+
+module _ {s : List ℕ} {d : ℕ} {t : List ℕ} (k : Tail s d t) (at : ℕ) where
+  abbrev Same : Type 0
+  Same = nextArgument s (d + at) ≡ movedNext d (nextArgument t at)
+
+  both-placed : (x y : ArgPlace) → x ≡ argPlace t at → y ≡ argPlace s (d + at) →
+      ofPlace s y ≡ movedNext d (ofPlace t x) → Same
+  both-placed x y e f h = sym (next-placed s (d + at) y f) ∙ h ∙ ap (movedNext d) (next-placed t at x e)
+
+  module _ (p : ℕ) (i : p < length t) (f : Seeking t at p) (g : Seeking s (d + at) (d + p))
+      (on : (q : ℕ) → p < q → Seeking t at q → Seeking s (d + at) (d + q) → Same) where
+    j : d + p < length s
+    j = omega (arith, tail-length k)
+
+    by-field : (z : Field) → fieldAt t p ≡ z → Same
+    by-field Field.Bad e =
+        both-placed ArgPlace.Bad ArgPlace.Bad (no-field f i e) (no-field g j (field-moved k p ∙ ap (movedField d) e))
+        (ap (λ (n : ℕ). NextArgument.Found (Va.Refused 6) n) (tail-length k))
+    by-field (Field.Good n w v st ln next) e = by-number (eqb n 2) refl
+      where
+        e′ : fieldAt s (d + p) ≡ Field.Good n w v (d + st) ln (d + next)
+        e′ = field-moved k p ∙ ap (movedField d) e
+
+        by-wire : n ≡ 2 → (b : Bool) → eqb w 2 ≡ b → Same
+        by-wire h true b =
+            both-placed (ArgPlace.At st ln next) (ArgPlace.At (d + st) ln (d + next)) (found f i e h (eqb-true w 2 b))
+            (found g j e′ h (eqb-true w 2 b))
+            (ap (λ (a : Argument). NextArgument.Found a (d + next))
+            (argument-moved (tail-stands k) st ln (field-inside t p e .0)))
+        by-wire h false b =
+            on next (advances f i e) (other-wire f i e h (eqb-false w 2 b)) (other-wire g j e′ h (eqb-false w 2 b))
+
+        by-number : (b : Bool) → eqb n 2 ≡ b → Same
+        by-number true b = by-wire (eqb-true n 2 b) (eqb w 2) refl
+        by-number false b =
+            on next (advances f i e) (other-number f i e (eqb-false n 2 b)) (other-number g j e′ (eqb-false n 2 b))
+
+  walks : (most p : ℕ) → length t ≤ p + most → Seeking t at p → Seeking s (d + at) (d + p) → Same
+  walks zero p h f g =
+      both-placed ArgPlace.End ArgPlace.End (ends f (omega arith)) (ends g (omega (arith, tail-length k))) refl
+  walks (suc most) p h f g =
+      less-or-not p (length t) (λ i. by-field p i f g (λ q z. walks most q (omega arith)) (fieldAt t p) refl)
+      (λ i. both-placed ArgPlace.End ArgPlace.End (ends f i) (ends g (omega (arith, tail-length k))) refl)
+
+  pub next-moved : Same
+  next-moved = walks (length t) at (omega arith) (starts t at) (starts s (d + at))
+
+-- ---- all arguments
+
+pub args-found : (m : ℕ) (s : List ℕ) (at : ℕ) {a : Argument} {next : ℕ} →
+    nextArgument s at ≡ NextArgument.Found a next →
+    argumentsFrom (suc m) s at ≡ a ∷ argumentsFrom m s next
+unfolding argumentsFrom
+args-found m s at e = ap (andMore (λ next. argumentsFrom m s next)) e
+
+module _ {s : List ℕ} {d : ℕ} {t : List ℕ} (k : Tail s d t) where
+  pub args-moved : (m n at : ℕ) → length t ≤ at + m → length t ≤ at + n →
+      argumentsFrom n s (d + at) ≡ map (moved d) (argumentsFrom m t at)
+  args-moved zero n at h g =
+      from-none n s (d + at) (next-end s (d + at) (omega (arith, tail-length k)))
+      ∙ sym (ap (map (moved d)) (from-none zero t at (next-end t at (omega arith))))
+  args-moved (suc m) zero at h g =
+      from-none zero s (d + at) (next-end s (d + at) (omega (arith, tail-length k)))
+      ∙ sym (ap (map (moved d)) (from-none (suc m) t at (next-end t at (omega arith))))
+  args-moved (suc m) (suc n) at h g =
+      go (λ next a. args-moved m n next (omega arith) (omega arith)) (nextArgument t at) refl
+    where
+      go : ((next : ℕ) → at < next → argumentsFrom n s (d + next) ≡ map (moved d) (argumentsFrom m t next)) →
+          (x : NextArgument) → nextArgument t at ≡ x →
+          argumentsFrom (suc n) s (d + at) ≡ map (moved d) (argumentsFrom (suc m) t at)
+      go on (NextArgument.Found a next) e =
+          args-found n s (d + at) (next-moved k at ∙ ap (movedNext d) e)
+          ∙ ap (λ (l : List Argument). moved d a ∷ l) (on next (next-advances t at e .0))
+          ∙ sym (ap (map (moved d)) (args-found m t at e))
+      go on NextArgument.End e =
+          from-none (suc n) s (d + at) (next-moved k at ∙ ap (movedNext d) e)
+          ∙ sym (ap (map (moved d)) (from-none (suc m) t at e))
