@@ -1,6 +1,8 @@
 pub mod PartLaws
 pub mod ValueLaws
 pub mod PairLaws
+pub mod TextLaws
+pub mod KindLaws
 pub mod PlaceLaws
 pub mod ArgumentsLaws
 pub mod TypedLaws

@@ -5,9 +5,10 @@ use mathlib.Core.Bool.{cond}
 use mathlib.Core.List.{List}
 use lib.ListN.{length, take, getD}
 use lib.Dec.{ltb, leb, eqb}
-use Rattle.wire.specs.Value.{valueAt}
+use Rattle.wire.specs.Value.{asLength, valueAt}
 use Rattle.wire.specs.declared.value.Value.{Value}
 use Rattle.args.specs.declared.pair.Pair.{Pair}
+use Rattle.args.specs.declared.pair.Text.{Text}
 
 -- the value behind the two bytes must end where the message does
 abbrev pub pairOf : ℕ → ℕ → ℕ → Value → Pair
@@ -40,3 +41,16 @@ loneIn s at n =
     (cond (ltb (getD s (at + 1) 0) 128) (getD s (at + 1) 0) 0)
     0))
     0
+
+-- field 1 with bytes, where it ends with the message: from the place `at` to the end of s
+abbrev pub textOf : ℕ → Value → Text
+textOf end (Value.Good value start len next) = cond (eqb next end) (Text.Alone start len) Text.Other
+textOf end Value.Bad = Text.Other
+
+unfoldable pub textAt : List ℕ → ℕ → Text
+textAt s at =
+    cond (ltb at (length s)) (cond (eqb (getD s at 0) 10) (textOf (length s) (asLength s (at + 1))) Text.Other) Text.Other
+
+-- in n bytes of s from the place `at` on
+unfoldable pub textIn : List ℕ → ℕ → ℕ → Text
+textIn s at n = cond (leb (at + n) (length s)) (textAt (take (at + n) s) at) Text.Other

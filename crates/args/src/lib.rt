@@ -1,5 +1,7 @@
 // The arguments of a message: one by one, and all together.
 pub mod arguments;
+mod keys;
+pub mod kind;
 pub mod pair;
 pub mod part;
 pub mod value;

@@ -1,10 +1,10 @@
 // The short ways for a message of two fields, as an Any with its scalar, a Scalar with its value and a Prepare's
-// statement mostly are, and of one, as an Any or a Scalar that holds only its type. They are here for speed: they fill
-// no arrays and look up no rows. The rows decide all the same: laws say what a message's rows make of one field or two
-// that fill it, and the callers answer by those laws.
+// statement mostly are, and of one, as an Any or a Scalar that holds only its type and a string are. They are here for
+// speed: they fill no arrays and look up no rows. The rows decide all the same: laws say what a message's rows make of
+// one field or two that fill it, and the callers answer by those laws.
 ghost use mathlib.Core.Path.{_≡_};
 ghost use Rattle.wire.specs.Value.{valueAt};
-ghost use Rattle.args.specs.Pair.{loneIn, pairAt, pairIn, pairOf};
+ghost use Rattle.args.specs.Pair.{loneIn, pairAt, pairIn, pairOf, textAt, textIn, textOf};
 use wire::value::Value;
 
 // Two fields that fill the message: number 1, a varint of one byte with the value `first`; and one whose tag is the
@@ -152,4 +152,61 @@ pub fn read_lone(s: &[u8], at: usize, n: usize) -> u64
         return NOT_ALONE;
     }
     first
+}
+
+// Field 1 with bytes that fills the message: the place and length of the bytes. Other: there is more or something else.
+pub enum Text {
+    Alone { start: usize, len: usize },
+    Other,
+}
+
+// The tag of field 1 with bytes.
+const TEXT_TAG: u8 = 10;
+
+// The bytes, if they end where the message does.
+fn alone(read: Value, end: usize) -> Text
+    ensures { λ r. ⌜ r ≡ textOf end read ⌝ }
+{
+    match read {
+        Value::Good {
+            number: _,
+            start,
+            len,
+            next,
+        } => {
+            if next == end {
+                return Text::Alone { start, len };
+            }
+            Text::Other
+        }
+        Value::Bad => Text::Other,
+    }
+}
+
+// The bytes from `at` to the end of s.
+fn text_at(s: &[u8], at: usize) -> Text
+    ensures { λ r. ⌜ r ≡ textAt (now (s .entry)) at ⌝ }
+{
+    let end = s.len();
+    if end <= at {
+        return Text::Other;
+    }
+    if s[at] != TEXT_TAG {
+        return Text::Other;
+    }
+    alone(wire::value::length_value(s, at + 1), end)
+}
+
+// The bytes in `n` bytes of s from `at` on.
+pub fn read_text(s: &[u8], at: usize, n: usize) -> Text
+    ensures { λ r. ⌜ r ≡ textIn (now (s .entry)) at n ⌝ }
+{
+    if s.len() < at {
+        return Text::Other;
+    }
+    if s.len() - at < n {
+        return Text::Other;
+    }
+    let end = at + n;
+    text_at(&s[..end], at)
 }

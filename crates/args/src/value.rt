@@ -3,7 +3,9 @@ ghost use mathlib.Core.Path.{_≡_};
 ghost use mathlib.Core.Bool.{cond, true};
 ghost use Rattle.layout.specs.Arrays.{fromArrays};
 ghost use Rattle.args.specs.Value.{anyOf, argumentIn, bad, bytesIn, scalarIn, scalarOf};
+use crate::keys;
 use crate::pair::Pair;
+use crate::pair::Text;
 use scalar::argument::Argument;
 
 // The named value must be present.
@@ -13,8 +15,8 @@ fn needed(has: bool, a: Argument) -> Argument
     if has { a } else { Argument::Refused(6) }
 }
 
-// The bytes of an octets or a string message.
-fn read_bytes(s: &[u8], at: usize, n: usize, octets: bool) -> Argument
+// The bytes of an octets or a string message, the long way.
+fn long_bytes(s: &[u8], at: usize, n: usize, octets: bool) -> Argument
     ensures { λ r. ⌜ r ≡ bytesIn octets (now (s .entry)) at n ⌝ }
 {
     let rows = layout::rows::bytes_rows();
@@ -32,6 +34,20 @@ fn read_bytes(s: &[u8], at: usize, n: usize, octets: bool) -> Argument
     Argument::String { start, len }
 }
 
+// The bytes of an octets or a string message, with a short way for one that holds nothing else.
+pub(crate) fn read_bytes(s: &[u8], at: usize, n: usize, octets: bool) -> Argument
+    ensures { λ r. ⌜ r ≡ bytesIn octets (now (s .entry)) at n ⌝ }
+{
+    let all = s.len();
+    if let Text::Alone { start, len } = crate::pair::read_text(s, at, n) {
+        if octets {
+            return Argument::Octets { start, len };
+        }
+        return Argument::String { start, len };
+    }
+    long_bytes(&s[..all], at, n, octets)
+}
+
 // The value that a Scalar's type names.
 fn scalar_value(s: &[u8], seen: &[bool; 10], values: &[u64; 10], starts: &[usize; 10]) -> Argument
     ensures { λ r. ⌜
@@ -44,20 +60,20 @@ fn scalar_value(s: &[u8], seen: &[bool; 10], values: &[u64; 10], starts: &[usize
         1 => needed(seen[2], scalar::argument::signed_argument(values[2])),
         2 => needed(seen[3], Argument::Unsigned(values[3])),
         3 => Argument::Null,
-        4 => needed(seen[5], read_bytes(s, starts[5], values[5] as usize, true)),
+        4 => needed(seen[5], long_bytes(s, starts[5], values[5] as usize, true)),
         5 => needed(seen[6], scalar::argument::double_argument(values[6])),
         6 => needed(
             seen[7],
             scalar::argument::float_argument((values[7] % 0x1_0000_0000) as u32),
         ),
         7 => needed(seen[8], Argument::Bool(values[8] != 0)),
-        8 => needed(seen[9], read_bytes(s, starts[9], values[9] as usize, false)),
+        8 => needed(seen[9], long_bytes(s, starts[9], values[9] as usize, false)),
         _ => Argument::Refused(6),
     }
 }
 
 // The Scalar in `n` bytes of s from `at` on.
-fn read_scalar(s: &[u8], at: usize, n: usize) -> Argument
+pub(crate) fn read_scalar(s: &[u8], at: usize, n: usize) -> Argument
     ensures { λ r. ⌜ r ≡ scalarIn (now (s .entry)) at n ⌝ }
 {
     let rows = layout::rows::scalar_rows();
@@ -99,38 +115,13 @@ pub fn read_argument(s: &[u8], at: usize, n: usize) -> Argument
     any_value(s, &seen, &values, &starts)
 }
 
-// The keys of the short way: a Scalar's type times 256, and the tag of the value that the type names.
-const SINT: u64 = 0x01_10;
-
-const UINT: u64 = 0x02_18;
-
-const OCTETS: u64 = 0x04_2a;
-
-const DOUBLE: u64 = 0x05_31;
-
-const FLOAT: u64 = 0x06_3d;
-
-const BOOL: u64 = 0x07_40;
-
-const STRING: u64 = 0x08_4a;
-
-// The same for an Any: type 1 and the tag of its scalar.
-const ANY_SCALAR: u64 = 0x01_12;
-
-// The types that may stand alone: of a Scalar, and of an Any.
-const NULL: u64 = 3;
-
-const OBJECT: u64 = 2;
-
-const ARRAY: u64 = 3;
-
 // The same as read_scalar, with the short ways for a Scalar of one field and of two. The slice is lent anew to what is
 // not inlined, so that the short ways keep it in registers.
 fn quick_scalar(s: &[u8], at: usize, n: usize) -> Argument
     ensures { λ r. ⌜ r ≡ scalarIn (now (s .entry)) at n ⌝ }
 {
     let all = s.len();
-    if crate::pair::read_lone(s, at, n) == NULL {
+    if crate::pair::read_lone(s, at, n) == keys::NULL {
         return Argument::Null;
     }
     if let Pair::Two {
@@ -141,13 +132,13 @@ fn quick_scalar(s: &[u8], at: usize, n: usize) -> Argument
     } = crate::pair::read_pair(s, at, n) {
         let named = first * 256 + tag;
         match named {
-            SINT => return scalar::argument::signed_argument(value),
-            UINT => return Argument::Unsigned(value),
-            OCTETS => return read_bytes(&s[..all], start, value as usize, true),
-            DOUBLE => return scalar::argument::double_argument(value),
-            FLOAT => return scalar::argument::float_argument((value % 0x1_0000_0000) as u32),
-            BOOL => return Argument::Bool(value != 0),
-            STRING => return read_bytes(&s[..all], start, value as usize, false),
+            keys::SINT => return scalar::argument::signed_argument(value),
+            keys::UINT => return Argument::Unsigned(value),
+            keys::OCTETS => return read_bytes(&s[..all], start, value as usize, true),
+            keys::DOUBLE => return scalar::argument::double_argument(value),
+            keys::FLOAT => return scalar::argument::float_argument((value % 0x1_0000_0000) as u32),
+            keys::BOOL => return Argument::Bool(value != 0),
+            keys::STRING => return read_bytes(&s[..all], start, value as usize, false),
             _ => {}
         }
     }
@@ -161,10 +152,10 @@ pub fn quick_argument(s: &[u8], at: usize, n: usize) -> Argument
 {
     let all = s.len();
     let alone = crate::pair::read_lone(s, at, n);
-    if alone == OBJECT {
+    if alone == keys::OBJECT {
         return Argument::Object;
     }
-    if alone == ARRAY {
+    if alone == keys::ARRAY {
         return Argument::Array;
     }
     if let Pair::Two {
@@ -173,7 +164,7 @@ pub fn quick_argument(s: &[u8], at: usize, n: usize) -> Argument
         value,
         start,
     } = crate::pair::read_pair(s, at, n) {
-        if first * 256 + tag == ANY_SCALAR {
+        if first * 256 + tag == keys::ANY_SCALAR {
             return quick_scalar(s, start, value as usize);
         }
     }

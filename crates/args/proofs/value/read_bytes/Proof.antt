@@ -1,31 +1,43 @@
--- `args::value::read_bytes` meets its contract. Assumes nothing.
-use mathlib.Core.Path.{_∙_}
-use borrow.Author.Tests.{not-true, not-false}
+-- By the law on the field alone the short way answers what the rows do; the rest goes the long way.
+use Prim.Native.Nat.{ℕ}
+use mathlib.Core.Path.{refl, sym, ap, _∙_}
+use mathlib.Core.List.{List}
+use lib.ListN.{length}
+use lib.Seq.{take-length}
+use Rattle.layout.specs.Table.{rowsOf, bytes}
+use Rattle.layout.specs.Row.{rowFor}
+use Rattle.layout.specs.Fields.{hasRequired}
+use Rattle.args.specs.Value.{bytesOf, bytesIn}
 use Rattle.args.proofs.PartLaws.{yes, no as without}
-use Rattle.args.proofs.ArrayLaws.{bytes-held, bytes-refused}
+use Rattle.args.proofs.TextLaws.{text-kept}
 use borrow.Author.Needs.{needs}
 use Rattle.args.proofs.value.read_bytes.Statement.{statement}
 use Rattle.args.proofs.value.read_bytes.Tie as tie
 
 returns : tie.Need-returns
+unfolding rowsOf rowFor hasRequired
 returns c =
-    let r = c .before .before .before .before .before .before in
-    let a = r .before .before .args in
-    bytes-refused (a .s .now) (a .at) (a .n) (a .octets) (rw (r .bytes-rows .ensures) at (c .before .fill-part .ensures)) (not-true _ (c .if1 .taken))
+    let a = c .before .before .before .before .before .before .args in
+    yes _ _ (c .if1 .taken)
+    ∙ ap (bytesOf (a .octets))
+    (text-kept (a .s .now) (a .at) (a .n) (c .before .before .start .given .1) (c .before .before .before .before .read-text .ensures) (rowsOf bytes) refl)
 
 returns-2 : tie.Need-returns-2
+unfolding rowsOf rowFor hasRequired
 returns-2 c =
-    let r = c .before .before .before .before .before .before .before in
-    let a = r .before .before .args in
-    yes _ _ (c .if2 .taken)
-    ∙ bytes-held (a .s .now) (a .at) (a .n) (a .octets) (rw (r .bytes-rows .ensures) at (c .before .before .fill-part .ensures)) (not-false _ (c .before .if1 .left))
+    let a = c .before .before .before .before .before .before .args in
+    without _ _ (c .if1 .left)
+    ∙ ap (bytesOf (a .octets))
+    (text-kept (a .s .now) (a .at) (a .n) (c .before .before .start .given .1) (c .before .before .before .before .read-text .ensures) (rowsOf bytes) refl)
+
+slice-aggregate-long-bytes : tie.Need-slice-aggregate-long-bytes
+slice-aggregate-long-bytes c = sym (ap length (take-length (c .before .before .before .before .before .args .s .now)))
 
 returns-3 : tie.Need-returns-3
 returns-3 c =
-    let r = c .before .before .before .before .before .before .before in
-    let a = r .before .before .args in
-    without _ _ (c .if2 .left)
-    ∙ bytes-held (a .s .now) (a .at) (a .n) (a .octets) (rw (r .bytes-rows .ensures) at (c .before .before .fill-part .ensures)) (not-false _ (c .before .if1 .left))
+    let a = c .before .before .before .before .before .before .args in
+    c .long-bytes .ensures
+    ∙ ap (λ (l : List ℕ). bytesIn (a .octets) l (a .at) (a .n)) (take-length (a .s .now))
 
 pub read-bytes-spec : {M : Type 1} → statement M
 read-bytes-spec =
@@ -33,9 +45,9 @@ read-bytes-spec =
     (tie.spec
     (λ c κs. search needs)
     (λ c. search needs)
-    (λ c κs. search needs)
     returns
-    (λ c. search needs)
-    (λ c. search needs)
     returns-2
+    (λ c. search needs)
+    slice-aggregate-long-bytes
+    (λ c κs. search needs)
     returns-3)

@@ -46,7 +46,7 @@ returns-4 c =
     let a = c .before .before .before .before .before .before .before .before .args in
     let x = fromArrays true (a .seen .now) (a .values .now) (a .starts .now) in
     c .needed3 .ensures
-    ∙ ap (λ (v : Argument). cond (getD (a .seen .now) 5 false) v bad) (c .before .read-bytes .ensures)
+    ∙ ap (λ (v : Argument). cond (getD (a .seen .now) 5 false) v bad) (c .before .long-bytes .ensures)
     ∙ present-seen (a .seen .now) 5 _
     ∙ ap (ofType (a .s .now) x) (sym (c .before .before .before .before .before .match .keys4))
     ∙ scalar-good (a .s .now) x refl
@@ -89,7 +89,7 @@ returns-8 c =
     let a = c .before .before .before .before .before .before .before .before .args in
     let x = fromArrays true (a .seen .now) (a .values .now) (a .starts .now) in
     c .needed7 .ensures
-    ∙ ap (λ (v : Argument). cond (getD (a .seen .now) 9 false) v bad) (c .before .read-bytes2 .ensures)
+    ∙ ap (λ (v : Argument). cond (getD (a .seen .now) 9 false) v bad) (c .before .long-bytes2 .ensures)
     ∙ present-seen (a .seen .now) 9 _
     ∙ ap (ofType (a .s .now) x) (sym (c .before .before .before .before .before .match .keys8))
     ∙ scalar-good (a .s .now) x refl

@@ -1,0 +1,125 @@
+-- The short way for field 1 with bytes alone: its steps, and what a message's rows make of the field. Assumes nothing.
+use Prim.Native.Nat.{ℕ, _+_, _≤_, _<_}
+use native.Mathlib.Omega.{arith}
+use mathlib.Core.Bool.{true, false}
+use mathlib.Core.Path.{_≡_, refl, sym, ap, subst, _∙_}
+use mathlib.Core.List.{List}
+use lib.ListN.{length, take, getD}
+use lib.Dec.{ltb, leb, eqb}
+use borrow.Author.Tests.{ltb-true, leb-true, eqb-true, lt-ltb, le-ltb, lt-leb, le-leb, eq-eqb, ne-eqb}
+use Rattle.varint.proofs.PastLaws.{both}
+use Rattle.wire.specs.Value.{asLength}
+use Rattle.wire.specs.Field.{ofValue, fieldAt}
+use Rattle.wire.specs.declared.value.Value.{Value}
+use Rattle.wire.specs.declared.field.Field.{Field}
+use Rattle.wire.proofs.FieldLaws.{quick-wire}
+use Rattle.wire.proofs.LongLaws.{LongField, field-long}
+use Rattle.layout.specs.Slots.{noSlots}
+use Rattle.layout.specs.Fields.{useOf, noted, checked}
+use Rattle.layout.specs.declared.fields.Use.{Use}
+use Rattle.layout.proofs.FieldsLaws.{starts, goes-on, ends}
+use Rattle.args.specs.Part.{embedded}
+use Rattle.args.specs.Pair.{textOf, textAt, textIn}
+use Rattle.args.specs.declared.pair.Text.{Text}
+use Rattle.args.proofs.PartLaws.{yes, no, part-within}
+
+-- ---- the steps
+
+module _ (end : ℕ) {value start len next : ℕ} {read : Value} (e : read ≡ Value.Good value start len next) where
+  pub text-ends : next ≡ end → Text.Alone start len ≡ textOf end read
+  text-ends h = yes (Text.Alone start len) Text.Other (eq-eqb next end h) ∙ ap (textOf end) (sym e)
+
+  pub text-goes-on : (next ≡ end → ⊥) → Text.Other ≡ textOf end read
+  text-goes-on h = no (Text.Alone start len) Text.Other (ne-eqb next end h) ∙ ap (textOf end) (sym e)
+
+module _ (s : List ℕ) (at : ℕ) where
+  pub text-none : length s ≤ at → Text.Other ≡ textAt s at
+  unfolding textAt
+  text-none h = no _ Text.Other (le-ltb at (length s) h)
+
+  module _ (inside : at < length s) where
+    pub text-other : (getD s at 0 ≡ 10 → ⊥) → Text.Other ≡ textAt s at
+    unfolding textAt
+    text-other o = no _ Text.Other (ne-eqb (getD s at 0) 10 o) ∙ yes _ Text.Other (lt-ltb at (length s) inside)
+
+    pub text-read : getD s at 0 ≡ 10 → (read : Value) → read ≡ asLength s (at + 1) → textOf (length s) read ≡ textAt s at
+    unfolding textAt
+    text-read o read e =
+        ap (textOf (length s)) e
+        ∙ yes _ Text.Other (eq-eqb (getD s at 0) 10 o)
+        ∙ yes _ Text.Other (lt-ltb at (length s) inside)
+
+module _ (s : List ℕ) (at n : ℕ) where
+  pub text-past : length s < at + n → Text.Other ≡ textIn s at n
+  unfolding textIn
+  text-past h = no _ Text.Other (lt-leb (at + n) (length s) h)
+
+  pub text-cut : at + n ≤ length s → textAt (take (at + n) s) at ≡ textIn s at n
+  unfolding textIn
+  text-cut h = yes _ Text.Other (le-leb (at + n) (length s) h)
+
+-- ---- what it says of the bytes
+
+-- the field that fills them
+pub record Filled (s : List ℕ) (at start len : ℕ) : Type 0 where
+  pub inside : at < length s
+  pub field : fieldAt s at ≡ Field.Good 1 2 len start len (length s)
+
+abbrev Says : List ℕ → ℕ → Text → Type 0
+Says s at (Text.Alone start len) = Filled s at start len
+Says s at Text.Other = Unit {0}
+
+at-says : (s : List ℕ) (at : ℕ) → Says s at (textAt s at)
+unfolding textAt
+at-says s at =
+    both (Says s at) (ltb at (length s)) _ _
+    (λ i. both (Says s at) (eqb (getD s at 0) 10) _ _
+    (λ o. go (asLength s (at + 1)) refl (ltb-true at (length s) i) (eqb-true (getD s at 0) 10 o)) (λ _. tt))
+    (λ _. tt)
+  where
+    go : (v : Value) → asLength s (at + 1) ≡ v → at < length s → getD s at 0 ≡ 10 → Says s at (textOf (length s) v)
+    go (Value.Good value start len next) e i o =
+        both (Says s at) (eqb next (length s)) (Text.Alone start len) Text.Other
+        (λ q.
+        record {
+          inside = i;
+          field =
+              read
+              ∙ ap (λ (v : ℕ). Field.Good 1 2 v start len next) (long (field-long s at) refl)
+              ∙ ap (Field.Good 1 2 len start len) (eqb-true next (length s) q);
+        })
+        (λ _. tt)
+      where
+        read : fieldAt s at ≡ Field.Good 1 2 value start len next
+        read = sym (quick-wire s at 10 i (sym o) (omega arith) 2 (omega arith) refl (omega arith)) ∙ ap (ofValue 1 2) e
+
+        long : LongField (fieldAt s at) → _≡_ {A = ℕ} 2 2 → value ≡ len
+        long = rw read (λ f. f)
+    go Value.Bad e i o = tt
+
+abbrev SaysIn : List ℕ → ℕ → ℕ → Text → Type 0
+SaysIn s at n (Text.Alone start len) = (at + n ≤ length s) × Filled (take (at + n) s) at start len
+SaysIn s at n Text.Other = Unit {0}
+
+in-says : (s : List ℕ) (at n : ℕ) → SaysIn s at n (textIn s at n)
+unfolding textIn
+in-says s at n =
+    both (SaysIn s at n) (leb (at + n) (length s)) _ _
+    (λ h. go (textAt (take (at + n) s) at) (leb-true (at + n) (length s) h) (at-says (take (at + n) s) at)) (λ _. tt)
+  where
+    go : (r : Text) → at + n ≤ length s → Says (take (at + n) s) at r → SaysIn s at n r
+    go (Text.Alone start len) h f = (h, f)
+    go Text.Other h f = tt
+
+-- ---- what rows that keep it make of it
+
+module _ (s : List ℕ) (at n : ℕ) {r : Text} {start len : ℕ} (e : r ≡ Text.Alone start len) (p : r ≡ textIn s at n) where
+  pub told : SaysIn s at n (Text.Alone start len)
+  told = subst (SaysIn s at n) (sym p ∙ e) (in-says s at n)
+
+  pub text-kept : (rows : List (List ℕ)) → Use.Kept ≡ useOf rows 1 2 len →
+      checked rows (noted Use.Kept noSlots 1 len start len) ≡ embedded rows s at n
+  text-kept rows kept =
+      ap (checked rows)
+      (ends (goes-on (starts rows (take (at + n) s) at) (told .1 .inside) (told .1 .field) Use.Kept kept) (omega arith))
+      ∙ part-within rows s at n (told .0)

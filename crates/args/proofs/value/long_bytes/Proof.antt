@@ -1,0 +1,41 @@
+-- `args::value::long_bytes` meets its contract. Assumes nothing.
+use mathlib.Core.Path.{_∙_}
+use borrow.Author.Tests.{not-true, not-false}
+use Rattle.args.proofs.PartLaws.{yes, no as without}
+use Rattle.args.proofs.ArrayLaws.{bytes-held, bytes-refused}
+use borrow.Author.Needs.{needs}
+use Rattle.args.proofs.value.long_bytes.Statement.{statement}
+use Rattle.args.proofs.value.long_bytes.Tie as tie
+
+returns : tie.Need-returns
+returns c =
+    let r = c .before .before .before .before .before .before in
+    let a = r .before .before .args in
+    bytes-refused (a .s .now) (a .at) (a .n) (a .octets) (rw (r .bytes-rows .ensures) at (c .before .fill-part .ensures)) (not-true _ (c .if1 .taken))
+
+returns-2 : tie.Need-returns-2
+returns-2 c =
+    let r = c .before .before .before .before .before .before .before in
+    let a = r .before .before .args in
+    yes _ _ (c .if2 .taken)
+    ∙ bytes-held (a .s .now) (a .at) (a .n) (a .octets) (rw (r .bytes-rows .ensures) at (c .before .before .fill-part .ensures)) (not-false _ (c .before .if1 .left))
+
+returns-3 : tie.Need-returns-3
+returns-3 c =
+    let r = c .before .before .before .before .before .before .before in
+    let a = r .before .before .args in
+    without _ _ (c .if2 .left)
+    ∙ bytes-held (a .s .now) (a .at) (a .n) (a .octets) (rw (r .bytes-rows .ensures) at (c .before .before .fill-part .ensures)) (not-false _ (c .before .if1 .left))
+
+pub long-bytes-spec : {M : Type 1} → statement M
+long-bytes-spec =
+    tie.close
+    (tie.spec
+    (λ c κs. search needs)
+    (λ c. search needs)
+    (λ c κs. search needs)
+    returns
+    (λ c. search needs)
+    (λ c. search needs)
+    returns-2
+    returns-3)

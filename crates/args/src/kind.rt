@@ -1,0 +1,73 @@
+// The Any type of an argument. It is found as the argument is, by the short ways or the long one, but no value is put
+// together: what judges a frame asks for no more.
+ghost use mathlib.Core.Path.{_≡_};
+ghost use Rattle.args.specs.Arguments.{anyTypeOf};
+ghost use Rattle.args.specs.Value.{argumentIn, scalarIn};
+use crate::arguments::any_type;
+use crate::keys;
+use crate::pair::Pair;
+
+// The Any type of the Scalar in `n` bytes of s from `at` on: 1, or 0 for a bad one. As quick_scalar reads it, but its
+// value is not put together.
+fn scalar_type(s: &[u8], at: usize, n: usize) -> u64
+    ensures { λ r. ⌜ r ≡ anyTypeOf (scalarIn (now (s .entry)) at n) ⌝ }
+{
+    let all = s.len();
+    if crate::pair::read_lone(s, at, n) == keys::NULL {
+        return keys::SCALAR;
+    }
+    if let Pair::Two {
+        first,
+        tag,
+        value,
+        start,
+    } = crate::pair::read_pair(s, at, n) {
+        let named = first * 256 + tag;
+        match named {
+            keys::SINT => return keys::SCALAR,
+            keys::UINT => return keys::SCALAR,
+            keys::OCTETS => return any_type(crate::value::read_bytes(
+                &s[..all],
+                start,
+                value as usize,
+                true,
+            )),
+            keys::DOUBLE => return keys::SCALAR,
+            keys::FLOAT => return keys::SCALAR,
+            keys::BOOL => return keys::SCALAR,
+            keys::STRING => return any_type(crate::value::read_bytes(
+                &s[..all],
+                start,
+                value as usize,
+                false,
+            )),
+            _ => {}
+        }
+    }
+    any_type(crate::value::read_scalar(&s[..all], at, n))
+}
+
+// The Any type of the argument whose Any stands in `n` bytes of s from `at` on; 0 for a bad one.
+pub fn argument_type(s: &[u8], at: usize, n: usize) -> u64
+    ensures { λ r. ⌜ r ≡ anyTypeOf (argumentIn (now (s .entry)) at n) ⌝ }
+{
+    let all = s.len();
+    let alone = crate::pair::read_lone(s, at, n);
+    if alone == keys::OBJECT {
+        return keys::OBJECT;
+    }
+    if alone == keys::ARRAY {
+        return keys::ARRAY;
+    }
+    if let Pair::Two {
+        first,
+        tag,
+        value,
+        start,
+    } = crate::pair::read_pair(s, at, n) {
+        if first * 256 + tag == keys::ANY_SCALAR {
+            return scalar_type(s, start, value as usize);
+        }
+    }
+    any_type(crate::value::read_argument(&s[..all], at, n))
+}
