@@ -147,6 +147,22 @@ pub record Walking (s : List ℕ) (from p : ℕ) (x : Arguments) : Type 0 where
 pub starts : (s : List ℕ) (from : ℕ) → Walking s from from (noArguments from (length s))
 starts s from = record { most = length s; enough = omega arith; good = refl; small = omega arith; whole = refl }
 
+-- where the next argument is the same from a later place on, the loop may stand there
+from-same : (most : ℕ) (s : List ℕ) (p q : ℕ) → nextArgument s p ≡ nextArgument s q → argumentsFrom most s p ≡ argumentsFrom most s q
+unfolding argumentsFrom
+from-same zero s p q e = refl
+from-same (suc m) s p q e = ap (andMore (λ next. argumentsFrom m s next)) e
+
+pub passes : {s : List ℕ} {from p q : ℕ} {x : Arguments} → Walking s from p x → p ≤ q → nextArgument s p ≡ nextArgument s q → Walking s from q x
+passes {s} {from} {p} {q} {x} k h e =
+    record {
+      most = k .most;
+      enough = omega (arith, k .enough);
+      good = k .good;
+      small = omega (arith, k .small);
+      whole = ap (together x) (sym (from-same (k .most) s p q e)) ∙ k .whole;
+    }
+
 module _ {s : List ℕ} {from p : ℕ} {x : Arguments} (k : Walking s from p x) where
   pub none-left : nextArgument s p ≡ NextArgument.End → x ≡ argumentsIn s from
   none-left e = sym (together-none x) ∙ ap (together x) (sym (from-none (k .most) s p e)) ∙ k .whole
@@ -177,6 +193,34 @@ module _ {s : List ℕ} {from p : ℕ} {x : Arguments} (k : Walking s from p x) 
               ∙ sym (together-on x a (argumentsFrom (k .most - 1) s next) (λ z. h (u ∙ z)))
               ∙ turn;
         }
+
+-- ---- what all together come to: of the same bytes, or bad
+
+pub record Spans (x y : Arguments) : Type 0 where
+  pub from : y .good ≡ true → y .start ≡ x .start
+  pub upto : y .good ≡ true → y .end ≡ x .end
+  pub bad : y .good ≡ false → badArguments ≡ y
+
+type-spans : (x : Arguments) (t : ℕ) → x .good ≡ true → Spans x (withType x t)
+type-spans x t g =
+    both (Spans x) (eqb t 0) _ _
+    (λ _. record { from = λ h. absurd (let z : _≡_ {A = ℕ} 0 1 = cc in omega arith); upto = λ h. absurd (let z : _≡_ {A = ℕ} 0 1 = cc in omega arith); bad = λ _. refl })
+    (λ _. both (Spans x) (ltb t 2) _ _ (λ _. same) (λ _. both (Spans x) (eqb (x .kind) 0) _ _ (λ _. same) (λ _. same)))
+  where
+    same : {kind index : ℕ} → Spans x (counted x kind index)
+    same = record { from = λ _. refl; upto = λ _. refl; bad = λ h. absurd (let z : _≡_ {A = ℕ} 0 1 = cc in omega arith) }
+
+pub spans : (l : List Argument) (x : Arguments) → x .good ≡ true → Spans x (together x l)
+unfolding together
+spans [] x g = record { from = λ _. refl; upto = λ _. refl; bad = λ h. absurd (let z : _≡_ {A = ℕ} 0 1 = cc in omega arith) }
+spans (a ∷ rest) x g =
+    both (Spans x) (eqb (anyTypeOf a) 0) _ _
+    (λ _. record { from = λ h. absurd (let z : _≡_ {A = ℕ} 0 1 = cc in omega arith); upto = λ h. absurd (let z : _≡_ {A = ℕ} 0 1 = cc in omega arith); bad = λ _. refl })
+    (λ e.
+    let h = type-good x (anyTypeOf a) (eqb-false (anyTypeOf a) 0 e) ∙ g in
+    let s = type-spans x (anyTypeOf a) g in
+    let r = spans rest (withType x (anyTypeOf a)) h in
+    record { from = λ k. r .from k ∙ s .from h; upto = λ k. r .upto k ∙ s .upto h; bad = r .bad })
 
 -- looking for the argument with an index: how many are left to pass at p
 pub record Counting (s : List ℕ) (from index p left : ℕ) : Type 0 where

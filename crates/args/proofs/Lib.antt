@@ -7,8 +7,8 @@ pub mod PlaceLaws
 pub mod ArgumentsLaws
 pub mod TypedLaws
 pub mod ArrayLaws
-pub mod NoneLaws
 pub mod EnoughLaws
 pub mod ArgsFieldLaws
 pub mod WithinLaws
 pub mod MovedArgLaws
+pub mod BoundLaws

@@ -2,6 +2,7 @@ pub mod Part
 pub mod Value
 pub mod Pair
 pub mod Arguments
+pub mod Bound
 pub mod Typed
 pub mod ArgumentsRules
 pub mod WithinRules

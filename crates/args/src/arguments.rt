@@ -4,7 +4,6 @@ ghost use Prim.Native.Nat.{_^_, _<_};
 ghost use Rattle.args.specs.Arguments.{
   anyTypeOf,
   argPlace,
-  argumentsIn,
   asked,
   badArguments,
   nextArgument,
@@ -75,7 +74,7 @@ impl Arguments {
     }
 
     // One argument more, of this Any type.
-    fn with_type(self, t: u64) -> Arguments
+    pub(crate) fn with_type(self, t: u64) -> Arguments
         requires { ⌜ self .count < 2 ^ 63 ⌝ }
         ensures { λ r. ⌜ r ≡ withType self t ⌝ }
     {
@@ -194,25 +193,6 @@ pub fn any_type(a: Argument) -> u64
         Argument::Array => 3,
         Argument::Refused(_) => 0,
     }
-}
-
-// The arguments of a message whose bytes go from `from` to the end of s.
-pub fn read_arguments(s: &[u8], from: usize) -> Arguments
-    ensures { λ r. ⌜ r ≡ argumentsIn (now (s .entry)) from ⌝ }
-{
-    let mut x = Arguments::none(from, s.len());
-    let mut p = from;
-    while p < s.len() {
-        let NextArgument::Found { value, next } = next_argument(s, p) else {
-            return x;
-        };
-        x = x.with_type(any_type(value));
-        if !x.good {
-            return x;
-        }
-        p = next;
-    }
-    x
 }
 
 // An argument as it is handed out: an object or array is refused 8.

@@ -1,5 +1,6 @@
 // The arguments of a message: one by one, and all together.
 pub mod arguments;
+pub mod bound;
 mod keys;
 pub mod kind;
 pub mod pair;

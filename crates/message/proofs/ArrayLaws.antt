@@ -3,33 +3,27 @@ use Prim.Native.Nat.{ℕ, _+_}
 use mathlib.Core.Bool.{Bool, true, false, not}
 use mathlib.Core.Path.{_≡_, refl, sym, ap, _∙_}
 use mathlib.Core.List.{List}
-use lib.ListN.{length, getD, take}
-use lib.Seq.{length-take-le}
+use lib.ListN.{length, getD}
 use lib.Dec.{eqb}
 use borrow.Author.Tests.{eq-eqb, ne-eqb}
 use Rattle.protocol.specs.Client as Client
 use Rattle.varint.proofs.PastLaws.{both}
 use Rattle.layout.specs.Row.{wireOf, rowFor}
-use Rattle.layout.specs.Table.{rowsOf, prepareStmt, stmtExecute, openStmt}
-use Rattle.layout.specs.Fields.{useOf, fieldsAt}
+use Rattle.layout.specs.Table.{rowsOf, prepareStmt, openStmt}
+use Rattle.layout.specs.Fields.{fieldsAt}
 use Rattle.layout.specs.Arrays.{Holds}
 use Rattle.layout.specs.declared.slots.Slots.{Slots}
-use Rattle.layout.specs.declared.fields.Use.{Use}
 use Rattle.layout.proofs.ArrayLaws.{held-good, held-value, held-start, held-seen, held-absent, held-present}
 use Rattle.layout.proofs.ArrayLaws.{bytes-long, bytes-long-to}
-use Rattle.layout.proofs.CountLaws.{good-list}
 use Rattle.args.specs.Part.{embedded, absent, countOf, valueOf, startOf, lenOf, low32}
-use Rattle.args.specs.Arguments.{noArguments}
 use Rattle.args.specs.declared.arguments.Arguments.{Arguments}
-use Rattle.args.proofs.NoneLaws.{no-arguments}
 use Rattle.args.proofs.PartLaws.{yes, no as without}
 use Rattle.message.specs.Operation as Operation
-use Rattle.message.specs.Payload.{payload, ifGood, optionalBy, optionalOf, truthOf}
+use Rattle.message.specs.Payload.{payload, ifGood, optionalBy, optionalOf}
 use Rattle.message.specs.Simple.{fetchIn}
-use Rattle.message.specs.Execute.{argumentsWithin, badExecute, executeIn, openFrom, openInside, openFrame}
+use Rattle.message.specs.Execute.{executeIn, openFrom, openInside, openFrame}
 use Rattle.message.specs.Prepare.{bodyIn, prepareFrom, prepareChosen, prepareTyped, prepareInside, prepareFrame}
-use Rattle.message.proofs.MessageLaws.{payload-bad, payload-good, neither, first-only, both-hold, within-there}
-use Rattle.message.proofs.MessageLaws.{execute-bad, execute-worse, execute-good}
+use Rattle.message.proofs.MessageLaws.{payload-bad, payload-good, neither, first-only, both-hold}
 use Rattle.message.specs.declared.request.Optional.{Optional}
 use Rattle.message.specs.declared.request.Execute.{Execute}
 use Rattle.message.specs.declared.request.Request.{Request}
@@ -41,26 +35,6 @@ optional-held : {x : Slots} {g : Bool} {v : List Bool} {w u : List ℕ} → Hold
 optional-held {x} {g} {v} {w} {u} h k =
     ap (λ (b : Bool). optionalBy b (getD w k 0)) (held-seen h k)
     ∙ ap (optionalBy (not (eqb (countOf x k) 0))) (held-value h k)
-
--- each args field is counted, so a message whose arrays show none has no arguments
-pub execute-counts : (v : ℕ) → Use.Counted ≡ useOf (rowsOf Client.execute) 2 2 v
-unfolding rowsOf rowFor
-execute-counts v = refl
-
-pub stmt-counts : (v : ℕ) → Use.Counted ≡ useOf (rowsOf stmtExecute) 2 2 v
-unfolding rowsOf rowFor
-stmt-counts v = refl
-
-pub within-none : (rows : List (List ℕ)) → ((k : ℕ) → Use.Counted ≡ useOf rows 2 2 k) →
-    (s : List ℕ) (at n : ℕ) {g : Bool} {v : List Bool}
-    {w u : List ℕ} → Holds (embedded rows s at n) g v w u → g ≡ true → getD v 2 false ≡ false →
-    argumentsWithin s at n ≡ noArguments at (at + n)
-within-none rows counts s at n h e f =
-    let good = held-good h e in
-    let list = good-list rows s at (at + n) good in
-    sym (within-there s at n (list .0))
-    ∙ sym (no-arguments rows counts (take (at + n) s) at (rw (list .1) at good) (rw (list .1) at (held-absent h 2 f)))
-    ∙ ap (noArguments at) (length-take-le (at + n) s (list .0))
 
 -- Deallocate and Close have an id in field 1
 module _ (s : List ℕ) (kind : ℕ) (q : ℕ → Request) {x : Slots} {g : Bool} {v : List Bool} {w u : List ℕ}
@@ -88,39 +62,6 @@ module _ (s : List ℕ) {x : Slots} {g : Bool} {v : List Bool} {w u : List ℕ} 
       ap (λ (n : ℕ). Frame.Good (length s) (asking n (optionalBy (getD v 2 false) (getD w 2 0)))) (held-value h 1)
       ∙ ap (λ (o : Optional). Frame.Good (length s) (asking (valueOf x 1) o)) (optional-held h 2)
       ∙ payload-good s Client.fetch (asking (valueOf x 1) (optionalOf x 2)) (held-good h e)
-
--- an Execute
-module _ (s : List ℕ) (at n : ℕ) {g : Bool} {v : List Bool} {w u : List ℕ}
-    (h : Holds (embedded (rowsOf Client.execute) s at n) g v w u) where
-  abbrev run : Slots
-  run = embedded (rowsOf Client.execute) s at n
-
-  pub execute-spoiled : g ≡ false → badExecute ≡ executeIn s at n
-  unfolding executeIn
-  execute-spoiled e = execute-bad run (argumentsWithin s at n) (held-good h e)
-
-  module _ (e : g ≡ true) (a : Arguments) (is : a ≡ argumentsWithin s at n) where
-    pub execute-unbound : a .good ≡ false → badExecute ≡ executeIn s at n
-    unfolding executeIn
-    execute-unbound f =
-        execute-worse run (argumentsWithin s at n) (held-good h e) (sym (ap (λ (b : Arguments). b .good) is) ∙ f)
-
-    abbrev made : ℕ → Optional → Arguments → Execute
-    made stmt compact b = record { stmt = low32 stmt; compact = truthOf compact; args = b }
-
-    pub execute-held : a .good ≡ true →
-        record {
-          stmt = low32 (getD w 1 0);
-          compact = truthOf (optionalBy (getD v 3 false) (getD w 3 0));
-          args = a;
-        }
-        ≡ executeIn s at n
-    unfolding executeIn
-    execute-held f =
-        ap (λ (i : ℕ). made i (optionalBy (getD v 3 false) (getD w 3 0)) a) (held-value h 1)
-        ∙ ap (λ (o : Optional). made (valueOf run 1) o a) (optional-held h 3)
-        ∙ ap (made (valueOf run 1) (optionalOf run 3)) is
-        ∙ execute-good run (argumentsWithin s at n) (held-good h e) (sym (ap (λ (b : Arguments). b .good) is) ∙ f)
 
 -- Open, by its statement and whole
 module _ (s : List ℕ) (id : ℕ) (rows : Optional) (at n : ℕ) {g : Bool} {v : List Bool} {w u : List ℕ}

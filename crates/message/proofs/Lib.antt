@@ -4,3 +4,4 @@ pub mod WithinLaws
 pub mod ArrayLaws
 pub mod UsedLaws
 pub mod PairedLaws
+pub mod BoundLaws

@@ -1,9 +1,6 @@
 // Execute, and Open with the Execute in it.
 ghost use mathlib.Core.Path.{_≡_};
-ghost use mathlib.Core.Bool.{false};
-ghost use Prim.Native.Nat.{_+_};
-ghost use Rattle.args.specs.Arguments.{noArguments};
-ghost use Rattle.message.specs.Execute.{argumentsWithin, badExecute, executeFrame, executeFrom, executeIn};
+ghost use Rattle.message.specs.Execute.{badExecute, executeFrame, executeFrom, executeIn};
 ghost use Rattle.message.specs.Execute.{openFrame, openFrom, openInside};
 use crate::payload::PAYLOAD;
 use crate::payload::low;
@@ -34,45 +31,19 @@ fn bad_execute() -> Execute
     }
 }
 
-// The arguments in `n` bytes of s from `at` on. `any` says whether the field list has some: where it has none, its
-// bytes are not gone over again.
-pub(crate) fn arguments_within(s: &[u8], at: usize, n: usize, any: bool) -> Arguments
-    requires { ⌜ (any ≡ false → argumentsWithin (now s) at n ≡ noArguments at (at + n)) ⌝ }
-    ensures { λ r. ⌜ r ≡ argumentsWithin (now (s .entry)) at n ⌝ }
-{
-    if s.len() < at {
-        return Arguments::bad();
-    }
-    if s.len() - at < n {
-        return Arguments::bad();
-    }
-    let end = at + n;
-    if !any {
-        return Arguments::none(at, end);
-    }
-    args::arguments::read_arguments(&s[..end], at)
-}
-
 // An Execute in `n` bytes of s from `at` on.
 fn execute_in(s: &[u8], at: usize, n: usize) -> Execute
     ensures { λ r. ⌜ r ≡ executeIn (now (s .entry)) at n ⌝ }
 {
-    let rows = layout::rows::execute_rows();
-    let mut seen = [false; 10];
-    let mut values = [0; 10];
-    let mut starts = [0; 10];
-    if !fill_part(&rows, s, at, n, &mut seen, &mut values, &mut starts) {
-        return bad_execute();
-    }
-    // Field 2 is args, 1 stmt_id, 3 compact_metadata.
-    let args = arguments_within(s, at, n, seen[2]);
-    if !args.good {
+    // Field 1 is stmt_id, 3 compact_metadata.
+    let b = args::bound::read_bound(s, at, n, false);
+    if !b.hasone {
         return bad_execute();
     }
     Execute {
-        stmt: low(values[1]),
-        compact: read_truth(read_optional(seen[3], values[3])),
-        args,
+        stmt: low(b.one),
+        compact: read_truth(read_optional(b.hasthree, b.three)),
+        args: b.arguments(at, at + n),
     }
 }
 

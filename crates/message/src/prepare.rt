@@ -18,17 +18,18 @@ use protocol::client;
 pub fn read_body(s: &[u8], operation: u64, at: usize, n: usize) -> Arguments
     ensures { λ r. ⌜ r ≡ bodyIn (now (s .entry)) operation at n ⌝ }
 {
+    if operation == operation::STMT_EXECUTE {
+        // Field 1 is the text.
+        let b = args::bound::read_bound(s, at, n, true);
+        if !b.hasone {
+            return Arguments::bad();
+        }
+        return b.arguments(at, at + n);
+    }
     let rows = layout::rows::stmt_execute_rows();
     let mut seen = [false; 10];
     let mut values = [0; 10];
     let mut starts = [0; 10];
-    if operation == operation::STMT_EXECUTE {
-        if !fill_part(&rows, s, at, n, &mut seen, &mut values, &mut starts) {
-            return Arguments::bad();
-        }
-        // Field 2 is args.
-        return crate::execute::arguments_within(s, at, n, seen[2]);
-    }
     if !fill_part(&rows[..0], s, at, n, &mut seen, &mut values, &mut starts) {
         return Arguments::bad();
     }

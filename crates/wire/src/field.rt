@@ -22,7 +22,7 @@ pub enum Field {
 }
 
 // The field of a value that was read.
-fn valued(n: u64, wire: u64, read: Value) -> Field
+pub fn valued(n: u64, wire: u64, read: Value) -> Field
     ensures { λ r. ⌜ r ≡ ofValue n wire read ⌝ }
 {
     match read {

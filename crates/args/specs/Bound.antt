@@ -1,0 +1,74 @@
+-- A message with arguments in one pass: an Execute or a StmtExecute. Its fields 1 and 3, of which field 1 is required,
+-- and its arguments. For contracts inside the library; what is promised does not cite it.
+use Prim.Native.Nat.{ℕ, _+_}
+use mathlib.Core.Bool.{Bool, true, false, not, cond}
+use mathlib.Core.List.{List}
+use lib.ListN.{length, take}
+use lib.Dec.{leb, eqb}
+use Rattle.protocol.specs.Client as Client
+use Rattle.layout.specs.Table.{rowsOf, stmtExecute}
+use Rattle.layout.specs.Fields.{fieldList}
+use Rattle.layout.specs.declared.slots.Slots.{Slots}
+use Rattle.args.specs.Part.{absent, valueOf}
+use Rattle.args.specs.Arguments.{argumentsIn}
+use Rattle.args.specs.declared.arguments.Arguments.{Arguments}
+use Rattle.args.specs.declared.bound.Own.{Own}
+use Rattle.args.specs.declared.bound.Bound.{Bound}
+
+-- `text` says which: a StmtExecute has a text in field 1, an Execute a number; their fields 3 are of the same wire type
+abbrev pub rowsBy : Bool → List (List ℕ)
+rowsBy true = rowsOf stmtExecute
+rowsBy false = rowsOf Client.execute
+
+abbrev pub wireBy : Bool → ℕ
+wireBy text = cond text 2 0
+
+abbrev pub isArgs : ℕ → ℕ → Bool
+isArgs number wire = cond (eqb number 2) (eqb wire 2) false
+
+-- nothing found yet, and one field more
+abbrev pub nothing : Own
+nothing = record { hasone = false; one = 0; hasthree = false; three = 0 }
+
+abbrev pub withField : Own → ℕ → ℕ → ℕ → ℕ → Own
+withField k own number wire value =
+    cond (eqb wire own)
+    (cond (eqb number 1) (record { hasone = true; one = value; hasthree = k .hasthree; three = k .three })
+    (cond (eqb number 3) (record { hasone = k .hasone; one = k .one; hasthree = true; three = value }) k))
+    k
+
+-- what the slots hold of it
+abbrev pub ownOf : Slots → Own
+ownOf x = record { hasone = not (absent x 1); one = valueOf x 1; hasthree = not (absent x 3); three = valueOf x 3 }
+
+abbrev pub found : Own → Arguments → Bound
+found k a =
+    record {
+      count = a .count;
+      one = k .one;
+      kind = a .kind;
+      three = k .three;
+      index = a .index;
+      hasone = k .hasone;
+      hasthree = k .hasthree;
+    }
+
+-- what is not good has no field 1
+abbrev pub badBound : Bound
+badBound = record { count = 0; one = 0; kind = 0; three = 0; index = 0; hasone = false; hasthree = false }
+
+unfoldable pub boundOf : Slots → Arguments → Bound
+boundOf x a = cond (x .good) (cond (a .good) (found (ownOf x) a) badBound) badBound
+
+-- the message whose bytes go from the place `from` to the end of s
+abbrev pub boundAt : Bool → List ℕ → ℕ → Bound
+boundAt text s from = boundOf (fieldList (rowsBy text) s from) (argumentsIn s from)
+
+-- in n bytes of s from the place `at` on
+unfoldable pub boundIn : Bool → List ℕ → ℕ → ℕ → Bound
+boundIn text s at n = cond (leb (at + n) (length s)) (boundAt text (take (at + n) s) at) badBound
+
+-- the arguments of a good message
+abbrev pub argsOf : Bound → ℕ → ℕ → Arguments
+argsOf b start end =
+    record { good = true; count = b .count; kind = b .kind; index = b .index; start = start; end = end }

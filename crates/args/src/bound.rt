@@ -1,0 +1,186 @@
+// A message with arguments, an Execute or a StmtExecute, in one pass: its fields 1 and 3 and all its arguments.
+ghost use mathlib.Core.Path.{_≡_};
+ghost use Prim.Native.Nat.{_^_, _<_};
+ghost use Rattle.wire.specs.Field.{fieldAt};
+ghost use Rattle.args.specs.Bound.{argsOf, badBound, boundAt, boundIn, found, isArgs, wireBy, withField};
+use crate::arguments::Arguments;
+use wire::field::Field;
+
+// What is kept of a message's own fields: whether field 1 and field 3 occur, and their values.
+pub struct Own {
+    pub hasone: bool,
+    pub one: u64,
+    pub hasthree: bool,
+    pub three: u64,
+}
+
+// The same beside the arguments, as they are in `Arguments`. The numbers stand in such an order that no two are copied
+// at once right after they were written one by one, for which a processor waits.
+pub struct Bound {
+    pub count: usize,
+    pub one: u64,
+    pub kind: u64,
+    pub three: u64,
+    pub index: usize,
+    pub hasone: bool,
+    pub hasthree: bool,
+}
+
+// A message that is not good, and so has no field 1, which is required.
+fn bad_bound() -> Bound
+    ensures { λ r. ⌜ r ≡ badBound ⌝ }
+{
+    Bound {
+        count: 0,
+        one: 0,
+        kind: 0,
+        three: 0,
+        index: 0,
+        hasone: false,
+        hasthree: false,
+    }
+}
+
+// The wire types of fields 1 and 3: of a StmtExecute bytes, of an Execute numbers.
+const BYTES: u64 = 2;
+
+const NUMBER: u64 = 0;
+
+fn wire_by(text: bool) -> u64
+    ensures { λ r. ⌜ r ≡ wireBy text ⌝ }
+{
+    if text { BYTES } else { NUMBER }
+}
+
+// The number and wire type of an args field, and both in the one byte of its tag.
+const ARGS: u64 = 2;
+
+const ARGS_TAG: u8 = 18;
+
+fn is_args(number: u64, wire: u64) -> bool
+    ensures { λ r. ⌜ r ≡ isArgs number wire ⌝ }
+{
+    if number != ARGS {
+        return false;
+    }
+    wire == BYTES
+}
+
+// The field at a place, with a short way for an args field, as most are.
+fn field_at(s: &[u8], at: usize) -> Field
+    ensures { λ r. ⌜ r ≡ fieldAt (now (s .entry)) at ⌝ }
+{
+    let n = s.len();
+    if at < n {
+        if s[at] == ARGS_TAG {
+            return wire::field::valued(ARGS, BYTES, wire::value::length_value(s, at + 1));
+        }
+    }
+    wire::field::read_field(&s[..n], at)
+}
+
+impl Own {
+    // One field more, of a message whose fields 1 and 3 have the wire type `own`.
+    fn with_field(self, own: u64, number: u64, wire: u64, value: u64) -> Own
+        ensures { λ r. ⌜ r ≡ withField self own number wire value ⌝ }
+    {
+        let mut k = self;
+        if wire != own {
+            return k;
+        }
+        if number == 1 {
+            k.hasone = true;
+            k.one = value;
+            return k;
+        }
+        if number == 3 {
+            k.hasthree = true;
+            k.three = value;
+            return k;
+        }
+        k
+    }
+}
+
+fn bound_of(k: Own, x: Arguments) -> Bound
+    ensures { λ r. ⌜ r ≡ found k x ⌝ }
+{
+    Bound {
+        count: x.count,
+        one: k.one,
+        kind: x.kind,
+        three: k.three,
+        index: x.index,
+        hasone: k.hasone,
+        hasthree: k.hasthree,
+    }
+}
+
+// The message whose bytes go from `from` to the end of s; `text` says that it is a StmtExecute.
+fn bound_at(s: &[u8], from: usize, text: bool) -> Bound
+    ensures { λ r. ⌜ r ≡ boundAt text (now (s .entry)) from ⌝ }
+{
+    let own = wire_by(text);
+    let mut k = Own {
+        hasone: false,
+        one: 0,
+        hasthree: false,
+        three: 0,
+    };
+    let mut x = Arguments::none(from, s.len());
+    let mut p = from;
+    while p < s.len() {
+        let Field::Good {
+            number,
+            wire,
+            value,
+            start,
+            len,
+            next,
+        } = field_at(s, p)
+        else {
+            return bad_bound();
+        };
+        if is_args(number, wire) {
+            x = x.with_type(crate::kind::argument_type(s, start, len));
+            if !x.good {
+                return bad_bound();
+            }
+            p = next;
+        } else {
+            k = k.with_field(own, number, wire, value);
+            p = next;
+        }
+    }
+    bound_of(k, x)
+}
+
+// The message in `n` bytes of s from `at` on.
+pub fn read_bound(s: &[u8], at: usize, n: usize, text: bool) -> Bound
+    ensures { λ r. ⌜ r ≡ boundIn text (now (s .entry)) at n ⌝ }
+{
+    if s.len() < at {
+        return bad_bound();
+    }
+    if s.len() - at < n {
+        return bad_bound();
+    }
+    let end = at + n;
+    bound_at(&s[..end], at, text)
+}
+
+impl Bound {
+    // The arguments of a good message in the bytes from `start` to `end`.
+    pub fn arguments(self, start: usize, end: usize) -> Arguments
+        ensures { λ r. ⌜ r ≡ argsOf self start end ⌝ }
+    {
+        Arguments {
+            good: true,
+            count: self.count,
+            kind: self.kind,
+            index: self.index,
+            start,
+            end,
+        }
+    }
+}
