@@ -16,7 +16,7 @@ use Rattle.wire.specs.Past.{PastSkip}
 use Rattle.wire.specs.declared.tag.Tag.{Tag}
 use Rattle.wire.specs.declared.group.Skip.{Skip}
 use Rattle.wire.specs.declared.field.Field.{Field}
-use Rattle.wire.proofs.TagLaws.{tag-low, tag-good}
+use Rattle.wire.proofs.TagLaws.{tag-low, tag-unlisted, tag-good}
 use Rattle.wire.proofs.PastLaws.{group-past}
 
 module _ (s : List ℕ) (n wire at : ℕ) where
@@ -51,3 +51,14 @@ module _ (s : List ℕ) (at b : ℕ) (inside : at < length s) (is : b ≡ getD s
   quick-wire wire h e w =
       ap (λ (k : ℕ). fieldOf s (b / 8) k (at + 1)) (sym e)
       ∙ sym (field-tagged s at (Tag.Field (b / 8) (b % 8) (at + 1)) (sym (tag-good b (at + 1) (omega arith) h (omega arith) ∙ ap tagOf one-byte)))
+
+-- a tag of one byte
+module _ (s : List ℕ) (at b : ℕ) (inside : at < length s) (is : b ≡ getD s at 0) (short : b < 128) where
+  pub short-low : b < 8 → Tag.Bad ≡ tagAt s at
+  short-low h = tag-low b (at + 1) (omega arith) h ∙ ap tagOf (one-byte s at b inside is short)
+
+  pub short-unlisted : 8 ≤ b → 6 ≤ b % 8 → Tag.Bad ≡ tagAt s at
+  short-unlisted h u = tag-unlisted b (at + 1) (omega arith) h u ∙ ap tagOf (one-byte s at b inside is short)
+
+  pub short-good : 8 ≤ b → b % 8 < 6 → Tag.Field (b / 8) (b % 8) (at + 1) ≡ tagAt s at
+  short-good h u = tag-good b (at + 1) (omega arith) h u ∙ ap tagOf (one-byte s at b inside is short)

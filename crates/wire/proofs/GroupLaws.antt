@@ -4,7 +4,8 @@ use native.Mathlib.Omega.{arith}
 use native.Mathlib.Numerals.{sub-one}
 use mathlib.Core.Path.{_≡_, refl, sym, ap, subst, _∙_}
 use mathlib.Core.List.{List}
-use lib.ListN.{length}
+use lib.ListN.{length, take}
+use lib.Seq.{take-length}
 use borrow.Author.Tests.{eq-eqb, ne-eqb}
 use Rattle.varint.specs.Varint.{low64}
 use Rattle.varint.proofs.GroupLaws.{groups-end}
@@ -139,3 +140,11 @@ module _ {depth : ℕ} {s : List ℕ} {at number p : ℕ} (k : Skipping depth s 
 
     pub value-on : (w ≡ 4 → ⊥) → (w ≡ 3 → ⊥) → {q : ℕ} → skipValue s w next ≡ Skip.At q → Skipping depth s at number q
     value-on h g = goes-on (skipValue s w next) (over h g) (skip-past s w next)
+
+-- the bytes lent anew are the same
+module _ (s : List ℕ) {x : Skip} where
+  pub group-lent : (depth at n : ℕ) → x ≡ groupEnd depth (take (length s) s) at n → groupEnd depth s at n ≡ x
+  group-lent depth at n e = sym (e ∙ ap (λ (l : List ℕ). groupEnd depth l at n) (take-length s))
+
+  pub value-lent : (wire at : ℕ) → x ≡ skipValue (take (length s) s) wire at → skipValue s wire at ≡ x
+  value-lent wire at e = sym (e ∙ ap (λ (l : List ℕ). skipValue l wire at) (take-length s))

@@ -59,14 +59,20 @@ fn tagged(s: &[u8], n: u64, wire: u64, at: usize) -> Field
             Skip::Bad => Field::Bad,
         };
     }
+    if wire == 0 {
+        return valued(n, 0, crate::value::number_value(s, at));
+    }
     valued(n, wire, crate::value::read_value(s, wire, at))
 }
 
+// Each call is lent the slice anew: one that is handed on whole is copied right after it was written in two parts, for
+// which a processor waits.
 pub fn read_field(s: &[u8], at: usize) -> Field
     ensures { λ r. ⌜ r ≡ fieldAt (now (s .entry)) at ⌝ }
 {
-    match crate::tag::read_tag(s, at) {
-        Tag::Field { number, wire, next } => tagged(s, number, wire, next),
+    let n = s.len();
+    match crate::tag::read_tag(&s[..n], at) {
+        Tag::Field { number, wire, next } => tagged(&s[..n], number, wire, next),
         Tag::Bad => Field::Bad,
     }
 }

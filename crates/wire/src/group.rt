@@ -48,13 +48,14 @@ pub fn skip_group(s: &[u8], at: usize, number: u64, depth: u64) -> Skip
             }
             return Skip::Bad;
         }
+        let end = s.len();
         if w == 3 {
-            let Skip::At(q) = skip_group(s, next, n, depth - 1) else {
+            let Skip::At(q) = skip_group(&s[..end], next, n, depth - 1) else {
                 return Skip::Bad;
             };
             p = q;
         } else {
-            let Skip::At(q) = skip_value(s, w, next) else {
+            let Skip::At(q) = skip_value(&s[..end], w, next) else {
                 return Skip::Bad;
             };
             p = q;

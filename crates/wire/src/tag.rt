@@ -9,7 +9,8 @@ pub enum Tag {
     Bad,
 }
 
-pub fn read_tag(s: &[u8], at: usize) -> Tag
+// The long way: of any length.
+fn long_tag(s: &[u8], at: usize) -> Tag
     ensures { λ r. ⌜ r ≡ tagAt (now (s .entry)) at ⌝ }
 {
     match varint::read_varint(s, at) {
@@ -31,4 +32,36 @@ pub fn read_tag(s: &[u8], at: usize) -> Tag
             }
         }
     }
+}
+
+// A cast of a byte that asks nothing.
+fn wide(b: u8) -> u64
+    ensures { λ r. ⌜ r ≡ b ⌝ }
+{
+    b as u64
+}
+
+// With a short way for a tag of one byte. The slice is lent anew to the long way, so that the short one keeps its place
+// and length in registers.
+pub fn read_tag(s: &[u8], at: usize) -> Tag
+    ensures { λ r. ⌜ r ≡ tagAt (now (s .entry)) at ⌝ }
+{
+    let n = s.len();
+    if at < n {
+        let tag = wide(s[at]);
+        if tag < 128 {
+            if tag < 8 {
+                return Tag::Bad;
+            }
+            if 6 <= tag % 8 {
+                return Tag::Bad;
+            }
+            return Tag::Field {
+                number: tag / 8,
+                wire: tag % 8,
+                next: at + 1,
+            };
+        }
+    }
+    long_tag(&s[..n], at)
 }

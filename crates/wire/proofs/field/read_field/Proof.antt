@@ -1,22 +1,47 @@
--- `wire::field::read_field` meets its contract. Assumes nothing.
-use mathlib.Core.Path.{sym, _∙_}
+-- A tag and what stands behind it, in bytes that are lent anew.
+use Prim.Native.Nat.{ℕ}
+use mathlib.Core.Path.{sym, ap, _∙_}
+use mathlib.Core.List.{List}
+use lib.ListN.{length}
+use lib.Seq.{take-length}
+use Rattle.wire.specs.Tag.{tagAt}
+use Rattle.wire.specs.Field.{fieldOf}
 use Rattle.wire.proofs.FieldLaws.{field-tagged}
 use borrow.Author.Needs.{needs}
 use Rattle.wire.proofs.field.read_field.Statement.{statement}
 use Rattle.wire.proofs.field.read_field.Tie as tie
 
+slice-aggregate-read-tag : tie.Need-slice-aggregate-read-tag
+slice-aggregate-read-tag c = sym (ap length (take-length (c .before .before .args .s .now)))
+
+slice-aggregate-tagged : tie.Need-slice-aggregate-tagged
+slice-aggregate-tagged c = sym (ap length (take-length (c .before .before .before .before .before .before .before .args .s .now)))
+
 returns : tie.Need-returns
 returns c =
-    let a = c .before .before .before .before .before .before .args in
+    let a = c .before .before .before .before .before .before .before .before .args in
+    let f = c .before .before .before .number .given in
     c .tagged .ensures
-    ∙ sym (field-tagged (a .s .now) (a .at) _ (sym (c .before .before .before .before .read-tag .ensures) ∙ c .before .before .number .given .1))
+    ∙ ap (λ (l : List ℕ). fieldOf l (f .0 .0) (f .0 .1 .0) (f .0 .1 .1 .0)) (take-length (a .s .now))
+    ∙ sym (field-tagged (a .s .now) (a .at) _
+    (sym (c .before .before .before .before .before .read-tag .ensures ∙ ap (λ (l : List ℕ). tagAt l (a .at)) (take-length (a .s .now))) ∙ f .1))
 
 returns-2 : tie.Need-returns-2
 returns-2 c =
-    let a = c .before .before .before .before .args in
-    sym (field-tagged (a .s .now) (a .at) _ (sym (c .before .before .read-tag .ensures) ∙ c .enum-told .given .1))
+    let a = c .before .before .before .before .before .args in
+    sym (field-tagged (a .s .now) (a .at) _
+    (sym (c .before .before .read-tag .ensures ∙ ap (λ (l : List ℕ). tagAt l (a .at)) (take-length (a .s .now)))
+    ∙ c .enum-told .given .1))
 
 pub read-field-spec : {M : Type 1} → statement M
 read-field-spec =
     tie.close
-    (tie.spec (λ c κs. search needs) (λ c. search needs) (λ c κs. search needs) (λ c. search needs) returns returns-2)
+    (tie.spec
+    slice-aggregate-read-tag
+    (λ c κs. search needs)
+    (λ c. search needs)
+    slice-aggregate-tagged
+    (λ c κs. search needs)
+    (λ c. search needs)
+    returns
+    returns-2)

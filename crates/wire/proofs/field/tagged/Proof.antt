@@ -1,7 +1,10 @@
 -- `wire::field::tagged` meets its contract. Assumes nothing.
+use Prim.Native.Nat.{ℕ}
 use mathlib.Core.Path.{sym, ap, _∙_}
+use Rattle.wire.specs.Value.{valueAt}
 use Rattle.wire.specs.Field.{maxDepth, ofValue, ofGroup}
 use Rattle.wire.proofs.FieldLaws.{field-group, field-value, group-ends}
+use Rattle.wire.proofs.ValueLaws.{value-number}
 use borrow.Author.Needs.{needs}
 use Rattle.wire.proofs.field.tagged.Statement.{statement}
 use Rattle.wire.proofs.field.tagged.Tie as tie
@@ -25,10 +28,19 @@ returns-2 c =
 
 returns-3 : tie.Need-returns-3
 returns-3 c =
-    let a = c .before .before .before .before .args in
+    let a = c .before .before .before .before .before .args in
+    let w = c .before .before .if2 .taken in
     c .valued .ensures
+    ∙ ap (ofValue (a .n) 0) (c .before .number-value .ensures ∙ value-number (a .s .now) (a .wire) (a .at) w)
+    ∙ ap (λ (k : ℕ). ofValue (a .n) k (valueAt (a .s .now) (a .wire) (a .at))) (sym w)
+    ∙ field-value (a .s .now) (a .n) (a .wire) (a .at) (c .before .before .before .if1 .left)
+
+returns-4 : tie.Need-returns-4
+returns-4 c =
+    let a = c .before .before .before .before .before .args in
+    c .valued2 .ensures
     ∙ ap (ofValue (a .n) (a .wire)) (c .before .read-value .ensures)
-    ∙ field-value (a .s .now) (a .n) (a .wire) (a .at) (c .before .before .if1 .left)
+    ∙ field-value (a .s .now) (a .n) (a .wire) (a .at) (c .before .before .before .if1 .left)
 
 pub tagged-spec : {M : Type 1} → statement M
 tagged-spec =
@@ -42,4 +54,7 @@ tagged-spec =
     returns-2
     (λ c κs. search needs)
     (λ c κs. search needs)
-    returns-3)
+    returns-3
+    (λ c κs. search needs)
+    (λ c κs. search needs)
+    returns-4)
