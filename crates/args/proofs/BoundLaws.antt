@@ -30,6 +30,7 @@ use Rattle.args.specs.declared.bound.Own.{Own}
 use Rattle.args.specs.declared.bound.Bound.{Bound}
 use Rattle.args.proofs.PartLaws.{yes, no, part-within}
 use Rattle.args.proofs.PlaceLaws as Place
+use Rattle.args.proofs.EnoughLaws.{next-skips}
 use Rattle.args.proofs.ArgumentsLaws.{Walking}
 use Rattle.args.proofs.ArgumentsLaws as Walk
 
@@ -296,7 +297,7 @@ module _ {text : Bool} {s : List ℕ} {from p : ℕ} {x : Arguments} {k : Own} (
                 (ap (λ (o : Own). withField o (wireBy text) number wire v) (b .holding .own)
                 ∙ noted-own text (b .slots) number wire v start len (b .holding .counts) (b .holding .values));
             listing = Fields.goes-on (b .listing) inside e use-here refl;
-            walking = Walk.passes (b .walking) (omega (arith, ahead)) (Place.next-skips s p inside e (args-no number wire h));
+            walking = Walk.passes (b .walking) (omega (arith, ahead)) (next-skips s p inside e (args-no number wire h));
           }
 
       module _ (h : isArgs number wire ≡ true) (t : ℕ) (u : t ≡ anyTypeOf (argumentIn s start len)) where

@@ -1,22 +1,23 @@
 -- Fuel that is enough for the bytes left makes no difference to args fields and arguments. Assumes nothing.
 use Prim.Native.Nat.{ℕ, zero, suc, _+_, _≤_, _<_}
 use native.Mathlib.Omega.{arith}
-use mathlib.Core.Bool.{cond}
+use mathlib.Core.Bool.{Bool, true, false, cond}
 use mathlib.Core.Path.{_≡_, refl, sym, ap, _∙_}
 use mathlib.Core.List.{List, _∷_}
 use lib.ListN.{length}
-use lib.Dec.{ltb}
+use lib.Dec.{ltb, eqb}
+use borrow.Author.Tests.{eqb-true, eqb-false}
 use Rattle.wire.specs.Field.{fieldAt}
 use Rattle.wire.specs.Past.{PastField}
 use Rattle.wire.specs.declared.field.Field.{Field}
 use Rattle.wire.proofs.PastLaws.{field-past}
 use Rattle.scalar.specs.declared.argument.Argument.{Argument}
-use Rattle.args.specs.Arguments.{isArgs, ofField, placeFrom, nextArgument, andMore, argumentsFrom}
+use Rattle.args.specs.Arguments.{isArgs, ofField, placeFrom, ofPlace, nextArgument, andMore, argumentsFrom}
 use Rattle.args.specs.ArgumentsRules.{EnoughFields, EnoughArguments}
 use Rattle.args.specs.WithinRules.{GoesOn}
 use Rattle.args.specs.declared.arguments.ArgPlace.{ArgPlace}
 use Rattle.args.specs.declared.arguments.NextArgument.{NextArgument}
-use Rattle.args.proofs.PlaceLaws.{place-end, next-goes-on, next-end}
+use Rattle.args.proofs.PlaceLaws.{Seeking, starts, other-wire, other-number, place-end, next-goes-on, next-end}
 use Rattle.args.proofs.ArgumentsLaws.{from-none}
 
 module _ (s : List ℕ) where
@@ -55,3 +56,18 @@ enough-fields most s at h = places-same s most (length s) at h (omega arith)
 
 pub enough-arguments : EnoughArguments
 enough-arguments most s from h = arguments-same s most (length s) from h (omega arith)
+
+-- a field that is no args field is passed over
+module _ (s : List ℕ) (p : ℕ) (inside : p < length s) {number wire v start len next : ℕ}
+    (e : fieldAt s p ≡ Field.Good number wire v start len next) (other : number ≡ 2 → wire ≡ 2 → ⊥) where
+  behind : Seeking s p next
+  behind = go (eqb number 2) refl
+    where
+      go : (b : Bool) → eqb number 2 ≡ b → Seeking s p next
+      go true h = other-wire (starts s p) inside e (eqb-true number 2 h) (other (eqb-true number 2 h))
+      go false h = other-number (starts s p) inside e (eqb-false number 2 h)
+
+  pub next-skips : nextArgument s p ≡ nextArgument s next
+  unfolding nextArgument
+  next-skips =
+      ap (ofPlace s) (sym (behind .whole) ∙ enough-fields (behind .most) s next (behind .enough))

@@ -5,8 +5,8 @@ use mathlib.Core.Bool.{Bool, true, false, cond}
 use mathlib.Core.Path.{_≡_, refl, sym, ap, _∙_}
 use mathlib.Core.List.{List}
 use lib.ListN.{length, getD}
-use lib.Dec.{ltb, eqb}
-use borrow.Author.Tests.{lt-ltb, le-ltb, eq-eqb, ne-eqb, ltb-true, eqb-true, eqb-false}
+use lib.Dec.{ltb}
+use borrow.Author.Tests.{lt-ltb, le-ltb, ltb-true}
 use Rattle.varint.proofs.PastLaws.{both}
 use Rattle.wire.specs.Value.{asLength}
 use Rattle.wire.specs.Field.{ofValue, fieldAt}
@@ -148,36 +148,3 @@ next-end s at h = ap (ofPlace s) (place-end (length s) s at h)
 pub next-placed : (s : List ℕ) (at : ℕ) (x : ArgPlace) → x ≡ argPlace s at → ofPlace s x ≡ nextArgument s at
 unfolding nextArgument
 next-placed s at x e = ap (ofPlace s) e
-
--- ---- a field that is no args field is passed over
-
--- enough fuel is as good as more
-fields-same : (m k : ℕ) (s : List ℕ) (p : ℕ) → length s ≤ p + suc m → length s ≤ p + suc k →
-    ((q : ℕ) → length s ≤ q + m → length s ≤ q + k → placeFrom m s q ≡ placeFrom k s q) →
-    (f : Field) → PastField p (length s) f → ofField (λ next. placeFrom m s next) f ≡ ofField (λ next. placeFrom k s next) f
-fields-same m k s p h g more (Field.Good number wire v start len next) w =
-    ap (λ (x : ArgPlace). cond (eqb number 2) (cond (eqb wire 2) (ArgPlace.At start len next) x) x)
-    (more next (omega (arith, w .2)) (omega (arith, w .2)))
-fields-same m k s p h g more Field.Bad w = refl
-
-place-same : (m k : ℕ) (s : List ℕ) (p : ℕ) → length s ≤ p + m → length s ≤ p + k → placeFrom m s p ≡ placeFrom k s p
-unfolding placeFrom
-place-same zero k s p h g = sym (place-end k s p (omega arith))
-place-same (suc m) zero s p h g = place-end (suc m) s p (omega arith)
-place-same (suc m) (suc k) s p h g =
-    ap (λ (x : ArgPlace). cond (ltb p (length s)) x ArgPlace.End)
-    (fields-same m k s p h g (place-same m k s) (fieldAt s p) (field-past s p))
-
-module _ (s : List ℕ) (p : ℕ) (inside : p < length s) {number wire v start len next : ℕ}
-    (e : fieldAt s p ≡ Field.Good number wire v start len next) (other : number ≡ 2 → wire ≡ 2 → ⊥) where
-  behind : Seeking s p next
-  behind = go (eqb number 2) refl
-    where
-      go : (b : Bool) → eqb number 2 ≡ b → Seeking s p next
-      go true h = other-wire (starts s p) inside e (eqb-true number 2 h) (other (eqb-true number 2 h))
-      go false h = other-number (starts s p) inside e (eqb-false number 2 h)
-
-  pub next-skips : nextArgument s p ≡ nextArgument s next
-  unfolding nextArgument
-  next-skips =
-      ap (ofPlace s) (sym (behind .whole) ∙ place-same (behind .most) (length s) s next (behind .enough) (omega arith))
