@@ -1,6 +1,12 @@
 pub mod AlikeLaws
+pub mod ChunkLaws
+pub mod EndLaws
 pub mod LineLaws
 pub mod MarkLaws
+pub mod MoveLaws
+pub mod PrintLaws
+pub mod ProgressLaws
 pub mod RecordLaws
 pub mod TraceLaws
+pub mod WalkLaws
 pub mod WithinLaws

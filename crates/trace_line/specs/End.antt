@@ -1,12 +1,10 @@
--- What the printer writes for a record that is not whole (X6).
-use Prim.Native.Nat.{ℕ}
+-- What the printer writes where the input ends (X6, X7).
+use Prim.Native.Nat.{ℕ, zero, suc}
 use mathlib.Core.List.{List, []}
 use Rattle.reply.specs.Text.{ascii}
-use Rattle.trace_line.specs.declared.Place.{Place}
 
--- "A record cut short, a bad number .. prints `cut` and stops": cut short is one whose first bytes are there as the
--- input ends (X6, X8)
-abbrev pub endText : Place → List ℕ
-endText (Place.Next next) = []
-endText Place.Short = ascii "cut\n"
-endText Place.Bad = ascii "cut\n"
+-- "A record cut short, a bad number, a frame length above 65,536 or a kind above 4 prints `cut` and stops; an end
+-- between records only stops": by how many bytes are left behind the last whole record
+unfoldable pub endText : ℕ → List ℕ
+endText zero = []
+endText (suc n) = ascii "cut\n"

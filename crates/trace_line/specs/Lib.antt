@@ -1,6 +1,10 @@
 pub mod Line
 pub mod LineRules
 pub mod End
+pub mod Output
+pub mod Printer
+pub mod private
+pub mod Chunks
 pub mod Record
 pub mod RecordRules
 pub mod Trace

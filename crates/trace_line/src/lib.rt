@@ -10,6 +10,7 @@ use rules::Report;
 use session::WORDS;
 
 pub mod line;
+pub mod printer;
 pub mod record;
 
 // The place behind a record; or its bytes end before it does, or it has a bad number.

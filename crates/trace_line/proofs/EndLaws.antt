@@ -1,0 +1,24 @@
+-- The end's text, by what is left. Assumes nothing.
+use Prim.Native.Nat.{ℕ, zero, suc}
+use native.Mathlib.Omega.{arith}
+use mathlib.Core.Path.{_≡_, refl}
+use mathlib.Core.List.{List, []}
+use Rattle.encode.specs.declared.put.Put.{Put}
+use Rattle.encode.specs.Put.{putAt, written}
+use Rattle.reply.specs.Text.{ascii}
+use Rattle.trace_line.specs.End.{endText}
+
+abbrev Wrote : List ℕ → ℕ → List ℕ → Put → List ℕ → Type 0
+Wrote out at text r after = (r ≡ putAt out at text) × (after ≡ written out at text)
+
+pub end-nothing : (left : ℕ) (out : List ℕ) (at : ℕ) {r : Put} {after : List ℕ} → left ≡ 0 →
+    Wrote out at [] r after → Wrote out at (endText left) r after
+unfolding endText
+end-nothing zero out at e w = w
+end-nothing (suc left) out at e w = absurd (omega arith)
+
+pub end-cut : (left : ℕ) (out : List ℕ) (at : ℕ) {r : Put} {after : List ℕ} → (left ≡ 0 → ⊥) →
+    Wrote out at (ascii "cut\n") r after → Wrote out at (endText left) r after
+unfolding endText
+end-cut zero out at e w = absurd (e refl)
+end-cut (suc left) out at e w = w
