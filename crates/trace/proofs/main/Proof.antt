@@ -4,10 +4,10 @@ use Rattle.trace.proofs.main.Statement.{statement}
 use Rattle.trace.proofs.main.Tie as tie
 
 abbrev Inv-loop : tie.InvT-loop
-Inv-loop input₀ out₀ to words₀ p₀ left₀ input out words p left = Unit {0}
+Inv-loop input₀ store₀ out₀ words₀ run₀ left₀ input store out words run left = Unit {0}
 
 abbrev μ-loop : tie.MeasureT-loop
-μ-loop input₀ out₀ to words₀ p₀ left₀ input out words p left = left
+μ-loop input₀ store₀ out₀ words₀ run₀ left₀ input store out words run left = left
 
 pub main-spec : {M : Type 1} → statement M
 main-spec =
@@ -20,12 +20,12 @@ main-spec =
     (λ c. search needs)
     (λ c κs. search needs)
     (λ c κs. search needs)
+    (λ c κs. search needs)
+    (λ c κs. search needs)
+    (λ c. search needs)
     (λ c. search needs)
     (λ c. search needs)
     (λ c κs. search needs)
     (λ c. search needs)
     (λ c. search needs)
-    (λ c. search needs)
-    (λ c. search needs)
-    (λ c κs. search needs)
     (λ c. search needs))
