@@ -1,8 +1,9 @@
-//! A session of the honest model to speak to in hex.
+//! A session of the honest model to speak to in hex, and the trace that it prints.
 
 // Each test file takes what it needs of this.
 #![allow(dead_code)]
 
+use differential::coverage::mark;
 use differential::implementation::*;
 use differential::model::{Model, Session};
 
@@ -56,4 +57,61 @@ impl Talk {
     pub fn reason(&mut self, frame: &[u8], report: Report) -> u8 {
         self.step(frame, report).0.reason
     }
+}
+
+/// The records not read yet.
+struct Input<'b>(&'b [u8]);
+
+impl<'b> Input<'b> {
+    /// A number in groups of seven bits.
+    fn number(&mut self) -> Option<u64> {
+        let mut value = 0;
+        for group in 0..10 {
+            let (byte, rest) = self.0.split_first()?;
+            self.0 = rest;
+            value |= u64::from(byte & 0x7f) << (7 * group);
+            if byte & 0x80 == 0 {
+                return Some(value);
+            }
+        }
+        None
+    }
+
+    /// A frame and its report; `None` if the record is cut short or bad.
+    fn record(&mut self) -> Option<(&'b [u8], Report)> {
+        let length = self.number().filter(|length| *length <= 65_536)?;
+        let (frame, rest) = self.0.split_at_checked(length as usize)?;
+        self.0 = rest;
+        let report = match self.number()? {
+            0 => Report::NONE,
+            1 => Report::prepared(self.number()?),
+            2 => Report::result(self.number()?, self.number()?),
+            3 => Report::DONE,
+            4 => Report::failed(self.number()?),
+            _ => return None,
+        };
+        Some((frame, report))
+    }
+}
+
+/// The whole output of the trace printer, by the model.
+pub fn trace(bytes: &[u8]) -> String {
+    let mut out = String::from("n reason first rows mark stmts cursors owed\n");
+    let (mut input, mut talk, mut n) = (Input(bytes), Talk::fresh(), 0);
+    while !input.0.is_empty() {
+        let Some((frame, report)) = input.record() else {
+            return out + "cut\n";
+        };
+        n += 1;
+        let (answer, reply) = talk.step(frame, report);
+        let tables = &talk.session.tables;
+        let cursors: Vec<&Cursor> = tables.cursors.iter().filter(|c| c.live).collect();
+        let statements = tables.statements.iter().filter(|s| s.live).count();
+        let owed: u64 = cursors.iter().map(|c| c.rows - c.sent).sum();
+        let Answer { reason, first, count, .. } = answer;
+        let mark = mark(&reply);
+        let cursors = cursors.len();
+        out += &format!("{n} {reason} {first} {count} {mark} {statements} {cursors} {owed}\n");
+    }
+    out
 }
