@@ -116,10 +116,10 @@ module _ (p : Printer) (session : Session) (store chunk out : List ℕ) where
     )
       where
         put-is : w .to ≡ length (lines .lines)
-        put-is = omega (arith, g .puts .behind)
+        put-is = omega (arith, g .puts .behind, g .room)
 
         fits : 0 + length (lines .lines) ≤ length out
-        fits = omega (arith, g .room, put-is)
+        fits = omega (arith, g .room)
 
   -- the same in the code's words
   pub printed : {h k : ℕ} {stored after : List ℕ} {w : Walk} {session₁ : Session} {out₁ : List ℕ} {first : First} →

@@ -85,6 +85,7 @@ pub record Walking (session₀ : Session) (first : ℕ) (s out₀ : List ℕ) (s
   pub enough : length s ≤ at + most
   pub within : at ≤ length s
   pub puts : Puts out₀ 0 lines to out
+  pub end : to ≡ length lines
   pub room : to ≤ length out₀
   pub kept : length out ≡ length out₀
   pub whole : linesWithin (length s) (length out₀) session₀ first s
@@ -97,7 +98,8 @@ walk-starts session first s out =
       lines = [];
       enough = omega arith;
       within = omega arith;
-      puts = puts-nothing out;
+      puts = puts-nothing out 0;
+      end = refl;
       room = omega arith;
       kept = refl;
       whole = ap (λ (k : ℕ). linesWithin (length s) k session first s) all-free;
@@ -114,6 +116,9 @@ module _ {session₀ session : Session} {first n at to : ℕ} {s out₀ out : Li
   abbrev all : Lines
   all = linesWithin (length s) (length out₀) session₀ first s
 
+  lines-are : also (w .lines) (noLine session n (drop at s)) ≡ all → w .lines ≡ all .lines
+  lines-are e = sym (append-nil (w .lines)) ∙ ap (λ (x : Lines). x .lines) e
+
   rest-nothing : linesWithin (w .most) (length out₀ - to) session n (drop at s) ≡ noLine session n (drop at s) →
       Walks s out₀ all (walk n at to) session out
   rest-nothing none =
@@ -124,11 +129,8 @@ module _ {session₀ session : Session} {first n at to : ℕ} {s out₀ out : Li
         within = w .within;
         rest = ap (λ (x : Lines). x .left) e;
         same = ap (λ (x : Lines). x .session) e;
-        puts =
-            subst (λ (l : List ℕ). Puts out₀ 0 l to out)
-            (sym (append-nil (w .lines)) ∙ ap (λ (x : Lines). x .lines) e)
-            (w .puts);
-        room = w .room;
+        puts = subst (λ (l : List ℕ). Puts out₀ 0 l to out) (lines-are e) (w .puts);
+        room = omega (arith, w .room, w .end, ap length (lines-are e));
       }
 
   -- all records are printed
@@ -201,6 +203,7 @@ module _ {session₀ session : Session} {first n at to : ℕ} {s out₀ out : Li
               enough = omega (arith, w .enough, q .0, q .1, q .2);
               within = omega (arith, w .within, q .2, ap length is, length-drop at s);
               puts = puts-then (w .puts) (p .1);
+              end = omega (arith, p .0, w .end, longer);
               room = omega (arith, p .0, fits, w .kept);
               kept = ap length (d .1 .1) ∙ length-written out to line ∙ w .kept;
               whole =

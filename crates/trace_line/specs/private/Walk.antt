@@ -21,4 +21,4 @@ pub record Walks (s out : List ℕ) (x : Lines) (w : Walk) (session : Session) (
   pub rest : drop (w .at) s ≡ x .left
   pub same : session ≡ x .session
   pub puts : Puts out 0 (x .lines) (w .to) after
-  pub room : w .to ≤ length out
+  pub room : length (x .lines) ≤ length out
