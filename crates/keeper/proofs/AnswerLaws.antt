@@ -17,7 +17,7 @@ use Rattle.rules.specs.declared.Answer.{Answer}
 use Rattle.rules.specs.declared.Report.{Report}
 use Rattle.rules.specs.Decision.{wireCode}
 use Rattle.keeper.specs.declared.answer.Names.{Names}
-use Rattle.keeper.specs.private.Does.{placeBehind, Replies, withLength, Answers, numberOf, kindNamed, errorOf}
+use Rattle.keeper.specs.private.Does.{lengthIn, Replies, withLength, Answers, numberOf, kindNamed, errorOf}
 
 -- ---- what an Error tells
 
@@ -72,14 +72,11 @@ module _ (n : ℕ) (x : Names) where
 
 -- ---- a reply that fits
 
-pub put-behind : (b : List ℕ) (what : Reply) → length (replyBytes what) ≤ length b → placeBehind (putAt b 0 (replyBytes what)) ≡ length (replyBytes what)
+pub put-behind : (b : List ℕ) (what : Reply) → length (replyBytes what) ≤ length b →
+    lengthIn b what ≡ length (replyBytes what)
 put-behind b what h =
     let e : 0 + length (replyBytes what) ≡ length (replyBytes what) = omega arith in
     rw (le-leb (0 + length (replyBytes what)) (length b) (omega arith)) e
-
-pub replies : {b after : List ℕ} {what : Reply} {put : Put} {n : ℕ} → length (replyBytes what) ≤ length b →
-    (put ≡ putAt b 0 (replyBytes what)) × (after ≡ written b 0 (replyBytes what)) → n ≡ placeBehind put → Replies what b n after
-replies {b} {after} {what} h w e = record { long = e ∙ ap placeBehind (w .0) ∙ put-behind b what h; stored = w .1 }
 
 -- an answer with the length of its reply
 pub answers : {b after : List ℕ} {what : Reply} {n : ℕ} (a : Answer) → Replies what b n after → Answers a what b (withLength n a) after

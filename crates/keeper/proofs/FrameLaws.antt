@@ -27,8 +27,9 @@ use Rattle.rules.specs.Decision.{refusalOf, refusedReply, refused, decisionOf}
 use Rattle.rules.specs.Step.{Step, tooShort, stepBy, stepOn}
 use Rattle.rules.proofs.ReadLaws.{frames-are-read}
 use Rattle.rules.proofs.StepLaws.{error-fits, written-none}
+use Rattle.keeper.proofs.AnswerLaws.{put-behind}
 use Rattle.keeper.specs.private.Reasons.{closedOr}
-use Rattle.keeper.specs.private.Does.{Does, Readable, Answers, refusing, noNames, numberOf, kindNamed, errorOf}
+use Rattle.keeper.specs.private.Does.{Does, Readable, Answers, withLength, lengthIn, refusing, noNames, numberOf, kindNamed, errorOf}
 
 -- ---- nothing is read
 
@@ -54,12 +55,14 @@ module _ (s : Session) (x : Frame) (m : ℕ) (r : Report) (b : List ℕ) (read :
   abbrev n : ℕ
   n = closedOr (isClosed s) m
 
-  own-room : length (replyBytes (Reply.Error (errorOf n noNames r))) ≤ length b
-  own-room =
-      le-trans
+  own-long : lengthIn b (Reply.Error (errorOf n noNames r)) ≡ length (replyBytes (Reply.Error (errorOf n noNames r)))
+  own-long =
+      put-behind b (Reply.Error (errorOf n noNames r))
+      (le-trans
       (subst (λ y. length (replyBytes y) ≤ minBuffer) nameless
-      (subst (λ (k : ℕ). length (replyBytes (Reply.Error (refusalOf x r k))) ≤ minBuffer) reasons (error-fits s x r read)))
-      room
+      (subst (λ (k : ℕ). length (replyBytes (Reply.Error (refusalOf x r k))) ≤ minBuffer) reasons
+      (error-fits s x r read)))
+      room)
 
   own-decision : decisionOf s x r ≡ refused s n (Reply.Error (errorOf n noNames r))
   unfolding decisionOf refusedReply
@@ -73,7 +76,10 @@ module _ (s : Session) (x : Frame) (m : ℕ) (r : Report) (b : List ℕ) (read :
   own-refuses : {a : Answer} {after : List ℕ} → Answers (refusing (usedOf x) n) (Reply.Error (errorOf n noNames r)) b a after → Does (stepOn s x r b) a s after
   own-refuses h =
       record {
-        answered = h .answered ∙ ap (λ y. y .answer) (sym own-step);
+        answered =
+            h .answered
+            ∙ ap (λ (k : ℕ). withLength k (refusing (usedOf x) n)) own-long
+            ∙ ap (λ y. y .answer) (sym own-step);
         kept = ap (λ y. y .session) (sym own-step);
         replied = h .stored ∙ ap (λ y. y .buffer) (sym own-step);
       }
@@ -111,21 +117,11 @@ module _ (s : Session) (used : ℕ) (r : Report) (b : List ℕ) (room : minBuffe
   payload-nameless kind true = refl
   payload-nameless kind false = refl
 
-  pub unknown-room : {n : ℕ} → n ≡ closedOr (isClosed s) Reason.unknownType → length (replyBytes (Reply.Error (errorOf n noNames r))) ≤ length b
-  unknown-room e =
-      subst (λ (k : ℕ). length (replyBytes (Reply.Error (errorOf k noNames r))) ≤ length b) (sym e)
-      (own-room s (UnknownType used) Reason.unknownType r b tt unknown-reason (late-by (isClosed s) Reason.unknownType (omega arith)) (unknown-nameless (isClosed s)) room)
-
   pub unknown-refuses : {n : ℕ} {a : Answer} {after : List ℕ} → n ≡ closedOr (isClosed s) Reason.unknownType →
       Answers (refusing used n) (Reply.Error (errorOf n noNames r)) b a after → Does (stepOn s (UnknownType used) r b) a s after
   unknown-refuses {n} {a} {after} e h =
       own-refuses s (UnknownType used) Reason.unknownType r b tt unknown-reason (late-by (isClosed s) Reason.unknownType (omega arith)) (unknown-nameless (isClosed s)) room
       (subst (λ (k : ℕ). Answers (refusing used k) (Reply.Error (errorOf k noNames r)) b a after) e h)
-
-  pub payload-room : (kind : ℕ) {n : ℕ} → n ≡ closedOr (isClosed s) Reason.badPayload → length (replyBytes (Reply.Error (errorOf n noNames r))) ≤ length b
-  payload-room kind e =
-      subst (λ (k : ℕ). length (replyBytes (Reply.Error (errorOf k noNames r))) ≤ length b) (sym e)
-      (own-room s (BadPayload used kind) Reason.badPayload r b tt (payload-reason kind) (late-by (isClosed s) Reason.badPayload (omega arith)) (payload-nameless kind (isClosed s)) room)
 
   pub payload-refuses : (kind : ℕ) {n : ℕ} {a : Answer} {after : List ℕ} → n ≡ closedOr (isClosed s) Reason.badPayload →
       Answers (refusing used n) (Reply.Error (errorOf n noNames r)) b a after → Does (stepOn s (BadPayload used kind) r b) a s after

@@ -30,7 +30,8 @@ use Rattle.rules.proofs.BufferLaws.{reply-fits}
 use Rattle.keeper.specs.declared.answer.Names.{Names}
 use Rattle.keeper.specs.declared.answer.Sends.{Sends}
 use Rattle.keeper.specs.private.Reasons.{requestReason, orElse}
-use Rattle.keeper.specs.private.Does.{Does, Answers, Readable, Ready, accepting, refusing, withLength, noNames, namesOf, numberOf, kindNamed, errorOf, sendsOf}
+use Rattle.keeper.proofs.AnswerLaws.{put-behind}
+use Rattle.keeper.specs.private.Does.{Does, Answers, Readable, Ready, accepting, refusing, withLength, lengthIn, noNames, namesOf, numberOf, kindNamed, errorOf, sendsOf}
 
 -- ---- with room, whatever the session
 
@@ -71,13 +72,15 @@ module _ (s : Session) (used : ℕ) (q : Request) (r : Report) (b : List ℕ) (r
   step-accepted : reason ≡ 0 → stepOn s x r b ≡ stepBy x b (accepted s r q)
   step-accepted e = decided (accepted s r q) (acceptance e)
 
-  pub refuse-room : {n : ℕ} {names : Names} → n ≡ reason → names ≡ namesOf q →
-      length (replyBytes (Reply.Error (errorOf n names r))) ≤ length b
-  refuse-room {n} {names} e f =
-      let at : length (replyBytes (Reply.Error (errorOf reason (namesOf q) r))) ≤ length b =
-      le-trans (subst (λ y. length (replyBytes y) ≤ minBuffer) (error-is reason) (error-fits s x r read)) room in
-      subst (λ (k : ℕ). length (replyBytes (Reply.Error (errorOf k names r))) ≤ length b) (sym e)
-      (subst (λ y. length (replyBytes (Reply.Error (errorOf reason y r))) ≤ length b) (sym f) at)
+  -- the Error fits, and so does the reply of an accepted step
+  error-long : lengthIn b (Reply.Error (errorOf reason (namesOf q) r))
+      ≡ length (replyBytes (Reply.Error (errorOf reason (namesOf q) r)))
+  error-long =
+      put-behind b (Reply.Error (errorOf reason (namesOf q) r))
+      (le-trans (subst (λ y. length (replyBytes y) ≤ minBuffer) (error-is reason) (error-fits s x r read)) room)
+
+  reply-long : lengthIn b (sendsOf s q r .reply) ≡ length (replyBytes (sendsOf s q r .reply))
+  reply-long = put-behind b (sendsOf s q r .reply) (le-trans (reply-fits s q r) room)
 
   pub refuses : {n : ℕ} {names : Names} {a : Answer} {after : List ℕ} → n ≡ reason → (n ≡ 0 → ⊥) → names ≡ namesOf q →
       Answers (refusing used n) (Reply.Error (errorOf n names r)) b a after → Does (stepOn s x r b) a s after
@@ -87,14 +90,11 @@ module _ (s : Session) (used : ℕ) (q : Request) (r : Report) (b : List ℕ) (r
       (subst (λ y. Answers (refusing used n) (Reply.Error (errorOf n y r)) b a after) f h) in
       let is = sym (step-refused none) in
       record {
-        answered = g .answered ∙ ap (λ y. y .answer) is;
+        answered =
+            g .answered ∙ ap (λ (k : ℕ). withLength k (refusing used reason)) error-long ∙ ap (λ y. y .answer) is;
         kept = ap (λ y. y .session) is;
         replied = g .stored ∙ ap (λ y. y .buffer) is;
       }
-
-  pub accept-room : {sends : Sends} → sends ≡ sendsOf s q r → length (replyBytes (sends .reply)) ≤ length b
-  accept-room {sends} e =
-      subst (λ y. length (replyBytes (y .reply)) ≤ length b) (sym e) (le-trans (reply-fits s q r) room)
 
   pub accepts : {n : ℕ} {sends : Sends} {s' : Session} {a : Answer} {after : List ℕ} → n ≡ reason → n ≡ 0 → sends ≡ sendsOf s q r →
       s' ≡ sessionAfter s q r → Answers (accepting used sends) (sends .reply) b a after → Does (stepOn s x r b) a s' after
@@ -102,7 +102,10 @@ module _ (s : Session) (used : ℕ) (q : Request) (r : Report) (b : List ℕ) (r
       let g = subst (λ y. Answers (accepting used y) (y .reply) b a after) f h in
       let is = sym (step-accepted (sym e ∙ z)) in
       record {
-        answered = g .answered ∙ ap (λ y. y .answer) is;
+        answered =
+            g .answered
+            ∙ ap (λ (k : ℕ). withLength k (accepting used (sendsOf s q r))) reply-long
+            ∙ ap (λ y. y .answer) is;
         kept = k ∙ ap (λ y. y .session) is;
         replied = g .stored ∙ ap (λ y. y .buffer) is;
       }
@@ -136,11 +139,6 @@ module _ (s : Session) (used : ℕ) (q : Request) (r : Report) (b : List ℕ) (r
   nameless : Reply.Error (errorOf Reason.closed noNames r) ≡ Reply.Error (errorOf Reason.closed (namesOf q) r)
   unfolding numberOf kindNamed
   nameless = refl
-
-  pub closed-room : length (replyBytes (Reply.Error (errorOf Reason.closed noNames r))) ≤ length b
-  closed-room =
-      subst (λ x. length (replyBytes x) ≤ length b) (sym nameless)
-      (refuse-room s used q r b room read (closed-reason s used q r closed) refl)
 
   pub closed-refuses : {a : Answer} {after : List ℕ} → Answers (refusing used Reason.closed) (Reply.Error (errorOf Reason.closed noNames r)) b a after →
       Does (stepOn s (Good used q) r b) a s after

@@ -88,9 +88,8 @@ fn place_behind(put: Put) -> usize
     }
 }
 
-// The reply put at the front of the buffer. Answers its length.
+// The reply put at the front of the buffer, where it fits. Answers its length.
 fn put_reply(buf: &mut [u8], what: Reply) -> usize
-    requires { ⌜ length (replyBytes what) ≤ length (now buf) ⌝ }
     ensures { λ r. ⌜ Replies what (now (buf .entry)) r (now (buf .exit)) ⌝ }
 {
     place_behind(reply::write_reply(buf, what))
@@ -98,7 +97,6 @@ fn put_reply(buf: &mut [u8], what: Reply) -> usize
 
 // An accepted step.
 pub(crate) fn accept(buf: &mut [u8], used: usize, sends: Sends) -> Answer
-    requires { ⌜ length (replyBytes (sends .reply)) ≤ length (now buf) ⌝ }
     ensures { λ r. ⌜ Answers (accepting used sends) (sends .reply) (now (buf .entry)) r (now (buf .exit)) ⌝ }
 {
     let what = sends.reply;
@@ -169,7 +167,6 @@ pub(crate) fn refuse(
     names: Names,
     report: Report,
 ) -> Answer
-    requires { ⌜ length (replyBytes (Reply.Error (errorOf reason names report))) ≤ length (now buf) ⌝ }
     ensures { λ r. ⌜
         Answers (refusing used reason) (Reply.Error (errorOf reason names report)) (now (buf .entry)) r
         (now (buf .exit))

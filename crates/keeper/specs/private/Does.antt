@@ -6,7 +6,7 @@ use mathlib.Core.List.{List}
 use lib.ListN.{length}
 use lib.Dec.{eqb}
 use Rattle.protocol.specs.Reason as Reason
-use Rattle.encode.specs.Put.{written}
+use Rattle.encode.specs.Put.{putAt, written}
 use Rattle.encode.specs.declared.put.Put.{Put}
 use Rattle.args.specs.declared.arguments.Arguments.{Arguments}
 use Rattle.message.specs.Request.{stmtOf, cursorOf, argsOf}
@@ -38,9 +38,13 @@ pub record Does (step : Step) (answer : Answer) (session : Session) (buffer : Li
   pub kept : session ≡ step .session
   pub replied : buffer ≡ step .buffer
 
+-- the length told of a reply: 0 where it does not fit
+abbrev pub lengthIn : List ℕ → Reply → ℕ
+lengthIn buffer reply = placeBehind (putAt buffer 0 (replyBytes reply))
+
 -- a reply put at the front of the buffer, and its length told
 pub record Replies (reply : Reply) (before : List ℕ) (n : ℕ) (after : List ℕ) : Type 0 where
-  pub long : n ≡ length (replyBytes reply)
+  pub long : n ≡ lengthIn before reply
   pub stored : after ≡ written before 0 (replyBytes reply)
 
 -- an answer but for the reply's length
@@ -71,7 +75,7 @@ refusing used reason = record { reason = reason; used = used; reply = 0; columns
 
 -- the answer with the length of its reply, which stands at the front of the buffer
 pub record Answers (answer : Answer) (reply : Reply) (before : List ℕ) (r : Answer) (after : List ℕ) : Type 0 where
-  pub answered : r ≡ withLength (length (replyBytes reply)) answer
+  pub answered : r ≡ withLength (lengthIn before reply) answer
   pub stored : after ≡ written before 0 (replyBytes reply)
 
 -- what an Error names, of a request and of a frame that holds none

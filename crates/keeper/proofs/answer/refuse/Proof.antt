@@ -10,17 +10,6 @@ use Rattle.keeper.proofs.AnswerLaws.{answers-as, error-as}
 use Rattle.keeper.proofs.answer.refuse.Statement.{statement}
 use Rattle.keeper.proofs.answer.refuse.Tie as tie
 
-put-reply-requires : tie.Need-put-reply-requires
-put-reply-requires c κs =
-    let k = c .before in
-    let n = k .before in
-    let w = n .before in
-    let s = w .before .before in
-    let a = s .args in
-    subst (λ (e : Reply). length (replyBytes e) ≤ length (a .buf .now))
-    (sym (error-as (a .reason) (a .names) (a .report) (w .wire-code .ensures) (n .number-of .ensures) (k .kind-named .ensures)))
-    (s .pre)
-
 returns : tie.Need-returns
 returns c =
     let p = c .before .before in
@@ -33,4 +22,4 @@ returns c =
     (p .put-reply .ensures)
 
 pub refuse-spec : {M : Type 1} → statement M
-refuse-spec = tie.close (tie.spec (λ c κs. search needs) (λ c κs. search needs) (λ c κs. search needs) put-reply-requires (λ c. search needs) returns)
+refuse-spec = tie.close (tie.spec (λ c κs. search needs) (λ c κs. search needs) (λ c κs. search needs) (λ c κs. search needs) (λ c. search needs) returns)

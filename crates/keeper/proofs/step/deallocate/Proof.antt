@@ -4,22 +4,10 @@ use mathlib.Core.Path.{refl}
 use borrow.Author.Needs.{needs}
 use Rattle.message.specs.declared.request.Request.{Request}
 use Rattle.session.specs.Words.{sessionOf}
-use Rattle.keeper.proofs.StepLaws.{refuse-room, refuses, accept-room, accepts}
+use Rattle.keeper.proofs.StepLaws.{refuses, accepts}
 use Rattle.keeper.proofs.RequestLaws.{stmt-found, deallocate-decides, deallocate-sends, deallocate-after}
 use Rattle.keeper.proofs.step.deallocate.Statement.{statement}
 use Rattle.keeper.proofs.step.deallocate.Tie as tie
-
-refuse-requires : tie.Need-refuse-requires
-refuse-requires c κs =
-    let o = c .before .before .before in
-    let k = o .before in
-    let g = k .before .before in
-    let st = g .before .before .before in
-    let a = st .args in
-    refuse-room (sessionOf (a .words .now)) (a .used) (Request.Deallocate (a .stmt)) (a .report) (a .buf .now) (st .pre .room) (st .pre .read)
-    (deallocate-decides (sessionOf (a .words .now)) (st .pre .unclosed) (a .used) (a .report) (a .stmt)
-    (stmt-found (sessionOf (a .words .now)) (a .stmt) (g .find-stmt .ensures) (k .stmt-at .ensures)) (o .dead-stmt .ensures))
-    (c .unbound .ensures)
 
 returns : tie.Need-returns
 returns c =
@@ -34,13 +22,6 @@ returns c =
     (deallocate-decides (sessionOf (a .words .now)) (st .pre .unclosed) (a .used) (a .report) (a .stmt)
     (stmt-found (sessionOf (a .words .now)) (a .stmt) (g .find-stmt .ensures) (k .stmt-at .ensures)) (o .dead-stmt .ensures))
     (t .if1 .taken) (w .before .unbound .ensures) (w .refuse .ensures)
-
-accept-requires : tie.Need-accept-requires
-accept-requires c κs =
-    let st = c .before .before .before .before .before .before .before .before .before .before in
-    let a = st .args in
-    accept-room (sessionOf (a .words .now)) (a .used) (Request.Deallocate (a .stmt)) (a .report) (a .buf .now) (st .pre .room) (st .pre .read)
-    (deallocate-sends (sessionOf (a .words .now)) (a .stmt) (a .report))
 
 returns-2 : tie.Need-returns-2
 returns-2 c =
@@ -66,10 +47,10 @@ deallocate-spec =
     (λ c κs. search needs)
     (λ c κs. search needs)
     (λ c κs. search needs)
-    refuse-requires
+    (λ c κs. search needs)
     (λ c. search needs)
     returns
     (λ c κs. search needs)
-    accept-requires
+    (λ c κs. search needs)
     (λ c. search needs)
     returns-2)

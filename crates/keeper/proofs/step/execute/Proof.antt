@@ -4,23 +4,10 @@ use mathlib.Core.Path.{refl}
 use borrow.Author.Needs.{needs}
 use Rattle.message.specs.declared.request.Request.{Request}
 use Rattle.session.specs.Words.{sessionOf}
-use Rattle.keeper.proofs.StepLaws.{refuse-room, refuses, accept-room, accepts}
+use Rattle.keeper.proofs.StepLaws.{refuses, accepts}
 use Rattle.keeper.proofs.RequestLaws.{execute-decides, execute-sends, execute-after}
 use Rattle.keeper.proofs.step.execute.Statement.{statement}
 use Rattle.keeper.proofs.step.execute.Tie as tie
-
-refuse-requires : tie.Need-refuse-requires
-refuse-requires c κs =
-    let o = c .before .before .before .before in
-    let p = o .before in
-    let d = p .before in
-    let e = d .before in
-    let st = e .before .before .before in
-    let a = st .args in
-    refuse-room (sessionOf (a .words .now)) (a .used) (Request.Execute (a .x)) (a .report) (a .buf .now) (st .pre .room) (st .pre .read)
-    (execute-decides (sessionOf (a .words .now)) (st .pre .unclosed) (a .used) (a .report) (a .x) (e .execute .ensures) (d .is-result .ensures)
-    (p .report .ensures) (o .or-else .ensures))
-    (c .before .bound .ensures)
 
 returns : tie.Need-returns
 returns c =
@@ -36,13 +23,6 @@ returns c =
     (execute-decides (sessionOf (a .words .now)) (st .pre .unclosed) (a .used) (a .report) (a .x) (e .execute .ensures) (d .is-result .ensures)
     (p .report .ensures) (o .or-else .ensures))
     (t .if1 .taken) (w .before .before .bound .ensures) (w .refuse .ensures)
-
-accept-requires : tie.Need-accept-requires
-accept-requires c κs =
-    let st = c .before .before .before .before .before .before .before .before .before .before .before in
-    let a = st .args in
-    accept-room (sessionOf (a .words .now)) (a .used) (Request.Execute (a .x)) (a .report) (a .buf .now) (st .pre .room) (st .pre .read)
-    (execute-sends (sessionOf (a .words .now)) (a .x) (a .report) (c .all .ensures))
 
 returns-2 : tie.Need-returns-2
 returns-2 c =
@@ -71,11 +51,11 @@ execute-spec =
     (λ c κs. search needs)
     (λ c κs. search needs)
     (λ c κs. search needs)
-    refuse-requires
+    (λ c κs. search needs)
     (λ c. search needs)
     returns
     (λ c κs. search needs)
     (λ c κs. search needs)
-    accept-requires
+    (λ c κs. search needs)
     (λ c. search needs)
     returns-2)

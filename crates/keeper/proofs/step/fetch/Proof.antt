@@ -5,25 +5,10 @@ use mathlib.Core.Path.{refl, sym, _∙_}
 use borrow.Author.Needs.{needs}
 use Rattle.message.specs.declared.request.Request.{Request}
 use Rattle.session.specs.Words.{sessionOf}
-use Rattle.keeper.proofs.StepLaws.{refuse-room, refuses, accept-room, accepts}
+use Rattle.keeper.proofs.StepLaws.{refuses, accepts}
 use Rattle.keeper.proofs.RequestLaws.{cursor-found, fetch-decides, fetch-sends, fetch-after, fetch-within}
 use Rattle.keeper.proofs.step.fetch.Statement.{statement}
 use Rattle.keeper.proofs.step.fetch.Tie as tie
-
-refuse-requires : tie.Need-refuse-requires
-refuse-requires c κs =
-    let o = c .before .before .before in
-    let p = o .before in
-    let d = p .before in
-    let e = d .before in
-    let k = e .before in
-    let g = k .before .before in
-    let st = g .before .before .before in
-    let a = st .args in
-    let found = cursor-found (sessionOf (a .words .now)) (a .f .cursor) (g .find-cursor .ensures) (k .cursor-at .ensures) in
-    refuse-room (sessionOf (a .words .now)) (a .used) (Request.Fetch (a .f)) (a .report) (a .buf .now) (st .pre .room) (st .pre .read)
-    (fetch-decides (sessionOf (a .words .now)) (st .pre .unclosed) (a .used) (a .report) (a .f) found (e .fetch .ensures) (d .is-done .ensures) (p .report .ensures) (o .or-else .ensures))
-    (c .unbound .ensures)
 
 returns : tie.Need-returns
 returns c =
@@ -63,17 +48,6 @@ fetched-requires c κs =
     fetch-within (k .cursor-at .result) (k .before .before .before .before .before .args .f .rows) (o .before .report .result)
     (e .fetch .ensures) (o .or-else .ensures) (n .before .before .if1 .left) (n .fetch-count .ensures)
 
-accept-requires : tie.Need-accept-requires
-accept-requires c κs =
-    let n = c .before .before .before .before .before in
-    let k = n .before .before .before .before .before .before .before in
-    let g = k .before .before in
-    let st = g .before .before .before in
-    let a = st .args in
-    let s = sessionOf (a .words .now) in
-    accept-room s (a .used) (Request.Fetch (a .f)) (a .report) (a .buf .now) (st .pre .room) (st .pre .read)
-    (fetch-sends s (a .f) (a .report) (cursor-found s (a .f .cursor) (g .find-cursor .ensures) (k .cursor-at .ensures)) (n .fetch-count .ensures) (c .fetched .ensures))
-
 returns-2 : tie.Need-returns-2
 returns-2 c =
     let w = c .before .before in
@@ -108,13 +82,13 @@ fetch-spec =
     (λ c κs. search needs)
     (λ c κs. search needs)
     (λ c κs. search needs)
-    refuse-requires
+    (λ c κs. search needs)
     (λ c. search needs)
     returns
     (λ c κs. search needs)
     sent-after-requires
     (λ c κs. search needs)
     fetched-requires
-    accept-requires
+    (λ c κs. search needs)
     (λ c. search needs)
     returns-2)

@@ -4,24 +4,10 @@ use mathlib.Core.Path.{refl}
 use borrow.Author.Needs.{needs}
 use Rattle.message.specs.declared.request.Request.{Request}
 use Rattle.session.specs.Words.{sessionOf}
-use Rattle.keeper.proofs.StepLaws.{refuse-room, refuses, accept-room, accepts}
+use Rattle.keeper.proofs.StepLaws.{refuses, accepts}
 use Rattle.keeper.proofs.RequestLaws.{open-decides, open-sends, open-after, open-within, result-within}
 use Rattle.keeper.proofs.step.open.Statement.{statement}
 use Rattle.keeper.proofs.step.open.Tie as tie
-
-refuse-requires : tie.Need-refuse-requires
-refuse-requires c κs =
-    let o = c .before .before .before .before in
-    let p = o .before in
-    let d = p .before in
-    let e = d .before in
-    let g = e .before .before in
-    let st = g .before .before .before .before in
-    let a = st .args in
-    refuse-room (sessionOf (a .words .now)) (a .used) (Request.Open (a .o)) (a .report) (a .buf .now) (st .pre .room) (st .pre .read)
-    (open-decides (sessionOf (a .words .now)) (st .pre .unclosed) (a .used) (a .report) (a .o) (e .«open» .ensures) (d .is-result .ensures)
-    (p .report .ensures) (o .or-else .ensures))
-    (c .before .bound .ensures)
 
 returns : tie.Need-returns
 returns c =
@@ -71,14 +57,6 @@ opened-requires c κs =
     let a = n .before .before .before .before .before .before .before .before .before .before .before .before .args in
     open-within (a .report) (a .o .rows) (n .open-count .ensures)
 
-accept-requires : tie.Need-accept-requires
-accept-requires c κs =
-    let n = c .before .before .before .before .before in
-    let st = n .before .before .before .before .before .before .before .before .before .before .before .before in
-    let a = st .args in
-    accept-room (sessionOf (a .words .now)) (a .used) (Request.Open (a .o)) (a .report) (a .buf .now) (st .pre .room) (st .pre .read)
-    (open-sends (sessionOf (a .words .now)) (a .o) (a .report) (n .open-count .ensures) (c .opened .ensures))
-
 returns-2 : tie.Need-returns-2
 returns-2 c =
     let w = c .before .before in
@@ -110,7 +88,7 @@ open-spec =
     (λ c κs. search needs)
     (λ c κs. search needs)
     (λ c κs. search needs)
-    refuse-requires
+    (λ c κs. search needs)
     (λ c. search needs)
     returns
     (λ c κs. search needs)
@@ -118,6 +96,6 @@ open-spec =
     cast-open-2
     (λ c κs. search needs)
     opened-requires
-    accept-requires
+    (λ c κs. search needs)
     (λ c. search needs)
     returns-2)

@@ -4,24 +4,10 @@ use mathlib.Core.Path.{refl}
 use borrow.Author.Needs.{needs}
 use Rattle.message.specs.declared.request.Request.{Request}
 use Rattle.session.specs.Words.{sessionOf}
-use Rattle.keeper.proofs.StepLaws.{refuse-room, refuses, accept-room, accepts}
+use Rattle.keeper.proofs.StepLaws.{refuses, accepts}
 use Rattle.keeper.proofs.RequestLaws.{prepare-decides, prepare-sends, prepare-after, prepared-within}
 use Rattle.keeper.proofs.step.prepare.Statement.{statement}
 use Rattle.keeper.proofs.step.prepare.Tie as tie
-
-refuse-requires : tie.Need-refuse-requires
-refuse-requires c κs =
-    let o = c .before .before .before .before in
-    let p = o .before in
-    let d = p .before in
-    let e = d .before in
-    let g = e .before in
-    let st = g .before .before .before in
-    let a = st .args in
-    refuse-room (sessionOf (a .words .now)) (a .used) (Request.Prepare (a .p)) (a .report) (a .buf .now) (st .pre .room) (st .pre .read)
-    (prepare-decides (sessionOf (a .words .now)) (st .pre .unclosed) (a .used) (a .report) (a .p) (g .stmt-place .ensures) (e .full .ensures)
-    (d .is-prepared .ensures) (p .report .ensures) (o .or-else .ensures))
-    (c .before .bound .ensures)
 
 returns : tie.Need-returns
 returns c =
@@ -47,13 +33,6 @@ cast-prepare c =
     let d = p .before in
     let r = d .before .before .before .before .before .args .report in
     record { fits = omega (arith, prepared-within r (d .before .full .result) (d .is-prepared .ensures) (p .report .ensures) (o .or-else .ensures) (t .if1 .left)) }
-
-accept-requires : tie.Need-accept-requires
-accept-requires c κs =
-    let st = c .before .before .before .before .before .before .before .before .before .before .before .before in
-    let a = st .args in
-    accept-room (sessionOf (a .words .now)) (a .used) (Request.Prepare (a .p)) (a .report) (a .buf .now) (st .pre .room) (st .pre .read)
-    (prepare-sends (sessionOf (a .words .now)) (a .p) (a .report))
 
 returns-2 : tie.Need-returns-2
 returns-2 c =
@@ -83,11 +62,11 @@ prepare-spec =
     (λ c κs. search needs)
     (λ c κs. search needs)
     (λ c κs. search needs)
-    refuse-requires
+    (λ c κs. search needs)
     (λ c. search needs)
     returns
     cast-prepare
     (λ c κs. search needs)
-    accept-requires
+    (λ c κs. search needs)
     (λ c. search needs)
     returns-2)

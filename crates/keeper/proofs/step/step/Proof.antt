@@ -4,7 +4,7 @@ use mathlib.Core.Path.{refl}
 use borrow.Author.Needs.{needs}
 use Rattle.message.specs.Frame.{frameOf}
 use Rattle.session.specs.Words.{sessionOf}
-use Rattle.keeper.proofs.FrameLaws.{short-step, cut-step, length-step, unknown-room, unknown-refuses, payload-room, payload-refuses, does-read, readable, sym-answer}
+use Rattle.keeper.proofs.FrameLaws.{short-step, cut-step, length-step, unknown-refuses, payload-refuses, does-read, readable, sym-answer}
 use Rattle.keeper.proofs.step.step.Statement.{statement}
 use Rattle.keeper.proofs.step.step.Tie as tie
 
@@ -35,13 +35,6 @@ returns-3 c =
     (sym-answer (c .refuse-silently3 .ensures) (length-step s (a .report) (a .reply .now) (f .before .if1 .left))) in
     (d .answered, (d .kept, d .replied))
 
-refuse-requires : tie.Need-refuse-requires
-refuse-requires c κs =
-    let k = c .before in
-    let f = k .before .before .before .before .before in
-    let a = f .before .before .before .before .args in
-    unknown-room (sessionOf (a .words .now)) 0 (a .report) (a .reply .now) (f .before .if1 .left) (k .closed-or .ensures)
-
 returns-4 : tie.Need-returns-4
 returns-4 c =
     let w = c .before .before in
@@ -53,13 +46,6 @@ returns-4 c =
     let d = does-read s (a .frame .now) (a .report) (a .reply .now) (f .read-frame .ensures) (u .used .given .1)
     (unknown-refuses s _ (a .report) (a .reply .now) (f .before .if1 .left) (k .closed-or .ensures) (w .refuse .ensures)) in
     (d .answered, (d .kept, d .replied))
-
-refuse-requires-2 : tie.Need-refuse-requires-2
-refuse-requires-2 c κs =
-    let k = c .before in
-    let f = k .before .before .before .before .before in
-    let a = f .before .before .before .before .args in
-    payload-room (sessionOf (a .words .now)) 0 (a .report) (a .reply .now) (f .before .if1 .left) 0 (k .closed-or2 .ensures)
 
 returns-5 : tie.Need-returns-5
 returns-5 c =
@@ -102,10 +88,10 @@ step-spec =
     (λ c κs. search needs)
     (λ c. search needs)
     (λ c κs. search needs)
-    refuse-requires
+    (λ c κs. search needs)
     (λ c. search needs)
     (λ c κs. search needs)
-    refuse-requires-2
+    (λ c κs. search needs)
     (λ c. search needs)
     step-on-requires
     returns-2

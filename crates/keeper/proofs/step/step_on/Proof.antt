@@ -4,19 +4,12 @@ use borrow.Author.Needs.{needs}
 use Rattle.message.specs.declared.request.Request.{Request}
 use Rattle.session.specs.Words.{sessionOf}
 use Rattle.rules.specs.Read.{Read}
-use Rattle.keeper.proofs.StepLaws.{closed-room, closed-refuses, ready, does-as, accept-room, accepts}
+use Rattle.keeper.proofs.StepLaws.{closed-refuses, ready, does-as, accepts}
 use Rattle.keeper.proofs.RequestLaws.{reset-decides, reset-sends, reset-after, session-close-decides, session-close-sends, session-close-after}
 use Rattle.keeper.proofs.step.step_on.Statement.{statement}
 use Rattle.keeper.proofs.step.step_on.Tie as tie
 
 -- the session is open, the request was read, and there is room
-refuse-requires : tie.Need-refuse-requires
-refuse-requires c κs =
-    let k = c .before .before in
-    let st = k .before .before .before in
-    let a = st .args in
-    closed-room (sessionOf (a .words .now)) (a .used) (a .request) (a .report) (a .buf .now) (st .pre .room) (st .pre .read) (sym (k .is-closed .ensures) ∙ c .before .if1 .taken)
-
 returns : tie.Need-returns
 returns c =
     let w = c .before .before in
@@ -123,15 +116,6 @@ returns-7 c =
     let a = st .args in
     does-as (sessionOf (a .words .now)) (a .used) (a .report) (a .buf .now) (q .request6 .given .1) (w .deallocate .ensures)
 
-accept-requires : tie.Need-accept-requires
-accept-requires c κs =
-    let q = c .before .before .before in
-    let t = q .before .before in
-    let st = t .before .before .before .before in
-    let a = st .args in
-    accept-room (sessionOf (a .words .now)) (a .used) Request.Reset (a .report) (a .buf .now) (st .pre .room) (subst Read (q .enum-told .given .1) (st .pre .read))
-    (reset-sends (sessionOf (a .words .now)) (a .report))
-
 returns-8 : tie.Need-returns-8
 returns-8 c =
     let w = c .before .before in
@@ -146,15 +130,6 @@ returns-8 c =
     (accepts s (a .used) Request.Reset (a .report) (a .buf .now) (st .pre .room) (subst Read (q .enum-told .given .1) (st .pre .read))
     (reset-decides s (sym (k .is-closed .ensures) ∙ t .if1 .left) (a .used) (a .report)) refl (reset-sends s (a .report))
     (reset-after s (a .report) (u .clear .ensures)) (w .accept .ensures))
-
-accept-requires-2 : tie.Need-accept-requires-2
-accept-requires-2 c κs =
-    let q = c .before .before .before in
-    let t = q .before .before in
-    let st = t .before .before .before .before in
-    let a = st .args in
-    accept-room (sessionOf (a .words .now)) (a .used) Request.SessionClose (a .report) (a .buf .now) (st .pre .room) (subst Read (q .enum-told2 .given .1) (st .pre .read))
-    (session-close-sends (sessionOf (a .words .now)) (a .report))
 
 returns-9 : tie.Need-returns-9
 returns-9 c =
@@ -176,7 +151,7 @@ step-on-spec =
     tie.close
     (tie.spec
     (λ c κs. search needs)
-    refuse-requires
+    (λ c κs. search needs)
     (λ c. search needs)
     returns
     (λ c. search needs)
@@ -193,10 +168,10 @@ step-on-spec =
     deallocate-requires
     (λ c. search needs)
     (λ c κs. search needs)
-    accept-requires
+    (λ c κs. search needs)
     (λ c. search needs)
     (λ c κs. search needs)
-    accept-requires-2
+    (λ c κs. search needs)
     (λ c. search needs)
     returns-2
     (λ c. search needs)
