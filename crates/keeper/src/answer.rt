@@ -1,12 +1,9 @@
 // The answer of a step, with its reply put at the front of the buffer.
 ghost use mathlib.Core.Path.{_≡_};
 ghost use mathlib.Core.Bool.{false};
-ghost use Prim.Native.Nat.{_≤_};
-ghost use lib.ListN.{length};
 ghost use Rattle.protocol.specs.Reason as Reason;
 ghost use Rattle.encode.specs.declared.put.Put.{Put};
 ghost use Rattle.args.specs.Arguments.{noArguments};
-ghost use Rattle.reply.specs.Reply.{replyBytes};
 ghost use Rattle.reply.specs.declared.Reply.{Reply};
 ghost use Rattle.rules.specs.Decision.{wireCode};
 ghost use Rattle.keeper.specs.private.Does.{Answers, Replies, accepting, errorOf, kindNamed, namesBy, numberOf, placeBehind, refusing};
