@@ -12,3 +12,4 @@ pub mod ArgsFieldLaws
 pub mod WithinLaws
 pub mod MovedArgLaws
 pub mod BoundLaws
+pub mod UnreadLaws

@@ -1,13 +1,12 @@
 -- The bytes of an argument lie within those of its Any. Assumes nothing.
 use Prim.Native.Nat.{ℕ, _+_, _≤_}
 use native.Mathlib.Omega.{arith}
-use mathlib.Core.Bool.{Bool, true, false, not, cond}
-use mathlib.Core.Path.{_≡_, refl}
+use mathlib.Core.Bool.{Bool, true, false, not}
 use mathlib.Core.List.{List}
 use lib.ListN.{length, take}
 use lib.Seq.{length-take-le}
 use lib.Dec.{leb, eqb}
-use lib.Ieee.{Format, binary32, binary64, nanBits}
+use lib.Ieee.{binary32, binary64, nanBits}
 use borrow.Author.Tests.{leb-true}
 use Rattle.varint.proofs.PastLaws.{both}
 use Rattle.scalar.specs.Argument.{signedOf, doubleOf, floatOf}

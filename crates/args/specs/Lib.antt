@@ -7,3 +7,4 @@ pub mod Typed
 pub mod ArgumentsRules
 pub mod WithinRules
 pub mod Moved
+pub mod UnreadRules

@@ -8,7 +8,7 @@ use mathlib.Core.List.{List}
 use lib.ListN.{length, getD, set}
 use lib.Seq.{getD-set-same, getD-set-other}
 use lib.Dec.{ltb, eqb}
-use borrow.Author.Tests.{lt-ltb, le-ltb, ne-eqb, eqb-true, eqb-false}
+use borrow.Author.Tests.{lt-ltb, eqb-true}
 use Rattle.wire.specs.Field.{fieldAt}
 use Rattle.wire.specs.Past.{PastField}
 use Rattle.wire.specs.declared.field.Field.{Field}
@@ -23,7 +23,7 @@ use Rattle.layout.specs.Fields.{useOf, noted, onField, fieldsFrom, field
 use Rattle.layout.specs.FieldsRules.{startIn, endIn, BytesUnread}
 use Rattle.layout.specs.declared.slots.Slots.{Slots}
 use Rattle.layout.specs.declared.fields.Use.{Use}
-use Rattle.layout.proofs.FieldsLaws.{kept-slot, from-end}
+use Rattle.layout.proofs.FieldsLaws.{kept-slot}
 use Rattle.layout.proofs.KeptLaws.{same-or-not, zeros, Kept, none-kept, noted-kept, from-kept}
 use Rattle.layout.proofs.EnoughLaws.{field-same}
 

@@ -5,3 +5,5 @@ pub mod ArrayLaws
 pub mod UsedLaws
 pub mod PairedLaws
 pub mod BoundLaws
+pub mod BehindLaws
+pub mod UnchosenLaws

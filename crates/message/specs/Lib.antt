@@ -7,3 +7,4 @@ pub mod Execute
 pub mod Prepare
 pub mod Frame
 pub mod WithinRules
+pub mod UnreadRules

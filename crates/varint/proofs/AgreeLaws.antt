@@ -1,7 +1,7 @@
 -- A number that is read in some bytes is read alike in others that have the same bytes there. Assumes nothing.
 use Prim.Native.Nat.{ℕ, zero, suc, _+_, _%_, _≤_, _<_}
 use native.Mathlib.Omega.{arith}
-use mathlib.Core.Path.{_≡_, refl, sym, ap, _∙_}
+use mathlib.Core.Path.{_≡_, refl, ap}
 use mathlib.Core.List.{List}
 use lib.ListN.{length, getD}
 use Rattle.varint.specs.Varint.{onto, groups, low64, varintAt}

@@ -7,13 +7,13 @@ use mathlib.Core.Path.{_≡_, refl, sym, ap, subst, _∙_}
 use mathlib.Core.List.{List, _++_}
 use lib.ListN.{length, getD, length-append, List·getD-append}
 use lib.Dec.{ltb, leb, eqb}
-use borrow.Author.Tests.{le-leb, eqb-true, eqb-false, ne-eqb}
+use borrow.Author.Tests.{le-leb, eqb-true, ne-eqb}
 use Rattle.varint.specs.Varint.{varintAt}
 use Rattle.varint.specs.declared.Varint.{Varint}
 use Rattle.varint.proofs.PastLaws.{both}
 pub use Rattle.varint.proofs.AgreeLaws.{Agree}
 use Rattle.varint.proofs.AgreeLaws.{agree-later, KeepsVarint, varint-keeps}
-use Rattle.scalar.specs.Fixed.{little, fixedAt}
+use Rattle.scalar.specs.Fixed.{little}
 use Rattle.wire.specs.Tag.{tagOf, tagAt}
 use Rattle.wire.specs.Value.{ofVarint, ofLength, asFixed, valueAt}
 use Rattle.wire.specs.Group.{behind, skipValue, andThen, groupField, groupFields, groupEnd}

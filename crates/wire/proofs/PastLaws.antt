@@ -1,7 +1,7 @@
 -- Tags, values, skips and fields end past their first byte and within the bytes. Assumes nothing.
-use Prim.Native.Nat.{ℕ, zero, suc, _+_, _-_, _/_, _%_, _^_, _≤_, _<_}
+use Prim.Native.Nat.{ℕ, zero, suc, _+_, _-_, _%_, _^_, _≤_, _<_}
 use native.Mathlib.Omega.{arith}
-use mathlib.Core.Bool.{Bool, true, false, cond}
+use mathlib.Core.Bool.{Bool, true, false}
 use mathlib.Core.Path.{_≡_, refl}
 use mathlib.Core.List.{List}
 use lib.ListN.{length}
@@ -11,11 +11,10 @@ use Rattle.varint.specs.Varint.{varintAt}
 use Rattle.varint.specs.Past.{Past}
 use Rattle.varint.specs.declared.Varint.{Varint}
 use Rattle.varint.proofs.PastLaws.{both, varint-past}
-use Rattle.scalar.specs.Fixed.{fixedAt}
 use Rattle.wire.specs.Tag.{tagOf, tagAt}
-use Rattle.wire.specs.Value.{ofVarint, ofLength, ofFixed, asNumber, asLength, asFixed, valueAt}
+use Rattle.wire.specs.Value.{ofVarint, ofLength, asFixed, valueAt}
 use Rattle.wire.specs.Group.{behind, skipValue, andThen, groupField, groupFields, groupEnd}
-use Rattle.wire.specs.Field.{maxDepth, ofValue, ofGroup, fieldOf, ofTag, fieldAt}
+use Rattle.wire.specs.Field.{maxDepth, ofValue, ofGroup, ofTag, fieldAt}
 use Rattle.wire.specs.Past.{PastTag, PastValue, PastSkip, PastField}
 use Rattle.wire.specs.declared.tag.Tag.{Tag}
 use Rattle.wire.specs.declared.value.Value.{Value}

@@ -1,0 +1,225 @@
+-- What an Any and a Scalar do not choose is not read. Assumes nothing.
+use Prim.Native.Nat.{ℕ, suc, _+_, _≤_, _<_}
+use native.Mathlib.Omega.{arith}
+use mathlib.Core.Bool.{Bool, true, false, not, cond}
+use mathlib.Core.Logic.{_⊎_, inl, inr, ⊎-elim}
+use mathlib.Core.Path.{_≡_, refl, sym, ap, ap₂, subst, _∙_}
+use mathlib.Core.List.{List, [], _∷_}
+use lib.ListN.{length, getD, take, drop, length-take, length-drop, List·getD-eq-default}
+use lib.Seq.{getD-take, getD-drop, length-take-le}
+use lib.Dec.{leb, eqb}
+use borrow.Author.Tests.{ne-eqb, eqb-true, eqb-false}
+use Rattle.varint.proofs.TailLaws.{less-or-not}
+use Rattle.wire.proofs.AgreeLaws.{Tails}
+use Rattle.scalar.specs.declared.argument.Argument.{Argument}
+use Rattle.layout.specs.SameBut.{SameBut}
+use Rattle.layout.specs.Row.{wireOf, isRepeated, rowFor}
+use Rattle.layout.specs.Table.{rowsOf, any, scalar, bytes, len}
+use Rattle.layout.specs.Slots.{noSlots, badSlots}
+use Rattle.layout.specs.Fields.{fieldsFrom, checked, fieldsAt}
+use Rattle.layout.specs.FieldsRules.{startIn, endIn}
+use Rattle.layout.specs.declared.slots.Slots.{Slots}
+use Rattle.layout.proofs.CountLaws.{good-list}
+use Rattle.layout.proofs.ApartLaws.{kept-apart}
+use Rattle.layout.proofs.KeptLaws.{kept-within}
+use Rattle.layout.proofs.UnreadLaws.{from-tail, kept-behind, bytes-unread}
+use Rattle.args.specs.Part.{embedded, countOf, startOf, lenOf, absent}
+use Rattle.args.specs.Value.{bad, present, bytesOf, bytesIn, ofType, scalarOf, ofAnyType, anyOf}
+use Rattle.args.specs.Arguments.{argumentsFrom, argumentsAt}
+use Rattle.args.specs.UnreadRules.{typeIn, OnlyField, AnyUnread, ScalarUnread}
+use Rattle.args.proofs.PartLaws.{part-within}
+use Rattle.args.proofs.MovedArgLaws.{args-moved}
+
+-- ---- bytes that differ somewhere
+
+pub same-wider : {s t : List ℕ} {a e : ℕ} → SameBut s t a e → (b f : ℕ) → b ≤ a → e ≤ f → SameBut s t b f
+same-wider {s} {t} {a} {e} w b f h l =
+    record {
+      size = w .size;
+      same = λ i. ⊎-elim (λ j. w .same i (inl (omega arith))) (λ j. w .same i (inr (omega arith)));
+    }
+
+pub take-same : (m : ℕ) (s t : List ℕ) (i : ℕ) → length t ≡ length s → (i < m → getD t i 0 ≡ getD s i 0) →
+    getD (take m t) i 0 ≡ getD (take m s) i 0
+take-same m s t i e h =
+    less-or-not i m (λ l. getD-take m t i 0 l ∙ h l ∙ sym (getD-take m s i 0 l))
+    (λ l.
+    List·getD-eq-default (take m t) 0 (omega (arith, length-take m t))
+    ∙ sym (List·getD-eq-default (take m s) 0 (omega (arith, length-take m s))))
+
+pub take-size : (m : ℕ) (s t : List ℕ) → length t ≡ length s → length (take m t) ≡ length (take m s)
+take-size m s t e = omega (arith, length-take m t, length-take m s)
+
+pub same-take : {s t : List ℕ} {a e : ℕ} → SameBut s t a e → (m : ℕ) → SameBut (take m s) (take m t) a e
+same-take {s} {t} w m =
+    record { size = take-size m s t (w .size); same = λ i o. take-same m s t i (w .size) (λ _. w .same i o) }
+
+-- ---- embedded messages
+
+-- a message that has the same bytes
+pub embedded-local : (rows : List (List ℕ)) (s t : List ℕ) (at n : ℕ) → length t ≡ length s →
+    ((i : ℕ) → at ≤ i → i < at + n → getD t i 0 ≡ getD s i 0) → embedded rows t at n ≡ embedded rows s at n
+embedded-local rows s t at n e same =
+    let m = at + n in
+    let tails : Tails (take m s) (take m t) at =
+    record { size = take-size m s t e; same = λ i h. take-same m s t i e (λ l. same i h l) } in
+    ap (λ (k : ℕ). cond (leb m k) (fieldsAt rows (take m t) at) badSlots) e
+    ∙ ap (λ (y : Slots). cond (leb m (length s)) (checked rows y) badSlots)
+    (ap (λ (k : ℕ). fieldsFrom k rows (take m t) at noSlots) (tails .size)
+    ∙ from-tail (length (take m s)) rows (take m s) (take m t) at noSlots tails)
+
+module _ (rows : List (List ℕ)) (s : List ℕ) (at n k : ℕ) (bytes′ : wireOf (rowFor rows k) ≡ len)
+    (once : isRepeated (rowFor rows k) ≡ false) where
+  abbrev x : Slots
+  x = embedded rows s at n
+
+  module _ (good : x .good ≡ true) where
+    within : at + n ≤ length s
+    within = good-list rows s at (at + n) good .0
+
+    is : fieldsAt rows (take (at + n) s) at ≡ x
+    is = part-within rows s at n within
+
+    good′ : fieldsAt rows (take (at + n) s) at .good ≡ true
+    good′ = ap (λ (y : Slots). y .good) is ∙ good
+
+    -- a field lies in the message
+    pub field-in : (absent x k ≡ false) → (at < startIn x k) × (endIn x k ≤ at + n)
+    field-in there = (
+      omega (
+        arith,
+        ap (λ (y : Slots). startIn y k) is,
+        kept-behind rows k bytes′ once (take (at + n) s) at good′
+            (λ z. eqb-false (countOf x k) 0 there (ap (λ (y : Slots). countOf y k) (sym is) ∙ z)),
+      ),
+      omega (
+        arith,
+        ap (λ (y : Slots). endIn y k) is,
+        kept-within rows (take (at + n) s) at k,
+        length-take-le (at + n) s within,
+      ),
+    )
+
+    -- and beside every other field of it
+    pub field-beside : (i : ℕ) → (i ≡ k → ⊥) → (endIn x i ≤ startIn x k) ⊎ (endIn x k ≤ startIn x i)
+    field-beside i h =
+        subst (λ (y : Slots). (endIn y i ≤ startIn y k) ⊎ (endIn y k ≤ startIn y i)) is
+        (kept-apart rows (take (at + n) s) at i k h)
+
+    -- its bytes are not read
+    pub embedded-unread : (t : List ℕ) → absent x k ≡ false → SameBut s t (startIn x k) (endIn x k) →
+        embedded rows t at n ≡ x
+    embedded-unread t there b =
+        sym (part-within rows t at n (omega (arith, within, b .size)))
+        ∙ bytes-unread rows (take (at + n) s) (take (at + n) t) at k bytes′ once good′
+        (λ z. eqb-false (countOf x k) 0 there (ap (λ (y : Slots). countOf y k) (sym is) ∙ z))
+        (subst (λ (y : Slots). SameBut (take (at + n) s) (take (at + n) t) (startIn y k) (endIn y k)) (sym is)
+        (same-take b (at + n)))
+        ∙ is
+
+-- ---- the list of arguments
+
+list-same : (xs ys : List ℕ) → length xs ≡ length ys → ((i : ℕ) → getD xs i 0 ≡ getD ys i 0) → xs ≡ ys
+list-same [] [] e h = refl
+list-same [] (y ∷ ys) e h = absurd (omega arith)
+list-same (x ∷ xs) [] e h = absurd (omega arith)
+list-same (x ∷ xs) (y ∷ ys) e h =
+    ap₂ (λ (a : ℕ) (l : List ℕ). a ∷ l) (h 0) (list-same xs ys (omega arith) (λ i. h (suc i)))
+
+-- the same bytes from a place on are the same arguments from there
+pub arguments-local : (s t : List ℕ) (at : ℕ) → Tails s t at → at ≤ length s → argumentsAt t at ≡ argumentsAt s at
+arguments-local s t at a h =
+    let b = drop at s in
+    let same : drop at t ≡ b =
+    list-same (drop at t) b (omega (arith, length-drop at t, length-drop at s, a .size))
+    (λ i. getD-drop at t i 0 ∙ a .same (at + i) (omega arith) ∙ sym (getD-drop at s i 0)) in
+    let z : at + 0 ≡ at = omega arith in
+    ap (argumentsFrom (length t) t) (sym z)
+    ∙ args-moved (record { within = omega (arith, a .size); is = same }) (length b) (length t) 0 (omega arith)
+    (omega (arith, length-drop at s, a .size))
+    ∙ sym
+    (args-moved (record { within = h; is = refl }) (length b) (length s) 0 (omega arith)
+    (omega (arith, length-drop at s)))
+    ∙ ap (argumentsFrom (length s) s) z
+
+-- ---- arguments
+
+any-scalar : (wireOf (rowFor (rowsOf any) 2) ≡ len) × (isRepeated (rowFor (rowsOf any) 2) ≡ false)
+unfolding rowsOf rowFor
+any-scalar = (refl, refl)
+
+-- an object and an array are one whatever their bytes
+type-unread : (s t : List ℕ) (x : Slots) (c : ℕ) → (c ≡ 1 → ⊥) → ofAnyType t x c ≡ ofAnyType s x c
+unfolding ofAnyType
+type-unread s t x c h = rw (ne-eqb c 1 h)
+
+pub any-unread : AnyUnread
+unfolding anyOf
+any-unread s t at n h o =
+    let x = embedded (rowsOf any) s at n in
+    ap (λ (y : Slots). cond (y .good) (ofAnyType t y (typeIn y)) bad)
+    (embedded-unread (rowsOf any) s at n 2 (any-scalar .0) (any-scalar .1) (o .good) t (o .there) (o .same))
+    ∙ ap (λ (a : Argument). cond (x .good) a bad) (type-unread s t x (typeIn x) h)
+
+-- the field of octets and that of a string
+abbrev fieldOf : Bool → ℕ
+fieldOf octets = cond octets 5 9
+
+scalar-field : (octets : Bool) →
+    (wireOf (rowFor (rowsOf scalar) (fieldOf octets)) ≡ len)
+    × (isRepeated (rowFor (rowsOf scalar) (fieldOf octets)) ≡ false)
+unfolding rowsOf rowFor
+scalar-field true = (refl, refl)
+scalar-field false = (refl, refl)
+
+-- a Scalar reads other bytes only where its type is octets or string
+type-local : (s t : List ℕ) (x : Slots) (c : ℕ) →
+    (c ≡ 4 → bytesIn true t (startOf x 5) (lenOf x 5) ≡ bytesIn true s (startOf x 5) (lenOf x 5)) →
+    (c ≡ 8 → bytesIn false t (startOf x 9) (lenOf x 9) ≡ bytesIn false s (startOf x 9) (lenOf x 9)) →
+    ofType t x c ≡ ofType s x c
+unfolding ofType
+type-local s t x c f g = go (eqb c 4) refl (eqb c 8) refl
+  where
+    go : (a : Bool) → eqb c 4 ≡ a → (b : Bool) → eqb c 8 ≡ b → ofType t x c ≡ ofType s x c
+    go true e b e′ =
+        subst (λ (d : ℕ). ofType t x d ≡ ofType s x d) (sym (eqb-true c 4 e))
+        (ap (present (countOf x 5)) (f (eqb-true c 4 e)))
+    go false e true e′ =
+        subst (λ (d : ℕ). ofType t x d ≡ ofType s x d) (sym (eqb-true c 8 e′))
+        (ap (present (countOf x 9)) (g (eqb-true c 8 e′)))
+    go false e false e′ = rw (e, e′)
+
+-- the bytes of one field beside those of another
+bytes-beside : (octets : Bool) (s t : List ℕ) (x : Slots) (i k : ℕ) → SameBut s t (startIn x k) (endIn x k) →
+    (endIn x i ≤ startIn x k) ⊎ (endIn x k ≤ startIn x i) →
+    bytesIn octets t (startOf x i) (lenOf x i) ≡ bytesIn octets s (startOf x i) (lenOf x i)
+bytes-beside octets s t x i k b beside =
+    ap (bytesOf octets)
+    (embedded-local (rowsOf bytes) s t (startOf x i) (lenOf x i) (b .size)
+    (λ j h l.
+    ⊎-elim (λ d. b .same j (inl (omega arith))) (λ d. b .same j (inr (omega arith))) beside))
+
+module _ (s t : List ℕ) (at n : ℕ) where
+  abbrev y : Slots
+  y = embedded (rowsOf scalar) s at n
+
+  beside : (octets : Bool) → OnlyField y (fieldOf octets) s t → (i : ℕ) → (i ≡ fieldOf octets → ⊥) → (other : Bool) →
+      bytesIn other t (startOf y i) (lenOf y i) ≡ bytesIn other s (startOf y i) (lenOf y i)
+  beside octets o i h other =
+      bytes-beside other s t y i (fieldOf octets) (o .same)
+      (field-beside (rowsOf scalar) s at n (fieldOf octets) (scalar-field octets .0) (scalar-field octets .1) (o .good)
+      i h)
+
+  type-kept : (octets : Bool) → (typeIn y ≡ cond octets 4 8 → ⊥) → OnlyField y (fieldOf octets) s t →
+      ofType t y (typeIn y) ≡ ofType s y (typeIn y)
+  type-kept true h o = type-local s t y (typeIn y) (λ e. absurd (h e)) (λ e. beside true o 9 (λ z. omega arith) false)
+  type-kept false h o = type-local s t y (typeIn y) (λ e. beside false o 5 (λ z. omega arith) true) (λ e. absurd (h e))
+
+pub scalar-unread : ScalarUnread
+unfolding scalarOf
+scalar-unread s t at n octets h o =
+    let x = embedded (rowsOf scalar) s at n in
+    let f = scalar-field octets in
+    ap (λ (z : Slots). cond (z .good) (ofType t z (typeIn z)) bad)
+    (embedded-unread (rowsOf scalar) s at n (fieldOf octets) (f .0) (f .1) (o .good) t (o .there) (o .same))
+    ∙ ap (λ (a : Argument). cond (x .good) a bad) (type-kept s t at n octets h o)

@@ -1,0 +1,35 @@
+-- What an Any and a Scalar do not choose is not read: other bytes of the same length there change no argument (L10).
+use Prim.Native.Nat.{ℕ}
+use mathlib.Core.Bool.{Bool, true, false, cond}
+use mathlib.Core.Path.{_≡_}
+use mathlib.Core.List.{List}
+use Rattle.layout.specs.SameBut.{SameBut}
+use Rattle.layout.specs.Table.{rowsOf, any, scalar}
+use Rattle.layout.specs.FieldsRules.{startIn, endIn}
+use Rattle.layout.specs.declared.slots.Slots.{Slots}
+use Rattle.args.specs.Part.{embedded, absent, valueOf, low32}
+use Rattle.args.specs.Value.{scalarIn, argumentIn}
+
+-- the type that a message names in field 1
+abbrev pub typeIn : Slots → ℕ
+typeIn x = low32 (valueOf x 1)
+
+-- s and t differ only in the bytes of field k, which a good message x of s has
+pub record OnlyField (x : Slots) (k : ℕ) (s t : List ℕ) : Type 0 where
+  pub good : x .good ≡ true
+  pub there : absent x k ≡ false
+  pub same : SameBut s t (startIn x k) (endIn x k)
+
+-- an Any that is no scalar does not read its scalar, field 2
+abbrev pub AnyUnread : Type 0
+AnyUnread =
+    (s t : List ℕ) (at n : ℕ) →
+    (typeIn (embedded (rowsOf any) s at n) ≡ 1 → ⊥) →
+    OnlyField (embedded (rowsOf any) s at n) 2 s t → argumentIn t at n ≡ argumentIn s at n
+
+-- a Scalar that is no octets (type 4) does not read field 5, and one that is no string (type 8) not field 9
+abbrev pub ScalarUnread : Type 0
+ScalarUnread =
+    (s t : List ℕ) (at n : ℕ) (octets : Bool) →
+    (typeIn (embedded (rowsOf scalar) s at n) ≡ cond octets 4 8 → ⊥) →
+    OnlyField (embedded (rowsOf scalar) s at n) (cond octets 5 9) s t → scalarIn t at n ≡ scalarIn s at n
