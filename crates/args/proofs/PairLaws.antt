@@ -132,7 +132,7 @@ lone-says s at n =
 -- ---- the fields
 
 module _ {s : List ℕ} {at first : ℕ} (t : FieldOne s at first) where
-  field-one : fieldAt s at ≡ Field.Good 1 0 first (at + 1) 1 (at + 2)
+  pub field-one : fieldAt s at ≡ Field.Good 1 0 first (at + 1) 1 (at + 2)
   field-one =
       let next : at + 1 + 1 ≡ at + 2 = omega arith in
       sym

@@ -4,6 +4,7 @@ use native.Mathlib.Omega.{arith}
 use mathlib.Core.Path.{_≡_, refl, sym, ap, subst, _∙_}
 use mathlib.Core.List.{List}
 use lib.ListN.{length, take, getD}
+use lib.Seq.{length-take-le}
 use lib.Dec.{ltb, leb, eqb}
 use borrow.Author.Tests.{ltb-true, leb-true, eqb-true, lt-ltb, le-ltb, lt-leb, le-leb, eq-eqb, ne-eqb}
 use Rattle.varint.proofs.PastLaws.{both}
@@ -18,9 +19,13 @@ use Rattle.layout.specs.Fields.{useOf, noted, checked}
 use Rattle.layout.specs.declared.fields.Use.{Use}
 use Rattle.layout.proofs.FieldsLaws.{starts, goes-on, ends}
 use Rattle.args.specs.Part.{embedded}
+use Rattle.args.specs.Arguments.{noArguments, argumentsIn}
 use Rattle.args.specs.Pair.{textOf, textAt, textIn}
 use Rattle.args.specs.declared.pair.Text.{Text}
 use Rattle.args.proofs.PartLaws.{yes, no, part-within}
+use Rattle.args.proofs.PlaceLaws as Place
+use Rattle.args.proofs.ArgumentsLaws.{none-left}
+use Rattle.args.proofs.ArgumentsLaws as Walk
 
 -- ---- the steps
 
@@ -122,3 +127,12 @@ module _ (s : List ℕ) (at n : ℕ) {r : Text} {start len : ℕ} (e : r ≡ Tex
       ap (checked rows)
       (ends (goes-on (starts rows (take (at + n) s) at) (told .1 .inside) (told .1 .field) Use.Kept kept) (omega arith))
       ∙ part-within rows s at n (told .0)
+
+  -- a message of that field alone has no arguments
+  pub text-arguments : noArguments at (at + n) ≡ argumentsIn (take (at + n) s) at
+  text-arguments =
+      let cut = take (at + n) s in
+      let f = told .1 in
+      let past = Place.other-number (Place.starts cut at) (f .inside) (f .field) (λ h. omega arith) in
+      ap (noArguments at) (sym (length-take-le (at + n) s (told .0)))
+      ∙ none-left (Walk.starts cut at) (sym (Place.next-placed cut at _ (Place.ends past (omega arith))))

@@ -4,13 +4,19 @@ use mathlib.Core.Bool.{Bool, true, false}
 use mathlib.Core.Path.{_≡_, refl, sym, ap, _∙_}
 use mathlib.Core.List.{List}
 use lib.ListN.{take}
+use Rattle.layout.specs.Row.{rowFor}
+use Rattle.layout.specs.Table.{rowsOf, stmtExecute}
+use Rattle.layout.specs.Fields.{hasRequired}
 use Rattle.layout.specs.declared.slots.Slots.{Slots}
 use Rattle.layout.proofs.CountLaws.{good-list}
 use Rattle.args.specs.Part.{embedded, valueOf, low32}
-use Rattle.args.specs.Arguments.{badArguments, argumentsIn}
+use Rattle.args.specs.Pair.{textIn}
+use Rattle.args.specs.Arguments.{noArguments, badArguments, argumentsIn}
 use Rattle.args.specs.Bound.{rowsBy, boundIn, argsOf}
 use Rattle.args.specs.declared.arguments.Arguments.{Arguments}
 use Rattle.args.specs.declared.bound.Bound.{Bound}
+use Rattle.args.specs.declared.pair.Text.{Text}
+use Rattle.args.proofs.TextLaws.{told, text-kept, text-arguments}
 use Rattle.args.proofs.BoundLaws.{bound-found, bound-lost, found-arguments, lost-arguments}
 use Rattle.message.specs.Operation as Operation
 use Rattle.message.specs.Payload.{optionalBy, optionalOf, truthOf}
@@ -83,3 +89,13 @@ module _ (s : List ℕ) (t at n : ℕ) (stmt : t ≡ Operation.stmtExecute) (b :
 
   pub body-found : b .hasone ≡ true → argsOf b at (at + n) ≡ bodyIn s t at n
   body-found h = found-args true s at n b e h ∙ body-stmt s t at n body stmt refl (found-good true s at n b e h)
+
+-- a text alone: a body without arguments
+pub body-text : (s : List ℕ) (t at n : ℕ) → t ≡ Operation.stmtExecute → {r : Text} {start len : ℕ} →
+    r ≡ Text.Alone start len → r ≡ textIn s at n → noArguments at (at + n) ≡ bodyIn s t at n
+unfolding rowsOf rowFor hasRequired
+body-text s t at n stmt e p =
+    text-arguments s at n e p
+    ∙ within-there s at n (told s at n e p .0)
+    ∙ body-stmt s t at n (embedded (rowsOf stmtExecute) s at n) stmt refl
+    (ap (λ (x : Slots). x .good) (sym (text-kept s at n e p (rowsOf stmtExecute) refl)))

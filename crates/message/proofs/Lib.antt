@@ -7,3 +7,4 @@ pub mod PairedLaws
 pub mod BoundLaws
 pub mod BehindLaws
 pub mod UnchosenLaws
+pub mod OuterLaws

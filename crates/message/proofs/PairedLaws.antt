@@ -1,4 +1,5 @@
--- Two fields that fill the frame: what a message's rows make of them, and a Fetch of them. Assumes nothing.
+-- Two fields that fill the frame: what a message's rows make of them, and a Fetch and a Prepare of them. Assumes
+-- nothing.
 use Prim.Native.Nat.{ℕ, _+_, _-_, _/_, _%_, _≤_}
 use native.Mathlib.Omega.{arith}
 use mathlib.Core.Bool.{true}
@@ -15,9 +16,10 @@ use Rattle.layout.proofs.ArrayLaws.{fields-whole}
 use Rattle.args.specs.Part.{embedded, low32}
 use Rattle.args.specs.Pair.{pairIn}
 use Rattle.args.specs.declared.pair.Pair.{Pair}
-use Rattle.args.proofs.PairLaws.{told, pair-kept}
+use Rattle.args.proofs.PairLaws.{told, pair-kept, pair-bytes}
 use Rattle.message.specs.Payload.{payload, optionalBy}
 use Rattle.message.specs.Simple.{fetchIn, fetchFrame}
+use Rattle.message.specs.Prepare.{prepareInside, prepareOf, prepareFrame}
 use Rattle.message.specs.declared.request.Optional.{Optional}
 use Rattle.message.specs.declared.request.Request.{Request}
 use Rattle.message.specs.declared.request.Frame.{Frame}
@@ -52,3 +54,17 @@ module _ (s : List ℕ) {r : Pair} {first tag value start : ℕ} (e : r ≡ Pair
         Frame.Good (length s) (Request.Fetch (record { cursor = cursor; rows = rows })) ≡ fetchFrame s
     fetch-paired cursor c rows o =
         ap (λ (x : ℕ). fetching x rows) c ∙ ap (fetching (low32 first)) o ∙ fetch-fills
+
+  -- of a field with bytes the length is the value
+  pub pair-fills-bytes : (at : ℕ) → at ≤ length s → r ≡ pairIn s at (length s - at) → (rows : List (List ℕ)) (key : ℕ) →
+      tag ≡ key → 8 ≤ key → key % 8 ≡ 2 → Use.Kept ≡ useOf rows 1 0 first → Use.Kept ≡ useOf rows (key / 8) (key % 8) value →
+      checked rows (noted Use.Kept (noted Use.Kept noSlots 1 first (at + 1) 1) (key / 8) value start value)
+      ≡ fieldsAt rows s at
+  pair-fills-bytes at h p rows key is some long one two =
+      pair-bytes s at (length s - at) e p rows first key (omega arith) some one two long ∙ to-the-end rows s at h
+
+  pub prepare-paired : payload ≤ length s → r ≡ pairIn s payload (length s - payload) → tag ≡ 18 →
+      prepareInside s first start value ≡ prepareFrame s
+  unfolding prepareFrame rowsOf rowFor hasRequired
+  prepare-paired h p is =
+      ap (prepareOf s) (pair-fills-bytes payload h p (rowsOf Client.prepare) 18 is (omega arith) refl refl refl)

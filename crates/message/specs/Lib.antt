@@ -8,3 +8,4 @@ pub mod Prepare
 pub mod Frame
 pub mod WithinRules
 pub mod UnreadRules
+pub mod private

@@ -2,6 +2,7 @@
 ghost use mathlib.Core.Path.{_≡_};
 ghost use Rattle.message.specs.Execute.{badExecute, executeFrame, executeFrom, executeIn};
 ghost use Rattle.message.specs.Execute.{openFrame, openFrom, openInside};
+use crate::outer::Outer;
 use crate::payload::PAYLOAD;
 use crate::payload::low;
 use crate::payload::read_optional;
@@ -12,6 +13,7 @@ use crate::request::Open;
 use crate::request::Optional;
 use crate::request::Request;
 use args::arguments::Arguments;
+use args::pair::Pair;
 use args::part::Part;
 use args::part::fill_part;
 use layout::fields::fill_fields;
@@ -92,8 +94,9 @@ fn open_from(s: &[u8], id: u64, rows: Optional, body: Part, x: Execute) -> Frame
     }
 }
 
-// An Open with this cursor id and fetch_rows, and its statement in `n` bytes of s from `at` on.
-fn open_inside(s: &[u8], id: u64, asked: Optional, at: usize, n: usize) -> Frame
+// An Open with this cursor id and fetch_rows, and its statement in `n` bytes of s from `at` on: the long way, by the
+// rows.
+fn long_inside(s: &[u8], id: u64, asked: Optional, at: usize, n: usize) -> Frame
     ensures { λ r. ⌜ r ≡ openInside (now (s .entry)) id asked at n ⌝ }
 {
     let rows = layout::rows::open_stmt_rows();
@@ -118,7 +121,30 @@ fn open_inside(s: &[u8], id: u64, asked: Optional, at: usize, n: usize) -> Frame
     open_from(s, id, asked, Part { start, len }, execute_in(s, start, len))
 }
 
-pub fn read_open(s: &[u8]) -> Frame
+// The type and the tag of an Open's statement of two fields, in one number: type 0, and its Execute in field 2.
+const CHOSEN_EXECUTE: u64 = 18;
+
+// With a short way for a statement of two fields, its type and its Execute.
+fn open_inside(s: &[u8], id: u64, asked: Optional, at: usize, n: usize) -> Frame
+    ensures { λ r. ⌜ r ≡ openInside (now (s .entry)) id asked at n ⌝ }
+{
+    let all = s.len();
+    if let Pair::Two {
+        first,
+        tag,
+        value,
+        start,
+    } = args::pair::read_pair(s, at, n) {
+        if first * 256 + tag == CHOSEN_EXECUTE {
+            let len = value as usize;
+            return open_from(s, id, asked, Part { start, len }, execute_in(s, start, len));
+        }
+    }
+    long_inside(&s[..all], id, asked, at, n)
+}
+
+// The long way, by the rows.
+fn long_open(s: &[u8]) -> Frame
     ensures { λ r. ⌜ r ≡ openFrame (now (s .entry)) ⌝ }
 {
     let rows = layout::rows::open_rows();
@@ -141,5 +167,22 @@ pub fn read_open(s: &[u8]) -> Frame
     }
     // Field 1 is cursor_id, 4 the statement, 5 fetch_rows.
     let asked = read_optional(seen[5], values[5]);
-    open_inside(s, values[1], asked, starts[4], values[4] as usize)
+    long_inside(s, values[1], asked, starts[4], values[4] as usize)
+}
+
+// With the short way for its own fields.
+pub fn read_open(s: &[u8]) -> Frame
+    ensures { λ r. ⌜ r ≡ openFrame (now (s .entry)) ⌝ }
+{
+    let n = s.len();
+    if let Outer::Fields {
+        id,
+        start,
+        len,
+        has,
+        rows,
+    } = crate::outer::read_outer(s) {
+        return open_inside(s, id, read_optional(has, rows), start, len);
+    }
+    long_open(&s[..n])
 }

@@ -3,6 +3,7 @@ pub mod execute;
 pub mod frame;
 pub mod head;
 pub mod operation;
+mod outer;
 pub mod payload;
 pub mod prepare;
 pub mod request;

@@ -9,6 +9,7 @@ use crate::request::Prepare;
 use crate::request::Request;
 use args::arguments::Arguments;
 use args::pair::Pair;
+use args::pair::Text;
 use args::part::Part;
 use args::part::fill_part;
 use layout::fields::fill_fields;
@@ -19,6 +20,9 @@ pub fn read_body(s: &[u8], operation: u64, at: usize, n: usize) -> Arguments
     ensures { λ r. ⌜ r ≡ bodyIn (now (s .entry)) operation at n ⌝ }
 {
     if operation == operation::STMT_EXECUTE {
+        if let Text::Alone { start: _, len: _ } = args::pair::read_text(s, at, n) {
+            return Arguments::none(at, at + n);
+        }
         // Field 1 is the text.
         let b = args::bound::read_bound(s, at, n, true);
         if !b.hasone {
@@ -57,8 +61,8 @@ fn prepare_from(s: &[u8], id: u64, operation: u64, body: Part, args: Arguments) 
     }
 }
 
-// A Prepare with this id, and its statement in `n` bytes of s from `at` on.
-fn prepare_inside(s: &[u8], id: u64, at: usize, n: usize) -> Frame
+// A Prepare with this id, and its statement in `n` bytes of s from `at` on: the long way, by the rows.
+fn long_inside(s: &[u8], id: u64, at: usize, n: usize) -> Frame
     ensures { λ r. ⌜ r ≡ prepareInside (now (s .entry)) id at n ⌝ }
 {
     let rows = layout::rows::prepare_stmt_rows();
@@ -93,8 +97,8 @@ fn prepare_inside(s: &[u8], id: u64, at: usize, n: usize) -> Frame
 // A statement's type StmtExecute, and the tag of the body that it chooses (field 6, wire type 2), in one number.
 const CHOSEN_EXECUTE: u64 = operation::STMT_EXECUTE * 256 + 50;
 
-// The same as prepare_inside, with a short way for a statement of two fields, its type and its body, a StmtExecute.
-fn quick_inside(s: &[u8], id: u64, at: usize, n: usize) -> Frame
+// With a short way for a statement of two fields, its type and its body, a StmtExecute.
+fn prepare_inside(s: &[u8], id: u64, at: usize, n: usize) -> Frame
     ensures { λ r. ⌜ r ≡ prepareInside (now (s .entry)) id at n ⌝ }
 {
     let all = s.len();
@@ -110,10 +114,11 @@ fn quick_inside(s: &[u8], id: u64, at: usize, n: usize) -> Frame
             return prepare_from(s, id, operation::STMT_EXECUTE, Part { start, len }, args);
         }
     }
-    prepare_inside(&s[..all], id, at, n)
+    long_inside(&s[..all], id, at, n)
 }
 
-pub fn read_prepare(s: &[u8]) -> Frame
+// The long way, by the rows.
+fn long_prepare(s: &[u8]) -> Frame
     ensures { λ r. ⌜ r ≡ prepareFrame (now (s .entry)) ⌝ }
 {
     let rows = layout::rows::prepare_rows();
@@ -135,5 +140,28 @@ pub fn read_prepare(s: &[u8]) -> Frame
         };
     }
     // Field 1 is stmt_id, 2 the statement.
-    quick_inside(s, values[1], starts[2], values[2] as usize)
+    long_inside(s, values[1], starts[2], values[2] as usize)
+}
+
+// The tag of the statement, field 2 with bytes.
+const STMT_TAG: u64 = 18;
+
+// With a short way for a Prepare of its two fields alone, as most are.
+pub fn read_prepare(s: &[u8]) -> Frame
+    ensures { λ r. ⌜ r ≡ prepareFrame (now (s .entry)) ⌝ }
+{
+    let n = s.len();
+    if PAYLOAD <= n {
+        if let Pair::Two {
+            first,
+            tag,
+            value,
+            start,
+        } = args::pair::read_pair(s, PAYLOAD, n - PAYLOAD) {
+            if tag == STMT_TAG {
+                return prepare_inside(s, first, start, value as usize);
+            }
+        }
+    }
+    long_prepare(&s[..n])
 }

@@ -1,41 +1,51 @@
--- The arrays hold the statement's fields; the Execute stands in field 2.
-use mathlib.Core.Path.{_∙_}
-use borrow.Author.Tests.{not-true, not-false}
+-- Two short fields are read by their bytes alone, to the slots that the rows give; anything else goes the long way.
+use Prim.Native.Nat.{ℕ}
+use native.Mathlib.Omega.{arith}
+use mathlib.Core.Path.{refl, sym, ap, _∙_}
+use mathlib.Core.List.{List}
+use lib.ListN.{length}
+use lib.Seq.{take-length}
 use Rattle.layout.specs.Table.{rowsOf, openStmt}
-use Rattle.layout.specs.Arrays.{Holds}
-use Rattle.args.specs.Part.{embedded}
-use Rattle.message.proofs.ArrayLaws.{open-spoiled, open-without, open-held}
+use Rattle.layout.specs.Row.{rowFor}
+use Rattle.layout.specs.Fields.{hasRequired}
+use Rattle.args.proofs.PairLaws.{named-short, pair-bytes}
+use Rattle.message.specs.Execute.{openFrom, openChosen, openInside}
 use borrow.Author.Needs.{needs}
 use Rattle.message.proofs.execute.open_inside.Statement.{statement}
 use Rattle.message.proofs.execute.open_inside.Tie as tie
 
-held : (c : tie.After-fill-part) →
-    let a = c .before .before .before .before .before .before .before .args in let l = c .fill-part in
-    let m = l .last .1 .1 .1 .1 in
-    Holds (embedded (rowsOf openStmt) (a .s .now) (a .at) (a .n)) (l .result) (m .0) (m .1 .0) (m .1 .1 .0)
-held c = rw (c .before .before .before .before .before .open-stmt-rows .ensures) at (c .fill-part .ensures)
+mul-if1 : tie.Need-mul-if1
+mul-if1 c =
+    let r = c .before .before .before in
+    let a = r .before .before .args in
+    omega (arith, named-short (a .s .now) (a .at) (a .n) (c .before .first .given .1) (r .read-pair .ensures))
+
+add-if1 : tie.Need-add-if1
+add-if1 c =
+    let r = c .before .before .before in
+    let a = r .before .before .args in
+    omega (arith, named-short (a .s .now) (a .at) (a .n) (c .before .first .given .1) (r .read-pair .ensures))
 
 returns : tie.Need-returns
+unfolding rowsOf rowFor hasRequired
 returns c =
-    let f = c .before in
-    let a = f .before .before .before .before .before .before .before .args in
-    open-spoiled (a .s .now) (a .id) (a .asked) (a .at) (a .n) (held f) (not-true _ (c .if1 .taken))
+    let a = c .before .before .before .before .before .before .before .before .args in
+    let f = c .before .before .before .before .first .given in
+    let v = f .0 .1 .1 in
+    c .open-from .ensures
+    ∙ ap (openFrom (a .s .now) (a .id) (a .asked) (record { start = v .1 .0; len = v .0 })) (c .before .execute-in .ensures)
+    ∙ ap (openChosen (a .s .now) (a .id) (a .asked))
+    (pair-bytes (a .s .now) (a .at) (a .n) (f .1) (c .before .before .before .before .before .before .read-pair .ensures) (rowsOf openStmt) 0 18
+    (c .before .before .if1 .taken) (omega arith) refl refl refl)
+
+slice-aggregate-long-inside : tie.Need-slice-aggregate-long-inside
+slice-aggregate-long-inside c = sym (ap length (take-length (c .before .before .before .before .args .s .now)))
 
 returns-2 : tie.Need-returns-2
 returns-2 c =
-    let f = c .before .before in
-    let a = f .before .before .before .before .before .before .before .args in
-    open-without (a .s .now) (a .id) (a .asked) (a .at) (a .n) (held f) (not-false _ (c .before .if1 .left))
-    (not-true _ (c .if2 .taken))
-
-returns-3 : tie.Need-returns-3
-returns-3 c =
-    let f = c .before .before .before .before in
-    let a = f .before .before .before .before .before .before .before .args in
-    c .open-from .ensures
-    ∙ open-held (a .s .now) (a .id) (a .asked) (a .at) (a .n) (held f)
-    (not-false _ (c .before .before .before .if1 .left)) (not-false _ (c .before .before .if2 .left))
-    (c .before .execute-in .result) (c .before .execute-in .ensures)
+    let a = c .before .before .before .before .before .args in
+    c .long-inside .ensures
+    ∙ ap (λ (l : List ℕ). openInside l (a .id) (a .asked) (a .at) (a .n)) (take-length (a .s .now))
 
 pub open-inside-spec : {M : Type 1} → statement M
 open-inside-spec =
@@ -43,12 +53,12 @@ open-inside-spec =
     (tie.spec
     (λ c κs. search needs)
     (λ c. search needs)
+    mul-if1
+    add-if1
+    (λ c κs. search needs)
     (λ c κs. search needs)
     returns
     (λ c. search needs)
-    returns-2
-    (λ c. search needs)
-    (λ c. search needs)
+    slice-aggregate-long-inside
     (λ c κs. search needs)
-    (λ c κs. search needs)
-    returns-3)
+    returns-2)

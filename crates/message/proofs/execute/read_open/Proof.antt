@@ -1,34 +1,26 @@
--- The arrays hold the message's fields; the statement stands in field 4.
-use mathlib.Core.Path.{ap, _∙_}
-use lib.ListN.{getD}
-use borrow.Author.Tests.{not-true, not-false}
-use Rattle.layout.proofs.ArrayLaws.{holds-lent}
-use Rattle.message.specs.Payload.{payload}
-use Rattle.message.specs.Execute.{openInside}
-use Rattle.message.specs.declared.request.Optional.{Optional}
-use Rattle.message.proofs.ArrayLaws.{open-refused, open-whole}
+-- Its own fields are read by their bytes alone, to the slots that the rows give; anything else goes the long way.
+use mathlib.Core.Path.{sym, ap, subst, _∙_}
+use lib.ListN.{length}
+use lib.Seq.{take-length}
+use Rattle.message.specs.Execute.{openFrame}
+use Rattle.message.specs.private.Outer.{Says}
+use Rattle.message.proofs.OuterLaws.{open-paired}
 use borrow.Author.Needs.{needs}
 use Rattle.message.proofs.execute.read_open.Statement.{statement}
 use Rattle.message.proofs.execute.read_open.Tie as tie
 
 returns : tie.Need-returns
 returns c =
-    let f = c .before in
-    let r = f .before .before .before .before .before in
-    let s = r .before .before .args .s .now in
-    open-refused s (holds-lent (r .open-rows .ensures) s payload (f .fill-fields .ensures)) (not-true _ (c .if1 .taken))
+    let s = c .before .before .before .before .before .before .before .args .s .now in
+    c .open-inside .ensures
+    ∙ open-paired s (subst (Says s) (c .before .before .before .id .given .1) (c .before .before .before .before .before .read-outer .ensures)) _
+    (c .before .read-optional .ensures)
+
+slice-aggregate-long-open : tie.Need-slice-aggregate-long-open
+slice-aggregate-long-open c = sym (ap length (take-length (c .before .before .before .before .before .args .s .now)))
 
 returns-2 : tie.Need-returns-2
-returns-2 c =
-    let f = c .before .before .before in
-    let r = f .before .before .before .before .before in
-    let s = r .before .before .args .s .now in
-    let l = f .fill-fields .last .1 .1 .1 .1 in
-    c .open-inside .ensures
-    ∙ ap (λ (o : Optional). openInside s (getD (l .1 .0) 1 0) o (getD (l .1 .1 .0) 4 0) (getD (l .1 .0) 4 0))
-    (c .before .read-optional .ensures)
-    ∙ open-whole s (holds-lent (r .open-rows .ensures) s payload (f .fill-fields .ensures))
-    (not-false _ (c .before .before .if1 .left))
+returns-2 c = c .long-open .ensures ∙ ap openFrame (take-length (c .before .before .before .before .before .before .args .s .now))
 
 pub read-open-spec : {M : Type 1} → statement M
 read-open-spec =
@@ -37,12 +29,9 @@ read-open-spec =
     (λ c κs. search needs)
     (λ c. search needs)
     (λ c κs. search needs)
+    (λ c κs. search needs)
     returns
     (λ c. search needs)
-    (λ c. search needs)
-    (λ c κs. search needs)
-    (λ c. search needs)
-    (λ c. search needs)
-    (λ c. search needs)
+    slice-aggregate-long-open
     (λ c κs. search needs)
     returns-2)

@@ -1,44 +1,55 @@
--- The arrays hold the statement's fields; the body stands in the field that the type chooses.
-use mathlib.Core.Path.{_∙_}
-use borrow.Author.Tests.{not-true, not-false}
+-- Two short fields are read by their bytes alone, to the slots that the rows give; anything else goes the long way.
+use Prim.Native.Nat.{ℕ}
+use native.Mathlib.Omega.{arith}
+use mathlib.Core.Path.{refl, sym, ap, _∙_}
+use mathlib.Core.List.{List}
+use lib.ListN.{length}
+use lib.Seq.{take-length}
 use Rattle.layout.specs.Table.{rowsOf, prepareStmt}
-use Rattle.layout.specs.Arrays.{Holds}
-use Rattle.args.specs.Part.{embedded}
-use Rattle.message.proofs.ArrayLaws.{prepare-spoiled, prepare-without, prepare-held}
+use Rattle.layout.specs.Row.{rowFor}
+use Rattle.layout.specs.Fields.{hasRequired}
+use Rattle.args.proofs.PairLaws.{named-short, pair-bytes}
+use Rattle.message.specs.Operation as Operation
+use Rattle.message.specs.Prepare.{prepareFrom, prepareRead, prepareInside}
 use borrow.Author.Needs.{needs}
 use Rattle.message.proofs.prepare.prepare_inside.Statement.{statement}
 use Rattle.message.proofs.prepare.prepare_inside.Tie as tie
 
-held : (c : tie.After-fill-part) →
-    let a = c .before .before .before .before .before .before .before .args in let l = c .fill-part in
-    let m = l .last .1 .1 .1 .1 in
-    Holds (embedded (rowsOf prepareStmt) (a .s .now) (a .at) (a .n)) (l .result) (m .0) (m .1 .0) (m .1 .1 .0)
-held c = rw (c .before .before .before .before .before .prepare-stmt-rows .ensures) at (c .fill-part .ensures)
+mul-if1 : tie.Need-mul-if1
+mul-if1 c =
+    let r = c .before .before .before in
+    let a = r .before .before .args in
+    omega (arith, named-short (a .s .now) (a .at) (a .n) (c .before .first .given .1) (r .read-pair .ensures))
+
+add-if1 : tie.Need-add-if1
+add-if1 c =
+    let r = c .before .before .before in
+    let a = r .before .before .args in
+    omega (arith, named-short (a .s .now) (a .at) (a .n) (c .before .first .given .1) (r .read-pair .ensures))
 
 returns : tie.Need-returns
+unfolding rowsOf rowFor hasRequired
 returns c =
-    let f = c .before in
-    let a = f .before .before .before .before .before .before .before .args in
-    prepare-spoiled (a .s .now) (a .id) (a .at) (a .n) (held f) (not-true _ (c .if1 .taken))
+    let a = c .before .before .before .before .before .before .before .before .args in
+    let f = c .before .before .before .before .first .given in
+    let v = f .0 .1 .1 in
+    c .prepare-from .ensures
+    ∙ ap (prepareFrom (a .s .now) (a .id) Operation.stmtExecute (record { start = v .1 .0; len = v .0 }))
+    (c .before .read-body .ensures)
+    ∙ ap (prepareRead (a .s .now) (a .id))
+    (pair-bytes (a .s .now) (a .at) (a .n) (f .1)
+    (c .before .before .before .before .before .before .read-pair .ensures) (rowsOf prepareStmt) 5 50
+    (c .before .before .if1 .taken) (omega arith) refl refl
+    refl)
+
+slice-aggregate-long-inside : tie.Need-slice-aggregate-long-inside
+slice-aggregate-long-inside c =
+    let a = c .before .before .before .before .args in sym (ap length (take-length (a .s .now)))
 
 returns-2 : tie.Need-returns-2
 returns-2 c =
-    let f = c .before .before .before in
-    let a = f .before .before .before .before .before .before .before .args in
-    let k = c .before .field-of in
-    prepare-without (a .s .now) (a .id) (a .at) (a .n) (held f) (not-false _ (c .before .before .if1 .left)) (k .result)
-    (k .ensures .0)
-    (not-true _ (c .if2 .taken))
-
-returns-3 : tie.Need-returns-3
-returns-3 c =
-    let f = c .before .before .before .before .before in
-    let a = f .before .before .before .before .before .before .before .args in
-    let k = c .before .before .before .field-of in
-    c .prepare-from .ensures
-    ∙ prepare-held (a .s .now) (a .id) (a .at) (a .n) (held f)
-    (not-false _ (c .before .before .before .before .if1 .left)) (k .result) (k .ensures .0)
-    (not-false _ (c .before .before .if2 .left)) (c .before .read-body .result) (c .before .read-body .ensures)
+    let a = c .before .before .before .before .before .args in
+    c .long-inside .ensures ∙ ap (λ (l : List ℕ). prepareInside l (a .id) (a .at) (a .n)) (take-length (a .s .now))
 
 pub prepare-inside-spec : {M : Type 1} → statement M
 prepare-inside-spec =
@@ -46,16 +57,12 @@ prepare-inside-spec =
     (tie.spec
     (λ c κs. search needs)
     (λ c. search needs)
+    mul-if1
+    add-if1
+    (λ c κs. search needs)
     (λ c κs. search needs)
     returns
     (λ c. search needs)
+    slice-aggregate-long-inside
     (λ c κs. search needs)
-    (λ c. search needs)
-    returns-2
-    (λ c. search needs)
-    (λ c. search needs)
-    (λ c. search needs)
-    (λ c. search needs)
-    (λ c κs. search needs)
-    (λ c κs. search needs)
-    returns-3)
+    returns-2)

@@ -1,0 +1,103 @@
+-- An Open's own fields in their order: what its rows make of them. Assumes nothing.
+use Prim.Native.Nat.{ℕ, _+_, _≤_, _<_}
+use native.Mathlib.Omega.{arith}
+use mathlib.Core.Bool.{Bool, true, false}
+use mathlib.Core.Path.{_≡_, refl, sym, ap, _∙_}
+use mathlib.Core.List.{List}
+use lib.ListN.{length, getD}
+use Rattle.protocol.specs.Client as Client
+use Rattle.wire.specs.Value.{asNumber, asLength}
+use Rattle.wire.specs.Field.{ofValue, fieldAt}
+use Rattle.wire.specs.declared.value.Value.{Value}
+use Rattle.wire.specs.declared.field.Field.{Field}
+use Rattle.wire.proofs.FieldLaws.{quick-wire}
+use Rattle.wire.proofs.LongLaws.{LongField, field-long}
+use Rattle.layout.specs.Row.{rowFor}
+use Rattle.layout.specs.Table.{rowsOf}
+use Rattle.layout.specs.Slots.{noSlots}
+use Rattle.layout.specs.Fields.{noted, hasRequired, checked, fieldsAt}
+use Rattle.layout.specs.declared.slots.Slots.{Slots}
+use Rattle.layout.specs.declared.fields.Use.{Use}
+use Rattle.layout.proofs.FieldsLaws.{Listing, starts, goes-on, ends}
+use Rattle.args.specs.Part.{valueOf, startOf, lenOf}
+use Rattle.args.proofs.PairLaws.{FieldOne, field-one}
+use Rattle.args.proofs.PartLaws.{yes}
+use Rattle.message.specs.Payload.{payload, optionalBy, optionalOf}
+use Rattle.message.specs.Execute.{openInside, openFrame}
+use Rattle.message.specs.private.Outer.{Opens}
+use Rattle.message.specs.declared.request.Optional.{Optional}
+use Rattle.message.specs.declared.request.Frame.{Frame}
+
+abbrev rows-of : List (List ℕ)
+rows-of = rowsOf Client.open'
+
+-- cursor_id in a byte, and the statement
+module _ (s : List ℕ) (id : ℕ) (one : FieldOne s payload id) (inside : 7 < length s) (is : getD s 7 0 ≡ 34)
+    {v start len next : ℕ} (e : asLength s 8 ≡ Value.Good v start len next) where
+  stmt-read : fieldAt s 7 ≡ Field.Good 4 2 v start len next
+  stmt-read = sym (quick-wire s 7 34 inside (sym is) (omega arith) 2 (omega arith) refl (omega arith)) ∙ ap (ofValue 4 2) e
+
+  stmt-long : v ≡ len
+  stmt-long = go (field-long s 7) refl
+    where
+      go : LongField (fieldAt s 7) → _≡_ {A = ℕ} 2 2 → v ≡ len
+      go = rw stmt-read (λ f. f)
+
+  stmt-field : fieldAt s 7 ≡ Field.Good 4 2 len start len next
+  stmt-field = stmt-read ∙ ap (λ (k : ℕ). Field.Good 4 2 k start len next) stmt-long
+
+  abbrev two : Slots
+  two = noted Use.Kept (noted Use.Kept noSlots 1 id 6 1) 4 len start len
+
+  listed : Listing rows-of s payload next two
+  unfolding rowsOf rowFor
+  listed =
+      goes-on (goes-on (starts rows-of s payload) (omega (arith, inside)) (field-one one) Use.Kept refl) inside stmt-field
+      Use.Kept refl
+
+  opens : (x : Slots) (has : Bool) (rows : ℕ) → x ≡ fieldsAt rows-of s payload → Opens x id start len has rows →
+      Opens (fieldsAt rows-of s payload) id start len has rows
+  opens x has rows d o = rw d at o
+
+  -- and no more
+  pub opens-two : length s ≤ next → Opens (fieldsAt rows-of s payload) id start len false 0
+  unfolding rowsOf rowFor hasRequired
+  opens-two h =
+      opens (checked rows-of two) false 0 (ap (checked rows-of) (ends listed h))
+      (record { good = refl; id-is = refl; start-is = refl; len-is = refl; rows-is = refl })
+
+  -- and fetch_rows
+  module _ (more : next < length s) (at : getD s next 0 ≡ 40) {rows start' len' end : ℕ}
+      (f : asNumber s (next + 1) ≡ Value.Good rows start' len' end) where
+    rows-field : fieldAt s next ≡ Field.Good 5 0 rows start' len' end
+    rows-field =
+        sym (quick-wire s next 40 more (sym at) (omega arith) 0 (omega arith) refl (omega arith)) ∙ ap (ofValue 5 0) f
+
+    abbrev three : Slots
+    three = noted Use.Kept two 5 rows start' len'
+
+    all : Listing rows-of s payload end three
+    unfolding rowsOf rowFor
+    all = goes-on listed more rows-field Use.Kept refl
+
+    pub opens-three : length s ≤ end → Opens (fieldsAt rows-of s payload) id start len true rows
+    unfolding rowsOf rowFor hasRequired
+    opens-three h =
+        opens (checked rows-of three) true rows (ap (checked rows-of) (ends all h))
+        (record { good = refl; id-is = refl; start-is = refl; len-is = refl; rows-is = refl })
+
+-- the Open of such fields
+module _ (s : List ℕ) {id start len rows : ℕ} {has : Bool}
+    (o : Opens (fieldsAt rows-of s payload) id start len has rows) where
+  abbrev x : Slots
+  x = fieldsAt rows-of s payload
+
+  pub open-paired : (asked : Optional) → asked ≡ optionalBy has rows → openInside s id asked start len ≡ openFrame s
+  unfolding openFrame
+  open-paired asked a =
+      ap (λ (q : Optional). openInside s id q start len) (a ∙ o .rows-is)
+      ∙ ap (λ (i : ℕ). openInside s i (optionalOf x 5) start len) (o .id-is)
+      ∙ ap (λ (p : ℕ). openInside s (valueOf x 1) (optionalOf x 5) p len) (o .start-is)
+      ∙ ap (openInside s (valueOf x 1) (optionalOf x 5) (startOf x 4)) (o .len-is)
+      ∙ yes (openInside s (valueOf x 1) (optionalOf x 5) (startOf x 4) (lenOf x 4)) (Frame.BadPayload (length s) Client.open')
+      (sym (o .good))

@@ -1,0 +1,91 @@
+// The short way for an Open's own fields in their order, as they mostly come: cursor_id, the statement, and fetch_rows
+// where it is there. Like args `Pair` it fills no arrays and looks up no rows.
+ghost use mathlib.Core.Path.{_≡_};
+ghost use Rattle.message.specs.private.Outer.{Says};
+use crate::payload::PAYLOAD;
+use wire::value::Value;
+
+// The cursor id, where the statement stands, and whether fetch_rows is there and what it is. Other: the long way reads
+// the message.
+pub enum Outer {
+    Fields {
+        id: u64,
+        start: usize,
+        len: usize,
+        has: bool,
+        rows: u64,
+    },
+    Other,
+}
+
+// The tags: field 1 a varint, field 4 with bytes, field 5 a varint.
+const CURSOR_TAG: u8 = 8;
+
+const STMT_TAG: u8 = 34;
+
+const ROWS_TAG: u8 = 40;
+
+// A cast of a byte that asks nothing.
+fn wide(b: u8) -> u64
+    ensures { λ r. ⌜ r ≡ b ⌝ }
+{
+    b as u64
+}
+
+pub fn read_outer(s: &[u8]) -> Outer
+    ensures { λ r. ⌜ Says (now (s .entry)) r ⌝ }
+{
+    if s.len() < PAYLOAD + 3 {
+        return Outer::Other;
+    }
+    if s[PAYLOAD] != CURSOR_TAG {
+        return Outer::Other;
+    }
+    let id = wide(s[PAYLOAD + 1]);
+    if 128 <= id {
+        return Outer::Other;
+    }
+    if s[PAYLOAD + 2] != STMT_TAG {
+        return Outer::Other;
+    }
+    let Value::Good {
+        number: _,
+        start,
+        len,
+        next,
+    } = wire::value::length_value(s, PAYLOAD + 3)
+    else {
+        return Outer::Other;
+    };
+    if s.len() <= next {
+        return Outer::Fields {
+            id,
+            start,
+            len,
+            has: false,
+            rows: 0,
+        };
+    }
+    if s[next] != ROWS_TAG {
+        return Outer::Other;
+    }
+    let Value::Good {
+        number: rows,
+        start: _,
+        len: _,
+        next: end,
+    } = wire::value::number_value(s, next + 1)
+    else {
+        return Outer::Other;
+    };
+    if end != s.len() {
+        return Outer::Other;
+    }
+    Outer::Fields {
+        id,
+        start,
+        len,
+        has: true,
+        rows,
+    }
+}
