@@ -92,10 +92,10 @@ module _ (s : List ℕ) {id start len rows : ℕ} {has : Bool}
   abbrev x : Slots
   x = fieldsAt rows-of s payload
 
-  pub open-paired : (asked : Optional) → asked ≡ optionalBy has rows → openInside s id asked start len ≡ openFrame s
+  pub open-paired : openInside s id (optionalBy has rows) start len ≡ openFrame s
   unfolding openFrame
-  open-paired asked a =
-      ap (λ (q : Optional). openInside s id q start len) (a ∙ o .rows-is)
+  open-paired =
+      ap (λ (q : Optional). openInside s id q start len) (o .rows-is)
       ∙ ap (λ (i : ℕ). openInside s i (optionalOf x 5) start len) (o .id-is)
       ∙ ap (λ (p : ℕ). openInside s (valueOf x 1) (optionalOf x 5) p len) (o .start-is)
       ∙ ap (openInside s (valueOf x 1) (optionalOf x 5) (startOf x 4)) (o .len-is)

@@ -2,6 +2,7 @@
 ghost use mathlib.Core.Path.{_≡_};
 ghost use Rattle.message.specs.Execute.{badExecute, executeFrame, executeFrom, executeIn};
 ghost use Rattle.message.specs.Execute.{openFrame, openFrom, openInside};
+ghost use Rattle.message.specs.Payload.{optionalBy};
 use crate::outer::Outer;
 use crate::payload::PAYLOAD;
 use crate::payload::low;
@@ -73,8 +74,9 @@ pub fn read_execute(s: &[u8]) -> Frame
     execute_from(s, execute_in(s, PAYLOAD, s.len() - PAYLOAD))
 }
 
-fn open_from(s: &[u8], id: u64, rows: Optional, body: Part, x: Execute) -> Frame
-    ensures { λ r. ⌜ r ≡ openFrom (now (s .entry)) id rows body x ⌝ }
+// fetch_rows goes in two parts until the Open is put together: a struct that is copied waits for its parts.
+fn open_from(s: &[u8], id: u64, has: bool, asked: u64, body: Part, x: Execute) -> Frame
+    ensures { λ r. ⌜ r ≡ openFrom (now (s .entry)) id (optionalBy has asked) body x ⌝ }
 {
     if !x.args.good {
         return Frame::BadPayload {
@@ -84,7 +86,7 @@ fn open_from(s: &[u8], id: u64, rows: Optional, body: Part, x: Execute) -> Frame
     }
     let open = Open {
         cursor: low(id),
-        rows,
+        rows: read_optional(has, asked),
         body,
         execute: x,
     };
@@ -96,8 +98,8 @@ fn open_from(s: &[u8], id: u64, rows: Optional, body: Part, x: Execute) -> Frame
 
 // An Open with this cursor id and fetch_rows, and its statement in `n` bytes of s from `at` on: the long way, by the
 // rows.
-fn long_inside(s: &[u8], id: u64, asked: Optional, at: usize, n: usize) -> Frame
-    ensures { λ r. ⌜ r ≡ openInside (now (s .entry)) id asked at n ⌝ }
+fn long_inside(s: &[u8], id: u64, has: bool, asked: u64, at: usize, n: usize) -> Frame
+    ensures { λ r. ⌜ r ≡ openInside (now (s .entry)) id (optionalBy has asked) at n ⌝ }
 {
     let rows = layout::rows::open_stmt_rows();
     let mut seen = [false; 10];
@@ -118,15 +120,22 @@ fn long_inside(s: &[u8], id: u64, asked: Optional, at: usize, n: usize) -> Frame
     }
     let start = starts[2];
     let len = values[2] as usize;
-    open_from(s, id, asked, Part { start, len }, execute_in(s, start, len))
+    open_from(
+        s,
+        id,
+        has,
+        asked,
+        Part { start, len },
+        execute_in(s, start, len),
+    )
 }
 
 // The type and the tag of an Open's statement of two fields, in one number: type 0, and its Execute in field 2.
 const CHOSEN_EXECUTE: u64 = 18;
 
 // With a short way for a statement of two fields, its type and its Execute.
-fn open_inside(s: &[u8], id: u64, asked: Optional, at: usize, n: usize) -> Frame
-    ensures { λ r. ⌜ r ≡ openInside (now (s .entry)) id asked at n ⌝ }
+fn open_inside(s: &[u8], id: u64, has: bool, asked: u64, at: usize, n: usize) -> Frame
+    ensures { λ r. ⌜ r ≡ openInside (now (s .entry)) id (optionalBy has asked) at n ⌝ }
 {
     let all = s.len();
     if let Pair::Two {
@@ -137,10 +146,17 @@ fn open_inside(s: &[u8], id: u64, asked: Optional, at: usize, n: usize) -> Frame
     } = args::pair::read_pair(s, at, n) {
         if first * 256 + tag == CHOSEN_EXECUTE {
             let len = value as usize;
-            return open_from(s, id, asked, Part { start, len }, execute_in(s, start, len));
+            return open_from(
+                s,
+                id,
+                has,
+                asked,
+                Part { start, len },
+                execute_in(s, start, len),
+            );
         }
     }
-    long_inside(&s[..all], id, asked, at, n)
+    long_inside(&s[..all], id, has, asked, at, n)
 }
 
 // The long way, by the rows.
@@ -166,8 +182,14 @@ fn long_open(s: &[u8]) -> Frame
         };
     }
     // Field 1 is cursor_id, 4 the statement, 5 fetch_rows.
-    let asked = read_optional(seen[5], values[5]);
-    long_inside(s, values[1], asked, starts[4], values[4] as usize)
+    long_inside(
+        s,
+        values[1],
+        seen[5],
+        values[5],
+        starts[4],
+        values[4] as usize,
+    )
 }
 
 // With the short way for its own fields.
@@ -182,7 +204,7 @@ pub fn read_open(s: &[u8]) -> Frame
         has,
         rows,
     } = crate::outer::read_outer(s) {
-        return open_inside(s, id, read_optional(has, rows), start, len);
+        return open_inside(s, id, has, rows, start, len);
     }
     long_open(&s[..n])
 }

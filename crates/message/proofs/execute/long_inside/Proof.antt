@@ -5,6 +5,7 @@ use Rattle.layout.specs.Table.{rowsOf, openStmt}
 use Rattle.layout.specs.Arrays.{Holds}
 use Rattle.args.specs.Part.{embedded}
 use Rattle.message.proofs.ArrayLaws.{open-spoiled, open-without, open-held}
+use Rattle.message.specs.Payload.{optionalBy}
 use borrow.Author.Needs.{needs}
 use Rattle.message.proofs.execute.long_inside.Statement.{statement}
 use Rattle.message.proofs.execute.long_inside.Tie as tie
@@ -19,13 +20,13 @@ returns : tie.Need-returns
 returns c =
     let f = c .before in
     let a = f .before .before .before .before .before .before .before .args in
-    open-spoiled (a .s .now) (a .id) (a .asked) (a .at) (a .n) (held f) (not-true _ (c .if1 .taken))
+    open-spoiled (a .s .now) (a .id) (optionalBy (a .has) (a .asked)) (a .at) (a .n) (held f) (not-true _ (c .if1 .taken))
 
 returns-2 : tie.Need-returns-2
 returns-2 c =
     let f = c .before .before in
     let a = f .before .before .before .before .before .before .before .args in
-    open-without (a .s .now) (a .id) (a .asked) (a .at) (a .n) (held f) (not-false _ (c .before .if1 .left))
+    open-without (a .s .now) (a .id) (optionalBy (a .has) (a .asked)) (a .at) (a .n) (held f) (not-false _ (c .before .if1 .left))
     (not-true _ (c .if2 .taken))
 
 returns-3 : tie.Need-returns-3
@@ -33,7 +34,7 @@ returns-3 c =
     let f = c .before .before .before .before in
     let a = f .before .before .before .before .before .before .before .args in
     c .open-from .ensures
-    ∙ open-held (a .s .now) (a .id) (a .asked) (a .at) (a .n) (held f)
+    ∙ open-held (a .s .now) (a .id) (optionalBy (a .has) (a .asked)) (a .at) (a .n) (held f)
     (not-false _ (c .before .before .before .if1 .left)) (not-false _ (c .before .before .if2 .left))
     (c .before .execute-in .result) (c .before .execute-in .ensures)
 

@@ -1,11 +1,8 @@
 -- The arrays hold the message's fields; the statement stands in field 4.
-use mathlib.Core.Path.{ap, _∙_}
-use lib.ListN.{getD}
+use mathlib.Core.Path.{_∙_}
 use borrow.Author.Tests.{not-true, not-false}
 use Rattle.layout.proofs.ArrayLaws.{holds-lent}
 use Rattle.message.specs.Payload.{payload}
-use Rattle.message.specs.Execute.{openInside}
-use Rattle.message.specs.declared.request.Optional.{Optional}
 use Rattle.message.proofs.ArrayLaws.{open-refused, open-whole}
 use borrow.Author.Needs.{needs}
 use Rattle.message.proofs.execute.long_open.Statement.{statement}
@@ -20,15 +17,12 @@ returns c =
 
 returns-2 : tie.Need-returns-2
 returns-2 c =
-    let f = c .before .before .before in
+    let f = c .before .before in
     let r = f .before .before .before .before .before in
     let s = r .before .before .args .s .now in
-    let l = f .fill-fields .last .1 .1 .1 .1 in
     c .long-inside .ensures
-    ∙ ap (λ (o : Optional). openInside s (getD (l .1 .0) 1 0) o (getD (l .1 .1 .0) 4 0) (getD (l .1 .0) 4 0))
-    (c .before .read-optional .ensures)
     ∙ open-whole s (holds-lent (r .open-rows .ensures) s payload (f .fill-fields .ensures))
-    (not-false _ (c .before .before .if1 .left))
+    (not-false _ (c .before .if1 .left))
 
 pub long-open-spec : {M : Type 1} → statement M
 long-open-spec =
@@ -40,7 +34,6 @@ long-open-spec =
     returns
     (λ c. search needs)
     (λ c. search needs)
-    (λ c κs. search needs)
     (λ c. search needs)
     (λ c. search needs)
     (λ c. search needs)

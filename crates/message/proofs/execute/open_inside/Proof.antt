@@ -10,6 +10,7 @@ use Rattle.layout.specs.Row.{rowFor}
 use Rattle.layout.specs.Fields.{hasRequired}
 use Rattle.args.proofs.PairLaws.{named-short, pair-bytes}
 use Rattle.message.specs.Execute.{openFrom, openChosen, openInside}
+use Rattle.message.specs.Payload.{optionalBy}
 use borrow.Author.Needs.{needs}
 use Rattle.message.proofs.execute.open_inside.Statement.{statement}
 use Rattle.message.proofs.execute.open_inside.Tie as tie
@@ -33,8 +34,8 @@ returns c =
     let f = c .before .before .before .before .first .given in
     let v = f .0 .1 .1 in
     c .open-from .ensures
-    ∙ ap (openFrom (a .s .now) (a .id) (a .asked) (record { start = v .1 .0; len = v .0 })) (c .before .execute-in .ensures)
-    ∙ ap (openChosen (a .s .now) (a .id) (a .asked))
+    ∙ ap (openFrom (a .s .now) (a .id) (optionalBy (a .has) (a .asked)) (record { start = v .1 .0; len = v .0 })) (c .before .execute-in .ensures)
+    ∙ ap (openChosen (a .s .now) (a .id) (optionalBy (a .has) (a .asked)))
     (pair-bytes (a .s .now) (a .at) (a .n) (f .1) (c .before .before .before .before .before .before .read-pair .ensures) (rowsOf openStmt) 0 18
     (c .before .before .if1 .taken) (omega arith) refl refl refl)
 
@@ -45,7 +46,7 @@ returns-2 : tie.Need-returns-2
 returns-2 c =
     let a = c .before .before .before .before .before .args in
     c .long-inside .ensures
-    ∙ ap (λ (l : List ℕ). openInside l (a .id) (a .asked) (a .at) (a .n)) (take-length (a .s .now))
+    ∙ ap (λ (l : List ℕ). openInside l (a .id) (optionalBy (a .has) (a .asked)) (a .at) (a .n)) (take-length (a .s .now))
 
 pub open-inside-spec : {M : Type 1} → statement M
 open-inside-spec =

@@ -11,10 +11,9 @@ use Rattle.message.proofs.execute.read_open.Tie as tie
 
 returns : tie.Need-returns
 returns c =
-    let s = c .before .before .before .before .before .before .before .args .s .now in
+    let s = c .before .before .before .before .before .before .args .s .now in
     c .open-inside .ensures
-    ∙ open-paired s (subst (Says s) (c .before .before .before .id .given .1) (c .before .before .before .before .before .read-outer .ensures)) _
-    (c .before .read-optional .ensures)
+    ∙ open-paired s (subst (Says s) (c .before .before .id .given .1) (c .before .before .before .before .read-outer .ensures))
 
 slice-aggregate-long-open : tie.Need-slice-aggregate-long-open
 slice-aggregate-long-open c = sym (ap length (take-length (c .before .before .before .before .before .args .s .now)))
@@ -28,7 +27,6 @@ read-open-spec =
     (tie.spec
     (λ c κs. search needs)
     (λ c. search needs)
-    (λ c κs. search needs)
     (λ c κs. search needs)
     returns
     (λ c. search needs)
