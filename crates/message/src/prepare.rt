@@ -20,9 +20,6 @@ pub fn read_body(s: &[u8], operation: u64, at: usize, n: usize) -> Arguments
     ensures { λ r. ⌜ r ≡ bodyIn (now (s .entry)) operation at n ⌝ }
 {
     if operation == operation::STMT_EXECUTE {
-        if let Text::Alone { start: _, len: _ } = args::pair::read_text(s, at, n) {
-            return Arguments::none(at, at + n);
-        }
         // Field 1 is the text.
         let b = args::bound::read_bound(s, at, n, true);
         if !b.hasone {
@@ -97,7 +94,7 @@ fn long_inside(s: &[u8], id: u64, at: usize, n: usize) -> Frame
 // A statement's type StmtExecute, and the tag of the body that it chooses (field 6, wire type 2), in one number.
 const CHOSEN_EXECUTE: u64 = operation::STMT_EXECUTE * 256 + 50;
 
-// With a short way for a statement of two fields, its type and its body, a StmtExecute.
+// With a short way for a statement of two fields, its type and its body, a StmtExecute; most of these are a text alone.
 fn prepare_inside(s: &[u8], id: u64, at: usize, n: usize) -> Frame
     ensures { λ r. ⌜ r ≡ prepareInside (now (s .entry)) id at n ⌝ }
 {
@@ -110,7 +107,11 @@ fn prepare_inside(s: &[u8], id: u64, at: usize, n: usize) -> Frame
     } = args::pair::read_pair(s, at, n) {
         if first * 256 + tag == CHOSEN_EXECUTE {
             let len = value as usize;
-            let args = read_body(s, operation::STMT_EXECUTE, start, len);
+            if let Text::Alone { start: _, len: _ } = args::pair::read_text(s, start, len) {
+                let none = Arguments::none(start, start + len);
+                return prepare_from(s, id, operation::STMT_EXECUTE, Part { start, len }, none);
+            }
+            let args = read_body(&s[..all], operation::STMT_EXECUTE, start, len);
             return prepare_from(s, id, operation::STMT_EXECUTE, Part { start, len }, args);
         }
     }
