@@ -7,7 +7,7 @@ use mathlib.Core.Path.{_≡_, refl, sym, ap, subst, _∙_}
 use mathlib.Core.List.{List, [], _++_}
 use lib.ListN.{length, take, drop, length-take}
 use lib.Dec.{eqb, leb, ltb}
-use borrow.Author.Tests.{eqb-true, eq-eqb, le-ltb, ltb-true, ltb-false, leb-true}
+use borrow.Author.Tests.{eqb-true, eqb-false, eq-eqb, ne-eqb, le-ltb, ltb-true, ltb-false, leb-true, not-true}
 use Rattle.varint.proofs.PastLaws.{both}
 use Rattle.protocol.specs.Reason as Reason
 use Rattle.message.specs.Head.{lengthBytes, lengthOf, maxLength, headOf}
@@ -26,11 +26,12 @@ use Rattle.rules.specs.declared.Report.{Report}
 use Rattle.rules.specs.declared.Answer.{Answer}
 use Rattle.rules.specs.Report.{noWork, toFetch, workOf}
 use Rattle.rules.specs.Refusal.{lookReason, reportReason, stepReason}
-use Rattle.rules.specs.Rows.{firstRow, rowCount}
+use Rattle.rules.specs.Rows.{firstRow, rowCount, sendsColumns}
 use Rattle.rules.specs.Decision.{Decision, accepted, decisionOf, looked, lookRefused, lookOf}
 use Rattle.rules.specs.Step.{Step, short, tooShort, stepBy, stepOn, lookAt, stepOf, replyOf}
 use Rattle.rules.specs.StepRules.{outcome}
 use Rattle.rules.specs.SendRules.{AcceptsIdle, SameRows, SendsAsLooked, Rows, AsAsked, SendsAsAsked, Uses, UsesFrame, Writes, WritesWhole}
+use Rattle.rules.specs.SendRules.{WithAny, AsReported, SendsColumns}
 use Rattle.rules.proofs.ReadLaws.{frames-are-read}
 use Rattle.rules.proofs.RefusalLaws.{Took, took, took-look, idle}
 use Rattle.rules.proofs.StepLaws.{step-has, reply-front, written-front}
@@ -120,6 +121,34 @@ sends-as-looked s frame r buffer e accepted' =
         let is = ap (lookOf s) f ∙ look-good s (t .0) q z in
         let rows = fetch-rows s q r (sym (ap (λ l. l .work) is) ∙ w) in
         (h .0 ∙ sym (rows .0) ∙ sym (ap (λ l. l .first) is), h .1 ∙ sym (rows .1) ∙ sym (ap (λ l. l .count) is))
+
+-- ---- the columns
+
+with-any : (r : Report) (a : Answer) → a .columns ≡ not (eqb (r .columns) 0) → WithAny r a
+with-any r a e = (
+  λ f. omega (arith, eqb-false (r .columns) 0 (not-true (eqb (r .columns) 0) (sym e ∙ f))),
+  λ h. e ∙ ap not (ne-eqb (r .columns) 0 (λ z. omega arith)),
+)
+
+as-reported : (q : Request) (r : Report) (a : Answer) → a .columns ≡ sendsColumns q r → AsReported q r a
+unfolding sendsColumns
+as-reported Reset r a e = e
+as-reported SessionClose r a e = e
+as-reported (Prepare p) r a e = e
+as-reported (Execute x) r a e = with-any r a e
+as-reported (Deallocate stmt) r a e = e
+as-reported (Open o) r a e = with-any r a e
+as-reported (Close cursor) r a e = e
+as-reported (Fetch f) r a e = e
+
+pub sends-columns : SendsColumns
+sends-columns s frame r buffer used q e =
+    step-has (λ y. y .answer .reason ≡ Reason.accepted → AsReported q r (y .answer)) s (frameOf frame) r buffer
+    (λ _ z. absurd (omega arith))
+    (λ used′ p _ t _.
+    as-reported q r (stepBy (Good used′ p) buffer (accepted s r p) .answer)
+    (ap (λ (v : Request). sendsColumns v r) (good-same (sym (t .good) ∙ e))))
+    (λ _ some z. absurd (some z))
 
 -- ---- the bytes used
 

@@ -1,5 +1,6 @@
 -- What an accepted step sends, how many bytes a step uses, and what it writes.
 use Prim.Native.Nat.{ℕ, _+_, _-_, _≤_, min}
+use mathlib.Core.Bool.{true, false}
 use mathlib.Core.Path.{_≡_}
 use mathlib.Core.List.{List, _++_}
 use lib.ListN.{length, drop}
@@ -58,6 +59,27 @@ SendsAsAsked =
     (s : Session) (frame : List ℕ) (r : Report) (buffer : List ℕ) (used : ℕ) (q : Request) →
     frameOf frame ≡ Frame.Good used q →
     stepOf s frame r buffer .answer .reason ≡ Reason.accepted → AsAsked s q r (stepOf s frame r buffer .answer)
+
+-- the report has a column exactly when columns go out
+abbrev pub WithAny : Report → Answer → Type 0
+WithAny r a = (a .columns ≡ true → 1 ≤ r .columns) × (1 ≤ r .columns → a .columns ≡ true)
+
+-- "whether columns go out (Execute or Open with any)": no other message sends any (K5)
+abbrev pub AsReported : Request → Report → Answer → Type 0
+AsReported Reset r a = a .columns ≡ false
+AsReported SessionClose r a = a .columns ≡ false
+AsReported (Prepare p) r a = a .columns ≡ false
+AsReported (Execute x) r a = WithAny r a
+AsReported (Deallocate stmt) r a = a .columns ≡ false
+AsReported (Open o) r a = WithAny r a
+AsReported (Close cursor) r a = a .columns ≡ false
+AsReported (Fetch f) r a = a .columns ≡ false
+
+abbrev pub SendsColumns : Type 0
+SendsColumns =
+    (s : Session) (frame : List ℕ) (r : Report) (buffer : List ℕ) (used : ℕ) (q : Request) →
+    frameOf frame ≡ Frame.Good used q →
+    stepOf s frame r buffer .answer .reason ≡ Reason.accepted → AsReported q r (stepOf s frame r buffer .answer)
 
 -- the bytes used: the frame's length by its own four bytes, and no more than were given
 pub record Uses (frame : List ℕ) (a : Answer) : Type 0 where
