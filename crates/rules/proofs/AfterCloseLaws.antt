@@ -1,38 +1,70 @@
--- After Session close every frame that is there and of a good length is refused 4; before it a Reset is not. Assumes nothing.
+-- After Session close every frame that is there and of a good length is refused 4; before it a Reset is not. Assumes
+-- nothing.
 use Prim.Native.Nat.{ℕ}
-use mathlib.Core.Bool.{true, false}
+use mathlib.Core.Bool.{Bool, true, false, cond}
 use mathlib.Core.Path.{_≡_, refl, ap, _∙_}
 use Rattle.protocol.specs.Reason as Reason
 use Rattle.message.specs.Frame.{frameOf}
+use Rattle.message.specs.declared.request.Request.{Request}
 use Rattle.message.specs.declared.request.Request.the-variants.{Reset, SessionClose}
 use Rattle.message.specs.declared.request.Frame.{Frame}
 use Rattle.message.specs.declared.request.Frame.the-variants.{NotAllThere, BadLength, UnknownType, BadPayload, Good}
 use Rattle.session.specs.Session.{Session, isClosed}
-use Rattle.rules.specs.Refusal.{lookReason}
-use Rattle.rules.specs.Decision.{lookOf}
+use Rattle.rules.specs.Refusal.{firstOf, requestTests, lookReason}
+use Rattle.rules.specs.Decision.{lookBy, lookOf}
 use Rattle.rules.specs.Step.{lookAt}
 use Rattle.rules.specs.StepRules.{ClosedFirst, UnclosedAccepts}
 
-closed-look : (s : Session) (x : Frame) → isClosed s ≡ true → (lookOf s x .reason ≡ Reason.notAllThere → ⊥) → (lookOf s x .reason ≡ Reason.badLength → ⊥) →
+-- what a look gives of a frame that is all there, by whether the session is closed
+module _ (s : Session) (used : ℕ) where
+  unknown-reason : lookReason s (UnknownType used) ≡ cond (isClosed s) Reason.closed Reason.unknownType
+  unfolding lookReason
+  unknown-reason = refl
+
+  bad-reason : (kind : ℕ) → lookReason s (BadPayload used kind) ≡ cond (isClosed s) Reason.closed Reason.badPayload
+  unfolding lookReason
+  bad-reason kind = refl
+
+  good-reason : (q : Request) → lookReason s (Good used q) ≡ cond (isClosed s) Reason.closed (firstOf (requestTests s q))
+  unfolding lookReason
+  good-reason q = refl
+
+  reset-reason : lookReason s (Good used Reset) ≡ cond (isClosed s) Reason.closed Reason.accepted
+  unfolding lookReason
+  reset-reason = refl
+
+  close-reason : lookReason s (Good used SessionClose) ≡ cond (isClosed s) Reason.closed Reason.accepted
+  unfolding lookReason
+  close-reason = refl
+
+-- by a reason of these two
+look-by : (s : Session) (x : Frame) (n : ℕ) {b : Bool} → lookReason s x ≡ cond (isClosed s) Reason.closed n →
+    isClosed s ≡ b → lookOf s x .reason ≡ lookBy s x (cond b Reason.closed n) .reason
+unfolding lookOf
+look-by s x n e f = ap (λ (m : ℕ). lookBy s x m .reason) (e ∙ ap (λ (c : Bool). cond c Reason.closed n) f)
+
+closed-look : (s : Session) (x : Frame) → isClosed s ≡ true → (lookOf s x .reason ≡ Reason.notAllThere → ⊥) →
+    (lookOf s x .reason ≡ Reason.badLength → ⊥) →
     lookOf s x .reason ≡ Reason.closed
 unfolding lookOf lookReason
 closed-look s NotAllThere e a b = absurd (a refl)
 closed-look s BadLength e a b = absurd (b refl)
-closed-look s (UnknownType used) e a b = rw e
-closed-look s (BadPayload used kind) e a b = rw e
-closed-look s (Good used q) e a b = rw e
+closed-look s (UnknownType used) e a b =
+    look-by s (UnknownType used) Reason.unknownType (unknown-reason s used) e
+closed-look s (BadPayload used kind) e a b =
+    look-by s (BadPayload used kind) Reason.badPayload (bad-reason s used kind) e
+closed-look s (Good used q) e a b = look-by s (Good used q) (firstOf (requestTests s q)) (good-reason s used q) e
 
 pub closed-first : ClosedFirst
 unfolding lookAt
 closed-first s frame = closed-look s (frameOf frame)
 
 reset-look : (s : Session) (used : ℕ) → isClosed s ≡ false → lookOf s (Good used Reset) .reason ≡ Reason.accepted
-unfolding lookOf lookReason
-reset-look s used e = rw e
+reset-look s used e = look-by s (Good used Reset) Reason.accepted (reset-reason s used) e
 
-close-look : (s : Session) (used : ℕ) → isClosed s ≡ false → lookOf s (Good used SessionClose) .reason ≡ Reason.accepted
-unfolding lookOf lookReason
-close-look s used e = rw e
+close-look : (s : Session) (used : ℕ) → isClosed s ≡ false →
+    lookOf s (Good used SessionClose) .reason ≡ Reason.accepted
+close-look s used e = look-by s (Good used SessionClose) Reason.accepted (close-reason s used) e
 
 pub unclosed-accepts : UnclosedAccepts
 unfolding lookAt
