@@ -1,4 +1,5 @@
 pub mod GivenLaws
 pub mod MessageLaws
 pub mod ReadLaws
+pub mod SintLaws
 pub mod ValueLaws

@@ -57,7 +57,7 @@ module _ (f : Format) (raw : ℕ → Argument) (number : Float → Argument) (ki
       go false e = b (ofBits f n) ∙ rw e (ap (numbered kind) (toBits-ofBits f n h (rw e tt)))
 
 -- a sint that is read fits 64 bits
-signed-fits : (n : ℕ) → n < 2 ^ 64 → SFits w64 (unzigzag n)
+pub signed-fits : (n : ℕ) → n < 2 ^ 64 → SFits w64 (unzigzag n)
 signed-fits n h = both (SFits w64) (eqb (n % 2) 0) (pos (n / 2)) (negsuc (n / 2)) (λ _. record { sfits = omega arith }) (λ _. record { sfits = omega arith })
 
 pub signed-told : SignedTold

@@ -1,15 +1,16 @@
 -- What a host is told of an argument is what the frame carries, and what a host gave.
 use Prim.Native.Nat.{ℕ, _^_, _<_}
 use mathlib.Core.Path.{_≡_}
-use mathlib.Core.Bool.{Bool, cond, _&&_, _||_}
+use mathlib.Core.Bool.{Bool, not, cond, _&&_, _||_}
 use mathlib.Core.List.{List}
 use lib.Dec.{ltb, eqb}
 use mir.Syntax.{w64}
 use mir.Val.{toZ}
 use Rattle.scalar.specs.Zigzag.{unzigzag}
-use Rattle.scalar.specs.Argument.{reasonOf, signedOf, typeOf}
+use Rattle.scalar.specs.Argument.{reasonOf, signedOf, doubleOf, floatOf, typeOf}
 use Rattle.scalar.specs.declared.argument.Argument.{Argument}
-use Rattle.args.specs.Arguments.{nextArgument, nextReason}
+use Rattle.scalar.specs.declared.argument.Argument.the-variants as Va
+use Rattle.args.specs.Arguments.{nextArgument, nextReason, asked}
 use Rattle.args.specs.declared.arguments.NextArgument.{NextArgument}
 use Rattle.message.specs.Frame.{argumentOf}
 use Rattle.karramotx.specs.Given.{givenArgument}
@@ -62,3 +63,32 @@ ToldNext n = (nextValueOf n .reason ≡ nextReason n) × (nextValueOf n .kind �
 
 abbrev pub ToldInPass : Type 0
 ToldInPass = (s : List ℕ) (at : ℕ) → ToldNext (nextArgument s at)
+
+-- ---- the value
+
+-- the argument that a told value stands for, by its Scalar type: a sint of two's complement, a double and a float of
+-- their bits (W6), octets and a string at their place; what is refused has its number alone
+unfoldable pub toldArgument : Value → Argument
+toldArgument v =
+    cond (eqb (v .kind) 1) (Va.Signed (toZ w64 (v .value)))
+    (cond (eqb (v .kind) 2) (Va.Unsigned (v .value))
+    (cond (eqb (v .kind) 3) Va.Null
+    (cond (eqb (v .kind) 4) (Va.Octets (v .start) (v .len))
+    (cond (eqb (v .kind) 5) (doubleOf (v .value))
+    (cond (eqb (v .kind) 6) (floatOf (v .value))
+    (cond (eqb (v .kind) 7) (Va.Bool (not (eqb (v .value) 0)))
+    (cond (eqb (v .kind) 8) (Va.String (v .start) (v .len)) (Va.Refused (v .reason)))))))))
+
+-- what a host is told of an argument is the argument, to the last bit: by its index (A4)
+abbrev pub ValueByIndex : Type 0
+ValueByIndex = (frame : List ℕ) (index : ℕ) → toldArgument (valueOf (argumentOf frame index)) ≡ argumentOf frame index
+
+-- and in one pass, where an object or an array is refused 8, and the place behind it is told (A7)
+abbrev pub ValueNext : NextArgument → Type 0
+ValueNext (NextArgument.Found a next) =
+    (toldArgument (nextValueOf (NextArgument.Found a next)) ≡ asked a)
+    × (nextValueOf (NextArgument.Found a next) .next ≡ next)
+ValueNext NextArgument.End = Unit {0}
+
+abbrev pub ValueInPass : Type 0
+ValueInPass = (s : List ℕ) (at : ℕ) → ValueNext (nextArgument s at)

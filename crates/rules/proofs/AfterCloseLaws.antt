@@ -25,7 +25,8 @@ module _ (s : Session) (used : ℕ) where
   unfolding lookReason
   bad-reason kind = refl
 
-  good-reason : (q : Request) → lookReason s (Good used q) ≡ cond (isClosed s) Reason.closed (firstOf (requestTests s q))
+  good-reason : (q : Request) →
+      lookReason s (Good used q) ≡ cond (isClosed s) Reason.closed (firstOf (requestTests s q))
   unfolding lookReason
   good-reason q = refl
 
