@@ -6,8 +6,8 @@ use mathlib.Core.Path.{_≡_, refl, sym, ap, _∙_}
 use mathlib.Core.List.{List, [], _∷_}
 use lib.Dec.{ltb, eqb}
 use borrow.Author.Tests.{ne-eqb, eqb-true, eqb-false}
+use Rattle.prelude.proofs.Cases.{both}
 use Rattle.protocol.specs.Client as Client
-use Rattle.varint.proofs.PastLaws.{both}
 use Rattle.layout.specs.Row.{numberOf, wireOf, isRepeated, rowFor, takes, slotCount}
 use Rattle.layout.specs.Table.{rowsOf, stmtExecute, len}
 use Rattle.layout.specs.Fields.{useOf, isCounted}

@@ -7,7 +7,7 @@ use mathlib.Core.List.{List, [], _∷_}
 use lib.ListN.{length, getD}
 use lib.Dec.{ltb, eqb}
 use borrow.Author.Tests.{lt-ltb, le-ltb, eq-eqb, ne-eqb, eqb-true, eqb-false}
-use Rattle.varint.proofs.PastLaws.{both}
+use Rattle.prelude.proofs.Cases.{both, before-suc}
 use Rattle.scalar.specs.Argument.{reasonOf}
 use Rattle.scalar.specs.declared.argument.Argument.{Argument}
 use Rattle.scalar.specs.declared.argument.Argument.the-variants as Va
@@ -59,9 +59,6 @@ module _ (x : Arguments) (t : ℕ) where
       go : (b : Bool) → eqb t 0 ≡ b → t ≡ 0
       go true e = eqb-true t 0 e
       go false e = absurd (let u = type-good (eqb-false t 0 e) in let z : _≡_ {A = ℕ} 0 1 = cc in omega arith)
-
-before-suc : (m : ℕ) → m ≡ suc m - 1
-before-suc m = omega arith
 
 pub from-none : (most : ℕ) (s : List ℕ) (p : ℕ) → nextArgument s p ≡ NextArgument.End → argumentsFrom most s p ≡ []
 unfolding argumentsFrom

@@ -9,7 +9,7 @@ use lib.ListN.{length, getD, set, take, length-set}
 use lib.Seq.{getD-set-same, getD-set-other, length-take-le}
 use lib.Dec.{leb, eqb}
 use borrow.Author.Tests.{eqb-true, eqb-false, eq-eqb, ne-eqb, lt-leb, le-leb, leb-true}
-use Rattle.varint.proofs.PastLaws.{both}
+use Rattle.prelude.proofs.Cases.{both, yes, no}
 use Rattle.wire.specs.Field.{fieldAt}
 use Rattle.wire.specs.declared.field.Field.{Field}
 use Rattle.layout.specs.Row.{rowFor}
@@ -28,7 +28,7 @@ use Rattle.args.specs.declared.arguments.Arguments.{Arguments}
 use Rattle.args.specs.declared.arguments.NextArgument.{NextArgument}
 use Rattle.args.specs.declared.bound.Own.{Own}
 use Rattle.args.specs.declared.bound.Bound.{Bound}
-use Rattle.args.proofs.PartLaws.{yes, no, part-within}
+use Rattle.args.proofs.PartLaws.{part-within}
 use Rattle.args.proofs.PlaceLaws as Place
 use Rattle.args.proofs.EnoughLaws.{next-skips}
 use Rattle.args.proofs.ArgumentsLaws.{Walking}

@@ -9,7 +9,8 @@ use lib.Seq.{length-take-le}
 use lib.Dec.{leb, eqb}
 use lib.Ieee.{Float, Format, binary32, binary64, nanBits}
 use borrow.Author.Tests.{eq-eqb, eqb-true, eqb-false}
-use Rattle.varint.proofs.TailLaws.{chosen-alike, Tail, tail-length, tail-stands, less-or-not}
+use Rattle.prelude.proofs.Cases.{less-or-not}
+use Rattle.varint.proofs.TailLaws.{chosen-alike, Tail, tail-length, tail-stands}
 use Rattle.varint.proofs.TailLaws.{Stands, stands-length, stands-take}
 use Rattle.wire.specs.Field.{fieldAt}
 use Rattle.wire.specs.Past.{PastField}

@@ -9,7 +9,7 @@ use lib.ListN.{length, take, getD}
 use lib.Seq.{length-take-le, getD-take}
 use lib.Dec.{ltb, leb, eqb}
 use borrow.Author.Tests.{ltb-true, ltb-false, leb-true, eqb-true, lt-ltb, le-ltb, lt-leb, le-leb, eq-eqb, ne-eqb}
-use Rattle.varint.proofs.PastLaws.{both}
+use Rattle.prelude.proofs.Cases.{both, yes, no}
 use Rattle.wire.specs.Value.{ofVarint, ofLength, valueAt}
 use Rattle.wire.specs.Field.{ofValue, fieldOf, fieldAt}
 use Rattle.wire.specs.declared.value.Value.{Value}
@@ -25,7 +25,7 @@ use Rattle.layout.proofs.FieldsLaws.{kept-slot, starts, goes-on, ends}
 use Rattle.args.specs.Part.{embedded}
 use Rattle.args.specs.Pair.{pairOf, pairAt, pairIn, loneIn}
 use Rattle.args.specs.declared.pair.Pair.{Pair}
-use Rattle.args.proofs.PartLaws.{yes, no, part-within}
+use Rattle.args.proofs.PartLaws.{part-within}
 
 -- ---- a number or a length of one byte
 

@@ -12,13 +12,6 @@ use Rattle.layout.specs.Arrays.{Noted, Holds}
 use Rattle.layout.specs.declared.slots.Slots.{Slots}
 use Rattle.args.specs.Part.{embedded}
 
--- a test that is known
-pub yes : {A : Type 0} (x y : A) {b : Bool} → b ≡ true → x ≡ cond b x y
-yes x y e = ap (λ (t : Bool). cond t x y) (sym e)
-
-pub no : {A : Type 0} (x y : A) {b : Bool} → b ≡ false → y ≡ cond b x y
-no x y e = ap (λ (t : Bool). cond t x y) (sym e)
-
 module _ (rows : List (List ℕ)) (s : List ℕ) (start len : ℕ) where
   part-past : length s < start + len → badSlots ≡ embedded rows s start len
   part-past h = simp (lt-leb (start + len) (length s) h)

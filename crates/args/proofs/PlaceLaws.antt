@@ -7,7 +7,7 @@ use mathlib.Core.List.{List}
 use lib.ListN.{length, getD}
 use lib.Dec.{ltb}
 use borrow.Author.Tests.{lt-ltb, le-ltb, ltb-true}
-use Rattle.varint.proofs.PastLaws.{both}
+use Rattle.prelude.proofs.Cases.{both, before-suc}
 use Rattle.wire.specs.Value.{asLength}
 use Rattle.wire.specs.Field.{ofValue, fieldAt}
 use Rattle.wire.specs.Past.{PastField}
@@ -39,9 +39,6 @@ place-end (suc m) s p h = simp (le-ltb p (length s) h)
 
 pub ends : {s : List ℕ} {at p : ℕ} → Seeking s at p → length s ≤ p → ArgPlace.End ≡ argPlace s at
 ends {s} {at} {p} k h = sym (place-end (k .most) s p h) ∙ k .whole
-
-before-suc : (m : ℕ) → m ≡ suc m - 1
-before-suc m = omega arith
 
 unroll : (most : ℕ) (s : List ℕ) (p : ℕ) → 0 < most → p < length s →
     placeFrom most s p ≡ ofField (λ next. placeFrom (most - 1) s next) (fieldAt s p)

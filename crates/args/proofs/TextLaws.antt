@@ -7,7 +7,7 @@ use lib.ListN.{length, take, getD}
 use lib.Seq.{length-take-le}
 use lib.Dec.{ltb, leb, eqb}
 use borrow.Author.Tests.{ltb-true, leb-true, eqb-true, lt-ltb, le-ltb, lt-leb, le-leb, eq-eqb, ne-eqb}
-use Rattle.varint.proofs.PastLaws.{both}
+use Rattle.prelude.proofs.Cases.{both, yes, no}
 use Rattle.wire.specs.Value.{asLength}
 use Rattle.wire.specs.Field.{ofValue, fieldAt}
 use Rattle.wire.specs.declared.value.Value.{Value}
@@ -22,7 +22,7 @@ use Rattle.args.specs.Part.{embedded}
 use Rattle.args.specs.Arguments.{noArguments, argumentsIn}
 use Rattle.args.specs.Pair.{textOf, textAt, textIn}
 use Rattle.args.specs.declared.pair.Text.{Text}
-use Rattle.args.proofs.PartLaws.{yes, no, part-within}
+use Rattle.args.proofs.PartLaws.{part-within}
 use Rattle.args.proofs.PlaceLaws as Place
 use Rattle.args.proofs.ArgumentsLaws.{none-left}
 use Rattle.args.proofs.ArgumentsLaws as Walk

@@ -9,7 +9,7 @@ use lib.ListN.{length, getD, take, drop, length-take, length-drop, List·getD-eq
 use lib.Seq.{getD-take, getD-drop, length-take-le}
 use lib.Dec.{leb, eqb}
 use borrow.Author.Tests.{ne-eqb, eqb-true, eqb-false}
-use Rattle.varint.proofs.TailLaws.{less-or-not}
+use Rattle.prelude.proofs.Cases.{less-or-not}
 use Rattle.wire.proofs.AgreeLaws.{Tails}
 use Rattle.scalar.specs.declared.argument.Argument.{Argument}
 use Rattle.layout.specs.SameBut.{SameBut}

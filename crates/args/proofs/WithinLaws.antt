@@ -8,7 +8,7 @@ use lib.Seq.{length-take-le}
 use lib.Dec.{leb, eqb}
 use lib.Ieee.{binary32, binary64, nanBits}
 use borrow.Author.Tests.{leb-true}
-use Rattle.varint.proofs.PastLaws.{both}
+use Rattle.prelude.proofs.Cases.{both}
 use Rattle.scalar.specs.Argument.{signedOf, doubleOf, floatOf}
 use Rattle.scalar.specs.declared.argument.Argument.{Argument}
 use Rattle.scalar.specs.declared.argument.Argument.the-variants as Va

@@ -9,11 +9,11 @@ use lib.Dec.{T, leb}
 use lib.Ieee.{Float, nan, inf, fin, isNan, ne, nanBits, binary32, binary64, toBits}
 use lib.Ieee.Compare.{differs-from-itself, nan-differs}
 use borrow.Author.Tests.{le-leb, lt-leb, leb-true}
+use Rattle.prelude.proofs.Cases.{yes, no as without}
 use Rattle.scalar.specs.Argument.{typeOf}
 use Rattle.scalar.specs.declared.argument.Argument.{Argument}
 use Rattle.scalar.specs.declared.argument.Argument.the-variants as Va
 use Rattle.protocol.specs.Scalars as Scalars
-use Rattle.args.proofs.PartLaws.{yes, no as without}
 use Rattle.args_writer.specs.Scalar.{writable, valueField}
 use Rattle.args_writer.specs.private.Form.{form, noForm, valueForm, bytesForm, formOf, valueAs, valueIn}
 use Rattle.args_writer.specs.declared.form.Form.{Form}

@@ -11,6 +11,7 @@ use lib.Dec.{T, leb, eqb}
 use lib.Ieee.{Float, Format, binary32, binary64, fits, isNan, nanBits, ofBits, toBits}
 use lib.Ieee.Bits.{ofBits-toBits, toBits-lt, nanBits-is}
 use borrow.Author.Tests.{leb-true, not-true}
+use Rattle.prelude.proofs.Cases.{yes, no as without}
 use Rattle.scalar.specs.Zigzag.{zigzag}
 use Rattle.scalar.specs.Argument.{carried, doubleOf, floatOf, signedOf, typeOf}
 use Rattle.scalar.specs.declared.argument.Argument.{Argument}
@@ -26,7 +27,6 @@ use Rattle.layout.proofs.FieldsLaws.{Listing}
 use Rattle.encode.specs.Field.{numberField, bytesField}
 use Rattle.args.specs.Part.{embedded, low32}
 use Rattle.args.specs.Value.{bytesOf as bytesTaken, bytesIn, ofType, scalarOf, ofAnyType, anyOf, argumentIn}
-use Rattle.args.proofs.PartLaws.{yes, no as without}
 use Rattle.varint.proofs.TailLaws.{Stands, stands-length, stands-bytes, stands-next}
 use Rattle.writer.proofs.FieldLaws.{Reads, withNumber, withBytes, reads-number, reads-bytes, reads-then, embedded-good, stands-inside}
 use Rattle.writer.proofs.ExecuteBackLaws.{partStart}

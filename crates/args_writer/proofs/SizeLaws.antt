@@ -6,9 +6,8 @@ use mathlib.Core.List.{List, []}
 use lib.ListN.{length, length-append}
 use lib.Dec.{eqb}
 use borrow.Author.Tests.{ne-eqb}
+use Rattle.prelude.proofs.Cases.{both, no as without}
 use Rattle.varint.proofs.VarintLaws.{varint-length}
-use Rattle.varint.proofs.PastLaws.{both}
-use Rattle.args.proofs.PartLaws.{no as without}
 use Rattle.encode.specs.Field.{numberField, prefixOf, bytesField, fixedField}
 use Rattle.encode.proofs.FieldLaws.{number-short, prefix-short, bytes-sum, fixed-parts}
 use Rattle.args_writer.specs.Scalar.{scalarBytes, anyBytes}

@@ -8,10 +8,10 @@ use mathlib.Core.List.{List, []}
 use lib.ListN.{length, take}
 use lib.Seq.{length-take-le}
 use borrow.Author.Tests.{le-leb, eq-eqb, ne-eqb}
+use Rattle.prelude.proofs.Cases.{yes, no}
 use Rattle.protocol.specs.Reason as Reason
 use Rattle.encode.specs.Put.{written}
 use Rattle.encode.proofs.PutLaws.{put-fits}
-use Rattle.args.proofs.PartLaws.{yes, no}
 use Rattle.message.specs.declared.head.Head.{Head}
 use Rattle.message.specs.Head.{lengthBytes, headOf, headReason}
 use Rattle.message.proofs.WithinLaws.{frame-within}

@@ -1,72 +1,15 @@
--- Bytes moved to the front of their own store, the first one first: what is still to be read has not been written
--- over. Assumes nothing.
-use Prim.Native.Nat.{ℕ, suc, _+_, _-_, _≤_, _<_}
+-- Room behind the bytes held, as it is or made. Assumes nothing.
+use Prim.Native.Nat.{ℕ, _+_, _-_, _≤_, _<_}
 use native.Mathlib.Omega.{arith}
-use native.Mathlib.Numerals.{add-one}
-use mathlib.Core.Path.{_≡_, refl, sym, ap, _∙_}
+use mathlib.Core.Path.{_≡_, _∙_}
 use mathlib.Core.List.{List}
-use lib.ListN.{length, getD, take, drop, set, length-drop, length-set, drop-of-length-le}
-use lib.Seq.{sets, length-take-le, drop-cons, drop-drop, drop-set-lt, getD-take, getD-drop}
+use lib.ListN.{length}
 use borrow.Author.Tests.{le-leb, lt-leb}
-use Rattle.encode.specs.Put.{written}
-use Rattle.encode.proofs.PutLaws.{put-fits}
-use Rattle.args.proofs.PartLaws.{yes, no}
+use Rattle.prelude.proofs.Cases.{yes, no}
+use Rattle.encode.specs.Put.{written, movedFront}
+use Rattle.encode.proofs.MoveLaws.{moved-front}
 use Rattle.streams.specs.Reader.{reader, part, readerFor, storeFor}
 use Rattle.streams.specs.declared.Reader.{Reader}
-
--- where the moving loop stands: what is left, stored from here on, gives the store that is to be; from here on it is
--- as it was
-pub record Moving (b₀ : List ℕ) (start len : ℕ) (b : List ℕ) (i : ℕ) : Type 0 where
-  pub within : i ≤ len
-  pub moved : sets b i (drop i (take len (drop start b₀))) ≡ sets b₀ 0 (take len (drop start b₀))
-  pub rest : drop i b ≡ drop i b₀
-  pub kept : length b ≡ length b₀
-
-pub move-starts : (b : List ℕ) (start len : ℕ) → Moving b start len b 0
-move-starts b start len = record { within = omega arith; moved = refl; rest = refl; kept = refl }
-
-module _ {b₀ b : List ℕ} {start len i : ℕ} (there : start + len ≤ length b₀) (m : Moving b₀ start len b i) where
-  length-part : length (take len (drop start b₀)) ≡ len
-  length-part = length-take-le len (drop start b₀) (rw length-drop (omega arith))
-
-  -- the byte that is read is still the one that stood there
-  same-byte : i < len → getD b (start + i) 0 ≡ getD (take len (drop start b₀)) i 0
-  same-byte h =
-      let e : start + i ≡ i + start = omega arith in
-      ap (λ (k : ℕ). getD b k 0) e
-      ∙ sym (getD-drop i b start 0)
-      ∙ ap (λ (l : List ℕ). getD l start 0) (m .rest)
-      ∙ getD-drop i b₀ start 0
-      ∙ ap (λ (k : ℕ). getD b₀ k 0) (sym e)
-      ∙ sym (getD-drop start b₀ i 0)
-      ∙ sym (getD-take len (drop start b₀) i 0 h)
-
-  pub moves-on : i < len → Moving b₀ start len (set b i (getD b (start + i) 0)) (i + 1)
-  moves-on h =
-      let x = getD b (start + i) 0 in
-      let p = take len (drop start b₀) in
-      record {
-        within = omega arith;
-        moved =
-            rw (add-one i) (ap (λ (y : ℕ). sets (set b i y) (suc i) (drop (suc i) p)) (same-byte h))
-            ∙ sym (ap (sets b i) (drop-cons p i 0 (rw length-part h)))
-            ∙ m .moved;
-        rest =
-            drop-set-lt (i + 1) b i x (omega arith)
-            ∙ sym (drop-drop 1 i b)
-            ∙ ap (drop 1) (m .rest)
-            ∙ drop-drop 1 i b₀;
-        kept = rw length-set (m .kept);
-      }
-
-  pub move-ends : len ≤ i → b ≡ written b₀ 0 (take len (drop start b₀))
-  move-ends h =
-      let p = take len (drop start b₀) in
-      sym (ap (sets b i) (drop-of-length-le p {i = i} (rw length-part h)))
-      ∙ m .moved
-      ∙ put-fits b₀ 0 p (omega (arith, length-part)) .1
-
--- ---- room for n bytes more
 
 -- what makes room: where the bytes held then stand, the store then, and that n more fit
 pub record Room (store : List ℕ) (r : Reader) (n : ℕ) (place : Reader) (after : List ℕ) : Type 0 where
@@ -85,11 +28,12 @@ module _ (store : List ℕ) (r : Reader) (n : ℕ) (part-of : (r .start ≤ r .e
       }
 
   pub room-made : (n ≤ length store - (r .end - r .start)) → length store - r .end < n → {after : List ℕ} →
-      after ≡ written store 0 (part store r) → Room store r n (reader 0 (r .end - r .start)) after
+      after ≡ movedFront store (r .start) (r .end - r .start) → Room store r n (reader 0 (r .end - r .start)) after
   room-made g h w =
       let e = lt-leb (r .end + n) (length store) (omega (arith, part-of .1)) in
+      let m = moved-front store (r .start) (r .end - r .start) (omega (arith, part-of .0, part-of .1)) in
       record {
         placed = no r (reader 0 (r .end - r .start)) e;
-        left = w ∙ no store (written store 0 (part store r)) e;
+        left = w ∙ m ∙ no store (written store 0 (part store r)) e;
         fits = (omega arith, omega (arith, part-of .0, part-of .1));
       }

@@ -1,23 +1,10 @@
 // Room behind the bytes held.
 ghost use mathlib.Core.Path.{_≡_};
 ghost use Prim.Native.Nat.{_+_, _-_, _≤_};
-ghost use lib.ListN.{drop, length, take};
-ghost use Rattle.encode.specs.Put.{written};
+ghost use lib.ListN.{length};
 ghost use Rattle.streams.specs.Reader.{readerFor, storeFor};
+use encode::shift::move_front;
 use streams::Reader;
-
-// The bytes from `start` on, moved to the front of the store, the first one first: each is read before it is
-// written over.
-fn move_front(store: &mut [u8], start: usize, len: usize)
-    requires { ⌜ start + len ≤ length (now store) ⌝ }
-    ensures { λ r. ⌜ now (store .exit) ≡ written (now (store .entry)) 0 (take len (drop start (now (store .entry)))) ⌝ }
-{
-    let mut i = 0;
-    while i < len {
-        store[i] = store[start + i];
-        i += 1;
-    }
-}
 
 // Where the bytes held stand once there is room for n more behind them. They are moved only where n more would not
 // fit behind them as they stand.

@@ -5,6 +5,7 @@ use mathlib.Core.Path.{_≡_, refl, ap, _∙_}
 use mathlib.Core.Bool.{Bool, true, false}
 use mathlib.Core.List.{List, [], _∷_, _++_}
 use lib.ListN.{length, length-append}
+use Rattle.prelude.proofs.Cases.{before-suc}
 use Rattle.varint.specs.Shortest.{varintBytes}
 use Rattle.varint.proofs.VarintLaws.{varint-length}
 use Rattle.encode.specs.Fixed.{fixedBytes}
@@ -51,9 +52,6 @@ pub fixed-parts : (num wire k v : ℕ) → length (fixedField num wire k v) ≡ 
 unfolding fixedField
 fixed-parts num wire k v =
     omega (arith, length-append (varintBytes (num * 8 + wire)) (fixedBytes k v), fixed-length k v)
-
-before-suc : (m : ℕ) → m ≡ suc m - 1
-before-suc m = omega arith
 
 -- the first of them, and the others
 pub fixed-more : (k v : ℕ) → 0 < k → fixedBytes k v ≡ v % 256 ∷ fixedBytes (k - 1) (v / 256)

@@ -1,3 +1,4 @@
 pub mod PutLaws
 pub mod PutsLaws
 pub mod FieldLaws
+pub mod MoveLaws

@@ -1,15 +1,15 @@
 -- Laws of bytes put one stretch behind the other. Assumes nothing.
 use Prim.Native.Nat.{ℕ, suc, _+_, _-_, _≤_, _<_, min, max}
 use mathlib.Core.Path.{_≡_, refl, sym, ap, subst, _∙_}
-use mathlib.Core.Bool.{Bool, true, false}
 use mathlib.Core.List.{List, [], _∷_, _++_, append-assoc, append-nil}
 use native.Mathlib.Omega.{arith}
 use native.Mathlib.Nat.{add-zero}
 use native.Mathlib.Numerals.{add-one}
-use borrow.Author.Tests.{le-leb, lt-leb, leb-true, leb-false}
+use borrow.Author.Tests.{le-leb, lt-leb}
 use lib.ListN.{length, getD, take, drop, set, length-append, length-set, length-drop, drop-of-length-le}
 use lib.Seq.{sets, sets-eq, length-sets, drop-cons, set-out, take-at, take-all}
 use lib.Dec.{leb}
+use Rattle.prelude.proofs.Cases.{less-or-not}
 use Rattle.encode.specs.declared.put.Put.{Put}
 use Rattle.encode.specs.declared.put.Put.the-variants.{Next, Full}
 use Rattle.encode.specs.Put.{putAt, written}
@@ -28,18 +28,10 @@ sets-out : (xs b : List ℕ) (at : ℕ) → length b ≤ at → sets b at xs ≡
 sets-out [] b at h = refl
 sets-out (x ∷ xs) b at h = ap (λ (l : List ℕ). sets l (suc at) xs) (set-out b at x h) ∙ sets-out xs b (suc at) (omega arith)
 
--- a place is within the buffer, or past it
-either : {P : Type 0} (a b : ℕ) → (a ≤ b → P) → (b < a → P) → P
-either {P} a b f g = go (leb a b) refl
-  where
-    go : (t : Bool) → leb a b ≡ t → P
-    go true e = f (leb-true a b e)
-    go false e = g (leb-false a b e)
-
 pub room-left : (size at n : ℕ) → at ≤ size → leb n (size - at) ≡ leb (at + n) size
 room-left size at n h =
-    either n (size - at) (λ l. le-leb n (size - at) l ∙ sym (le-leb (at + n) size (omega arith)))
-    (λ l. lt-leb n (size - at) l ∙ sym (lt-leb (at + n) size (omega arith)))
+    less-or-not (size - at) n (λ l. lt-leb n (size - at) l ∙ sym (lt-leb (at + n) size (omega arith)))
+    (λ l. le-leb n (size - at) l ∙ sym (le-leb (at + n) size (omega arith)))
 
 -- ---- puts
 
@@ -56,7 +48,7 @@ pub puts-then : {b xs b₁ ys b₂ : List ℕ} {at p q : ℕ} →
 puts-then {b} {xs} {b₁} {ys} {b₂} {at} {p} {q} f g =
     record {
       behind = rw length-append (omega (arith, f .behind, g .behind, same));
-      stored = g .stored ∙ either (at + length xs) (length b) within past;
+      stored = g .stored ∙ less-or-not (length b) (at + length xs) past within;
     }
   where
     same : length b₁ ≡ length b

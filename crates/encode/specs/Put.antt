@@ -19,3 +19,7 @@ putAt buf at bytes = cond (fitsAt buf at bytes) (Next (at + length bytes)) Full
 abbrev pub written : List ℕ → ℕ → List ℕ → List ℕ
 written buf at bytes =
     cond (fitsAt buf at bytes) (take at buf ++ bytes ++ drop (at + length bytes) buf) buf
+
+-- the n bytes from a place on moved to the front, where the buffer has them
+abbrev pub movedFront : List ℕ → ℕ → ℕ → List ℕ
+movedFront buf start n = cond (leb (start + n) (length buf)) (written buf 0 (take n (drop start buf))) buf

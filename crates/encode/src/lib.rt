@@ -3,3 +3,4 @@ pub mod field;
 pub mod head;
 pub mod number;
 pub mod put;
+pub mod shift;

@@ -9,8 +9,8 @@ use mathlib.Core.List.{List, [], _∷_}
 use lib.ListN.{length, getD, take}
 use lib.Dec.{eqb}
 use borrow.Author.Tests.{eqb-true, eqb-false, eq-eqb, ne-eqb, ltb-false, not-true}
+use Rattle.prelude.proofs.Cases.{both}
 use Rattle.encode.specs.Put.{written}
-use Rattle.varint.proofs.PastLaws.{both}
 use Rattle.protocol.specs.Client.{open', fetch}
 use Rattle.protocol.specs.Reason as Reason
 use Rattle.message.specs.Request.{cursorOf}

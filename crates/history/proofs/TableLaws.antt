@@ -7,7 +7,7 @@ use mathlib.Core.List.{List}
 use lib.ListN.{getD, set}
 use lib.Dec.{eqb}
 use borrow.Author.Tests.{not-true}
-use Rattle.varint.proofs.PastLaws.{both}
+use Rattle.prelude.proofs.Cases.{both}
 use Rattle.session.specs.declared.Cursor.{Cursor}
 use Rattle.session.specs.declared.Place.{Place}
 use Rattle.session.specs.Lists.{first, orPlace, sumBy, howMany, put, changed, change}

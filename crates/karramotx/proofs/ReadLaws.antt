@@ -11,7 +11,7 @@ use mir.Val.{SFits}
 use mir.Facts.{toZ-ofZ}
 use lib.Ieee.{Float, Format, binary32, binary64, ofBits, toBits, nanBits, isNan, fits}
 use lib.Ieee.Bits.{ofBits-toBits, ofBits-fits, nanBits-is}
-use Rattle.varint.proofs.PastLaws.{both}
+use Rattle.prelude.proofs.Cases.{both, yes, no}
 use Rattle.scalar.specs.Argument.{signedOf, carried, doubleOf, floatOf, reasonOf}
 use Rattle.scalar.specs.declared.argument.Argument.{Argument}
 use Rattle.scalar.specs.declared.argument.Argument.the-variants as Va
@@ -26,7 +26,6 @@ use Rattle.message.specs.Request.{argsOf}
 use Rattle.message.specs.Frame.{argumentIn as argumentFrom, argumentOf, frameOf}
 use Rattle.message.specs.declared.request.Frame.{Frame}
 use Rattle.message.specs.declared.request.Frame.the-variants.{NotAllThere, BadLength, UnknownType, BadPayload, Good}
-use Rattle.args.proofs.PartLaws.{yes, no}
 use Rattle.karramotx.specs.Value.{valueOf}
 use Rattle.karramotx.specs.ValueRules.{Told, ToldByIndex, ToldNext, ToldInPass}
 use Rattle.karramotx.specs.ValueRules.{toldArgument, ValueByIndex, ValueNext, ValueInPass}

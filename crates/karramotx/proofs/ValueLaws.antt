@@ -11,7 +11,7 @@ use native.Mathlib.Omega.{arith}
 use lib.Ieee.{Float, nan, inf, fin, Format, binary32, ofBits, toBits, nanBits, isNan, fits, ne, top}
 use lib.Ieee.Compare.{differs-from-itself, nan-differs}
 use lib.Ieee.Bits.{toBits-ofBits, toBits-lt, nanBits-is}
-use Rattle.varint.proofs.PastLaws.{both}
+use Rattle.prelude.proofs.Cases.{both}
 use Rattle.scalar.specs.Zigzag.{unzigzag}
 use Rattle.scalar.specs.Argument.{carried}
 use Rattle.scalar.specs.declared.argument.Argument.{Argument}

@@ -7,9 +7,9 @@ use mathlib.Core.List.{List}
 use lib.ListN.{length}
 use lib.Dec.{eqb}
 use borrow.Author.Tests.{eq-eqb, ne-eqb, le-leb}
+use Rattle.prelude.proofs.Cases.{yes, no as without}
 use Rattle.encode.specs.declared.put.Put.{Put}
 use Rattle.encode.specs.Put.{putAt, written}
-use Rattle.args.proofs.PartLaws.{yes, no as without}
 use Rattle.protocol.specs.Reason as Reason
 use Rattle.reply.specs.Reply.{codeOf, replyBytes}
 use Rattle.reply.specs.declared.Reply.{Reply}

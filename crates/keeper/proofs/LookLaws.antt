@@ -6,7 +6,7 @@ use mathlib.Core.Path.{_≡_, refl, sym, ap, _∙_}
 use mathlib.Core.List.{List}
 use lib.Dec.{eqb}
 use borrow.Author.Tests.{eq-eqb, ne-eqb}
-use Rattle.args.proofs.PartLaws.{yes, no as without}
+use Rattle.prelude.proofs.Cases.{yes, no as without}
 use Rattle.protocol.specs.Reason as Reason
 use Rattle.message.specs.Frame.{frameOf}
 use Rattle.message.specs.declared.request.Prepare.{Prepare}

@@ -5,9 +5,9 @@ use mathlib.Core.Path.{_≡_, refl, ap, _∙_}
 use mathlib.Core.List.{[], _∷_}
 use lib.Dec.{eqb, ltb, leb}
 use borrow.Author.Tests.{eq-eqb, ne-eqb, lt-ltb, le-ltb, le-leb, lt-leb}
+use Rattle.prelude.proofs.Cases.{yes, no as without}
 use Rattle.protocol.specs.Reason as Reason
 use Rattle.args.specs.declared.arguments.Arguments.{Arguments}
-use Rattle.args.proofs.PartLaws.{yes, no as without}
 use Rattle.message.specs.declared.request.Execute.{Execute}
 use Rattle.message.specs.declared.request.Open.{Open}
 use Rattle.message.specs.declared.request.Request.{Request}

@@ -4,7 +4,7 @@ use native.Mathlib.Omega.{arith}
 use mathlib.Core.Bool.{Bool, true, false}
 use mathlib.Core.Path.{_≡_, ap, _∙_}
 use borrow.Author.Tests.{eq-eqb, ne-eqb}
-use Rattle.args.proofs.PartLaws.{yes, no as without}
+use Rattle.prelude.proofs.Cases.{yes, no as without}
 use Rattle.message.specs.declared.request.Optional.{Optional}
 use Rattle.reply.specs.declared.Reply.{Reply}
 use Rattle.session.specs.declared.Cursor.{Cursor}

@@ -9,6 +9,7 @@ use lib.ListN.{length, getD, set, take, drop, drop-of-length-le, List·getD-eq-d
 use lib.Seq.{drop-cons}
 use lib.Dec.{ltb}
 use borrow.Author.Tests.{lt-ltb, le-ltb, lt-leb, le-leb, eq-eqb, ne-eqb, ltb-true}
+use Rattle.prelude.proofs.Cases.{before-suc}
 use Rattle.wire.specs.Field.{fieldAt}
 use Rattle.wire.specs.Past.{PastField}
 use Rattle.wire.specs.declared.field.Field.{Field}
@@ -61,9 +62,6 @@ from-end (suc m) rows s p x h = simp (le-ltb p (length s) h)
 
 pub ends : {rows : List (List ℕ)} {s : List ℕ} {from p : ℕ} {x : Slots} → Listing rows s from p x → length s ≤ p → x ≡ fieldList rows s from
 ends {rows} {s} {from} {p} {x} l h = sym (from-end (l .most) rows s p x h) ∙ l .whole
-
-before-suc : (m : ℕ) → m ≡ suc m - 1
-before-suc m = omega arith
 
 unroll : (most : ℕ) (rows : List (List ℕ)) (s : List ℕ) (p : ℕ) (x : Slots) → 0 < most → p < length s →
     fieldsFrom most rows s p x ≡ onField rows x (λ next y. fieldsFrom (most - 1) rows s next y) (fieldAt s p)

@@ -6,8 +6,8 @@ use mathlib.Core.List.{List}
 use lib.ListN.{length, getD}
 use lib.Dec.{eqb}
 use borrow.Author.Tests.{eq-eqb, ne-eqb}
+use Rattle.prelude.proofs.Cases.{both, yes, no as without}
 use Rattle.protocol.specs.Client as Client
-use Rattle.varint.proofs.PastLaws.{both}
 use Rattle.layout.specs.Row.{wireOf, rowFor}
 use Rattle.layout.specs.Table.{rowsOf, prepareStmt, openStmt}
 use Rattle.layout.specs.Fields.{fieldsAt}
@@ -17,7 +17,6 @@ use Rattle.layout.proofs.ArrayLaws.{held-good, held-value, held-start, held-see
 use Rattle.layout.proofs.ArrayLaws.{bytes-long, bytes-long-to}
 use Rattle.args.specs.Part.{embedded, absent, countOf, valueOf, startOf, lenOf, low32}
 use Rattle.args.specs.declared.arguments.Arguments.{Arguments}
-use Rattle.args.proofs.PartLaws.{yes, no as without}
 use Rattle.message.specs.Operation as Operation
 use Rattle.message.specs.Payload.{payload, ifGood, optionalBy, optionalOf}
 use Rattle.message.specs.Simple.{fetchIn}

@@ -5,11 +5,11 @@ use mathlib.Core.Path.{_≡_, ap, _∙_}
 use mathlib.Core.List.{List, []}
 use lib.ListN.{length, take}
 use borrow.Author.Tests.{eq-eqb, ne-eqb, le-leb, lt-leb}
+use Rattle.prelude.proofs.Cases.{yes, no as without}
 use Rattle.protocol.specs.Client as Client
 use Rattle.args.specs.Arguments.{noArguments, badArguments, argumentsIn}
 use Rattle.args.specs.Part.{embedded, valueOf, low32}
 use Rattle.args.specs.declared.arguments.Arguments.{Arguments}
-use Rattle.args.proofs.PartLaws.{yes, no as without}
 use Rattle.layout.specs.declared.slots.Slots.{Slots}
 use Rattle.layout.specs.Table.{rowsOf, stmtExecute}
 use Rattle.message.specs.Operation as Operation

@@ -5,6 +5,7 @@ use mathlib.Core.Bool.{Bool, true, false}
 use mathlib.Core.Path.{_≡_, refl, sym, ap, _∙_}
 use mathlib.Core.List.{List}
 use lib.ListN.{length, getD}
+use Rattle.prelude.proofs.Cases.{yes}
 use Rattle.protocol.specs.Client as Client
 use Rattle.wire.specs.Value.{asNumber, asLength}
 use Rattle.wire.specs.Field.{ofValue, fieldAt}
@@ -21,7 +22,6 @@ use Rattle.layout.specs.declared.fields.Use.{Use}
 use Rattle.layout.proofs.FieldsLaws.{Listing, starts, goes-on, ends}
 use Rattle.args.specs.Part.{valueOf, startOf, lenOf}
 use Rattle.args.proofs.PairLaws.{FieldOne, field-one}
-use Rattle.args.proofs.PartLaws.{yes}
 use Rattle.message.specs.Payload.{payload, optionalBy, optionalOf}
 use Rattle.message.specs.Execute.{openInside, openFrame}
 use Rattle.message.specs.private.Outer.{Opens}

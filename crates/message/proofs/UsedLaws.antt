@@ -8,8 +8,8 @@ use mathlib.Core.List.{List}
 use lib.ListN.{length, take, drop, length-take, length-drop}
 use lib.Seq.{length-take-le}
 use lib.Dec.{eqb}
+use Rattle.prelude.proofs.Cases.{both}
 use Rattle.protocol.specs.Reason as Reason
-use Rattle.varint.proofs.PastLaws.{both}
 use Rattle.args.specs.Arguments.{nthArgument}
 use Rattle.args.specs.WithinRules.{EndsBy}
 use Rattle.args.specs.declared.part.Part.{Part}

@@ -8,8 +8,8 @@ use lib.ListN.{length, take}
 use lib.Seq.{length-take-le}
 use lib.Dec.{leb, ltb, eqb}
 use borrow.Author.Tests.{ltb-false, leb-true}
+use Rattle.prelude.proofs.Cases.{both}
 use Rattle.protocol.specs.Client as Client
-use Rattle.varint.proofs.PastLaws.{both}
 use Rattle.scalar.specs.declared.argument.Argument.{Argument}
 use Rattle.layout.specs.Table.{rowsOf, prepareStmt, stmtExecute, openStmt}
 use Rattle.layout.specs.Fields.{fieldsAt}

@@ -7,6 +7,7 @@ use native.Mathlib.Omega.{arith}
 use borrow.Author.Tests.{lt-ltb, le-ltb, ltb-true, ltb-false}
 use lib.ListN.{length, getD, length-append, List·getD-append}
 use lib.Dec.{ltb}
+use Rattle.prelude.proofs.Cases.{less-or-not}
 use Rattle.reply.specs.Decimal.{digits, decimal}
 use Rattle.reply.specs.DecimalRules.{denoted, Denotes, EachDigit, NoLeadingZero, Short}
 use Rattle.encode.specs.Puts.{Puts}
@@ -24,11 +25,7 @@ digits-more k n h = simp (le-ltb n 10 h)
 
 -- a number is below 10, or is not
 below-or-not : {A : Type 0} (n : ℕ) → (n < 10 → A) → (10 ≤ n → A) → A
-below-or-not {A} n f g = go (ltb n 10) refl
-  where
-    go : (t : Bool) → ltb n 10 ≡ t → A
-    go true e = f (ltb-true n 10 e)
-    go false e = g (ltb-false n 10 e)
+below-or-not n f g = less-or-not n 10 f g
 
 -- places past the number's digits change nothing
 pub digits-enough : (k n : ℕ) → n < 10 ^ suc k → digits (suc (suc k)) n ≡ digits (suc k) n

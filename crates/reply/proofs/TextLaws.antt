@@ -6,7 +6,7 @@ use native.Mathlib.Omega.{arith}
 use borrow.Author.Tests.{eq-eqb, ne-eqb}
 use lib.ListN.{length, length-append}
 use lib.Dec.{eqb}
-use Rattle.varint.proofs.PastLaws.{both}
+use Rattle.prelude.proofs.Cases.{both}
 use Rattle.reply.specs.Decimal.{decimal}
 use Rattle.reply.specs.Text.{ascii, kindName, unsupported, text}
 use Rattle.reply.proofs.DecimalLaws.{decimal-within, decimal-short}

@@ -8,7 +8,7 @@ use mathlib.Core.List.{List, [], _∷_, _++_}
 use lib.ListN.{length}
 use lib.Dec.{eqb, leb, ltb}
 use borrow.Author.Tests.{eqb-true, eq-eqb, ltb-true, leb-true, le-ltb}
-use Rattle.varint.proofs.PastLaws.{both}
+use Rattle.prelude.proofs.Cases.{both}
 use Rattle.protocol.specs.Client.{prepare, open'}
 use Rattle.protocol.specs.Reason as Reason
 use Rattle.message.specs.Frame.{frameOf}

@@ -9,7 +9,7 @@ use mathlib.Core.List.{List, [], _∷_}
 use lib.ListN.{length, getD, take, length-take}
 use lib.Dec.{eqb, ltb, leb}
 use borrow.Author.Tests.{ltb-false}
-use Rattle.varint.proofs.PastLaws.{both}
+use Rattle.prelude.proofs.Cases.{both}
 use Rattle.protocol.specs.Client.{reset, sessionClose, prepare, execute, deallocate, open', close, fetch}
 use Rattle.protocol.specs.Reason as Reason
 use Rattle.scalar.specs.declared.argument.Argument.{Argument}

@@ -6,7 +6,7 @@ use mathlib.Core.Path.{_≡_, refl, sym, ap, _∙_}
 use mathlib.Core.List.{List, [], _∷_}
 use lib.Dec.{eqb, leb}
 use borrow.Author.Tests.{eqb-true, eqb-false, leb-true}
-use Rattle.varint.proofs.PastLaws.{both}
+use Rattle.prelude.proofs.Cases.{both}
 use Rattle.protocol.specs.Reason as Reason
 use Rattle.message.specs.Frame.{usedOf}
 use Rattle.message.specs.declared.request.Request.{Request}

@@ -9,8 +9,8 @@ use lib.ListN.{length, getD, take, drop}
 use lib.Seq.{take-at}
 use lib.Dec.{eqb, leb}
 use borrow.Author.Tests.{eqb-true, eqb-false, ltb-false, le-leb, lt-leb, leb-true}
+use Rattle.prelude.proofs.Cases.{both}
 use Rattle.encode.specs.Put.{written}
-use Rattle.varint.proofs.PastLaws.{both}
 use Rattle.protocol.specs.Reason as Reason
 use Rattle.message.specs.Request.{stmtOf, cursorOf, argsOf}
 use Rattle.message.specs.Frame.{usedOf, frameOf}

@@ -7,7 +7,7 @@ use mathlib.Core.Path.{_≡_, refl}
 use mathlib.Core.List.{List, [], _∷_}
 use lib.Dec.{ltb}
 use borrow.Author.Tests.{ltb-true}
-use Rattle.varint.proofs.PastLaws.{both}
+use Rattle.prelude.proofs.Cases.{both}
 use Rattle.session.proofs.SumLaws.{and-true}
 use Rattle.rules.specs.Refusal.{Test, firstOf}
 use Rattle.rules.specs.RefusalRules.{NoneHolds}

@@ -6,8 +6,8 @@ use mathlib.Core.List.{List, [], _∷_, map, append-nil}
 use lib.ListN.{length, getD, take}
 use lib.Seq.{length-take-le}
 use lib.Dec.{eqb}
+use Rattle.prelude.proofs.Cases.{both}
 use Rattle.protocol.specs.Reason as Reason
-use Rattle.varint.proofs.PastLaws.{both}
 use Rattle.session.specs.Lists.{All}
 use Rattle.message.specs.declared.head.Head.{Head}
 use Rattle.message.specs.Head.{lengthBytes, headOf}

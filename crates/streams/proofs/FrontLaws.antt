@@ -10,8 +10,8 @@ use lib.ListN.{length, getD, take, drop, length-append, length-take, take-append
 use lib.Seq.{getD-take, take-take, take-append-seam, length-take-le}
 use lib.Dec.{leb, ltb, eqb}
 use borrow.Author.Tests.{lt-ltb, le-ltb, le-leb, eq-eqb, ne-eqb, leb-true, ltb-true, ltb-false, eqb-true, eqb-false}
+use Rattle.prelude.proofs.Cases.{both}
 use Rattle.protocol.specs.Reason as Reason
-use Rattle.varint.proofs.PastLaws.{both}
 use Rattle.scalar.specs.Fixed.{little}
 use Rattle.message.specs.declared.head.Head.{Head}
 use Rattle.message.specs.Head.{lengthBytes, headOf, lengthOf, maxLength, headReason}

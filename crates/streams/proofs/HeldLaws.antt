@@ -10,11 +10,10 @@ use lib.ListN.{length, take, drop, length-append, length-drop}
 use lib.Seq.{length-take-le, take-take, take-add, drop-drop, drop-append-le, take-at, drop-at}
 use lib.Dec.{leb, eqb}
 use borrow.Author.Tests.{le-leb, lt-leb, leb-true, leb-false, eq-eqb, ne-eqb, eqb-true, eqb-false}
+use Rattle.prelude.proofs.Cases.{both, yes, no, less-or-not}
 use Rattle.protocol.specs.Reason as Reason
 use Rattle.encode.specs.Put.{written}
-use Rattle.varint.proofs.PastLaws.{both}
 use Rattle.encode.proofs.PutLaws.{length-written}
-use Rattle.args.proofs.PartLaws.{yes, no}
 use Rattle.message.specs.declared.head.Head.{Head}
 use Rattle.message.specs.Head.{lengthBytes, headOf, lengthOf, maxLength}
 use Rattle.streams.specs.declared.Reader.{Reader}
@@ -376,11 +375,7 @@ held-fits r store =
     let p = usable-is store r in omega (arith, long-part store (usable (length store) r) p, p .within)
 
 ordered-either : {P : Type 0} (a b : ℕ) → (a ≤ b → P) → (b < a → P) → P
-ordered-either {P} a b f g = go (leb a b) refl
-  where
-    go : (t : Bool) → leb a b ≡ t → P
-    go true e = f (leb-true a b e)
-    go false e = g (leb-false a b e)
+ordered-either a b f g = less-or-not b a g f
 
 taken-enough : (size : ℕ) (bytes arrival : List ℕ) → length bytes ≤ size → badFirst bytes ≡ false →
     (takenCount size bytes arrival ≡ length arrival) ⊎ (length bytes + takenCount size bytes arrival ≡ size)

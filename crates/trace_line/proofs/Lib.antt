@@ -3,7 +3,6 @@ pub mod ChunkLaws
 pub mod EndLaws
 pub mod LineLaws
 pub mod MarkLaws
-pub mod MoveLaws
 pub mod PrintLaws
 pub mod ProgressLaws
 pub mod RecordLaws

@@ -6,9 +6,9 @@ use mathlib.Core.Path.{_≡_}
 use mathlib.Core.List.{List}
 use lib.ListN.{length, getD, length-append}
 use borrow.Author.Tests.{eq-eqb, ne-eqb}
+use Rattle.prelude.proofs.Cases.{yes, no as without}
 use Rattle.protocol.specs.Server as Server
 use Rattle.message.specs.Head.{lengthBytes}
-use Rattle.args.proofs.PartLaws.{yes, no as without}
 use Rattle.reply.proofs.DecimalLaws.{decimal-within}
 use Rattle.trace_line.specs.declared.line.Line.{Line}
 use Rattle.trace_line.specs.Line.{letterOf, markOf, column, lineOf}

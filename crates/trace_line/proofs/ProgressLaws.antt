@@ -7,9 +7,9 @@ use mathlib.Core.List.{List, _++_}
 use lib.ListN.{length, getD, take, drop, length-append}
 use lib.Dec.{eqb, ltb}
 use borrow.Author.Tests.{le-leb, ltb-true, ltb-false}
+use Rattle.prelude.proofs.Cases.{both}
 use Rattle.varint.specs.declared.Varint.{Varint}
 use Rattle.varint.specs.Varint.{onto, groups, low64}
-use Rattle.varint.proofs.PastLaws.{both}
 use Rattle.session.specs.Session.{Session}
 use Rattle.rules.specs.declared.Report.{Report}
 use Rattle.rules.specs.Report.{prepared, result, failed}

@@ -6,10 +6,10 @@ use mathlib.Core.List.{List}
 use lib.ListN.{length}
 use lib.Dec.{ltb}
 use borrow.Author.Tests.{lt-ltb, le-ltb, ne-eqb}
+use Rattle.prelude.proofs.Cases.{yes, no as without}
 use Rattle.varint.specs.declared.Varint.{Varint}
 use Rattle.varint.specs.Varint.{varintAt}
 use Rattle.rules.specs.Report.{prepared, result, failed}
-use Rattle.args.proofs.PartLaws.{yes, no as without}
 use Rattle.trace_line.specs.declared.record.Number.{Number}
 use Rattle.trace_line.specs.declared.record.Record.{Record}
 use Rattle.trace_line.specs.Record.{unended, numberOf, numberAt, andThen, maxFrame, maxKind, bareReport}

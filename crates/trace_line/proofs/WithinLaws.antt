@@ -5,10 +5,11 @@ use mathlib.Core.Bool.{cond}
 use mathlib.Core.List.{List}
 use lib.ListN.{length}
 use lib.Dec.{eqb, ltb}
+use Rattle.prelude.proofs.Cases.{both}
 use Rattle.varint.specs.declared.Varint.{Varint}
 use Rattle.varint.specs.Varint.{varintAt}
 use Rattle.varint.specs.Past.{Past}
-use Rattle.varint.proofs.PastLaws.{both, varint-past}
+use Rattle.varint.proofs.PastLaws.{varint-past}
 use Rattle.rules.specs.declared.Report.{Report}
 use Rattle.rules.specs.Report.{prepared, result, failed}
 use Rattle.trace_line.specs.declared.record.Number.{Number}

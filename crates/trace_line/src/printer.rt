@@ -1,7 +1,7 @@
 // The trace of an input that comes in chunks: the header, a line for each record, and the end's text.
 ghost use mathlib.Core.Path.{_≡_};
-ghost use Prim.Native.Nat.{_+_, _≤_, min};
-ghost use lib.ListN.{drop, length, take};
+ghost use Prim.Native.Nat.{min};
+ghost use lib.ListN.{length};
 ghost use Rattle.encode.specs.Put.{putAt, written};
 ghost use Rattle.session.specs.Words.{sessionOf};
 ghost use Rattle.trace_line.specs.private.Walk.{Walks, placeBehind};
@@ -12,6 +12,7 @@ use crate::Place;
 use crate::record::Record;
 use encode::put::Put;
 use encode::put::write_bytes;
+use encode::shift::move_front;
 use session::WORDS;
 
 // The longest line: seven numbers of 20 digits with a byte behind each, the mark and its space.
@@ -132,19 +133,6 @@ fn put_lines(words: &mut [u32; WORDS], first: u64, s: &[u8], out: &mut [u8]) -> 
         }
     }
     Walk { n, at, to }
-}
-
-// The bytes from `start` on, moved to the front of the store, the first one first: each is read before it is
-// written over.
-fn move_front(store: &mut [u8], start: usize, len: usize)
-    requires { ⌜ start + len ≤ length (now store) ⌝ }
-    ensures { λ r. ⌜ now (store .exit) ≡ written (now (store .entry)) 0 (take len (drop start (now (store .entry)))) ⌝ }
-{
-    let mut i = 0;
-    while i < len {
-        store[i] = store[start + i];
-        i += 1;
-    }
 }
 
 // The next chunk: as much of it as there is room for goes into the store behind the bytes held, and the lines of

@@ -4,13 +4,13 @@ use native.Mathlib.Omega.{arith}
 use mathlib.Core.Path.{_≡_, refl, ap}
 use mathlib.Core.List.{List}
 use lib.ListN.{length, getD}
+use Rattle.prelude.proofs.Cases.{less-or-not}
 use Rattle.varint.specs.Varint.{onto, groups, low64, varintAt}
 use Rattle.varint.specs.Past.{Past}
 use Rattle.varint.specs.declared.Varint.{Varint}
 use Rattle.varint.proofs.GroupLaws.{groups-none, groups-last, groups-more}
 use Rattle.varint.proofs.PastLaws.{groups-past}
 use Rattle.varint.proofs.ShortestLaws.{below-or-not}
-use Rattle.varint.proofs.TailLaws.{less-or-not}
 
 -- s and t have the same bytes from p to before m
 pub record Agree (s t : List ℕ) (p m : ℕ) : Type 0 where

@@ -7,14 +7,10 @@ use mathlib.Core.List.{List}
 use lib.ListN.{length, getD}
 use lib.Dec.{ltb}
 use borrow.Author.Tests.{ltb-true}
+use Rattle.prelude.proofs.Cases.{both}
 use Rattle.varint.specs.Varint.{onto, groups, low64, varintAt}
 use Rattle.varint.specs.Past.{Past}
 use Rattle.varint.specs.declared.Varint.{Varint}
-
--- a property of both arms of a test holds of the chosen one
-pub both : {A : Type 0} (P : A → Type 0) (b : Bool) (x y : A) → (b ≡ true → P x) → (b ≡ false → P y) → P (cond b x y)
-both P true x y t f = t refl
-both P false x y t f = f refl
 
 onto-past : (low w at end : ℕ) (x : Varint) → Past (at + 1) end x → Past at end (onto low w x)
 onto-past low w at end (Varint.Number v next) h = (omega arith, omega arith)

@@ -10,6 +10,7 @@ use lib.ListN.{length, getD}
 use lib.Count.{leadingZeros, leading-top}
 use lib.Pow.{pow-add, pow-mono}
 use lib.Dec.{ltb}
+use Rattle.prelude.proofs.Cases.{less-or-not}
 use Rattle.varint.specs.Shortest.{shortest, varintBytes}
 use Rattle.varint.specs.VarintRules.{TenEnough}
 
@@ -25,11 +26,7 @@ shortest-more n v h = simp (le-ltb v 128 h)
 
 -- a number is below 128, or is not
 pub below-or-not : {A : Type 0} (v : ℕ) → (v < 128 → A) → (128 ≤ v → A) → A
-below-or-not {A} v f g = go (ltb v 128) refl
-  where
-    go : (t : Bool) → ltb v 128 ≡ t → A
-    go true e = f (ltb-true v 128 e)
-    go false e = g (ltb-false v 128 e)
+below-or-not v f g = less-or-not v 128 f g
 
 -- a number with bits in the group m and in none above it takes m + 1 bytes
 pub shortest-length : (n m v : ℕ) → 128 ^ m ≤ v → v < 128 ^ suc m → m < n → length (shortest n v) ≡ suc m

@@ -11,14 +11,6 @@ use borrow.Author.Tests.{le-leb, lt-leb, ltb-true, ltb-false, leb-true, leb-fals
 
 -- ---- tests
 
--- which of two numbers is less
-pub less-or-not : {A : Type 0} (a b : ℕ) → (a < b → A) → (b ≤ a → A) → A
-less-or-not {A} a b f g = go (ltb a b) refl
-  where
-    go : (t : Bool) → ltb a b ≡ t → A
-    go true e = f (ltb-true a b e)
-    go false e = g (ltb-false a b e)
-
 -- a choice between two, each the image of another
 pub chosen-alike : {A B : Type 0} (f : A → B) (b : Bool) {x y : A} {u v : B} → u ≡ f x → v ≡ f y →
     cond b u v ≡ f (cond b x y)

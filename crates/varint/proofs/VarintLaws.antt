@@ -9,13 +9,13 @@ use borrow.Author.Tests.{ltb-true}
 use lib.ListN.{length, drop, getD, length-drop}
 use lib.Seq.{getD-drop, drop-drop, drop-at}
 use lib.Dec.{ltb}
+use Rattle.prelude.proofs.Cases.{both}
 use Rattle.varint.specs.declared.Varint.{Varint}
 use Rattle.varint.specs.declared.Varint.the-variants.{Number, Bad}
 use Rattle.varint.specs.Varint.{groups, onto, low64, varintAt}
 use Rattle.varint.specs.Shortest.{shortest, varintBytes}
 use Rattle.varint.specs.VarintRules.{ReadsBack, NoneShorter}
 use Rattle.varint.proofs.GroupLaws.{groups-last, groups-more}
-use Rattle.varint.proofs.PastLaws.{both}
 use Rattle.varint.proofs.ShortestLaws.{below-or-not, shortest-last, shortest-more, shortest-at-most, shortest-some, shortest-within, shortest-bytes}
 
 -- ---- a group at a place

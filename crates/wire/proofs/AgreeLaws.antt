@@ -8,9 +8,9 @@ use mathlib.Core.List.{List, _++_}
 use lib.ListN.{length, getD, length-append, List·getD-append}
 use lib.Dec.{ltb, leb, eqb}
 use borrow.Author.Tests.{le-leb, eqb-true, ne-eqb}
+use Rattle.prelude.proofs.Cases.{both}
 use Rattle.varint.specs.Varint.{varintAt}
 use Rattle.varint.specs.declared.Varint.{Varint}
-use Rattle.varint.proofs.PastLaws.{both}
 pub use Rattle.varint.proofs.AgreeLaws.{Agree}
 use Rattle.varint.proofs.AgreeLaws.{agree-later, KeepsVarint, varint-keeps}
 use Rattle.scalar.specs.Fixed.{little}

@@ -6,6 +6,7 @@ use mathlib.Core.List.{List}
 use lib.ListN.{length, take}
 use lib.Seq.{take-length}
 use borrow.Author.Tests.{eq-eqb, ne-eqb}
+use Rattle.prelude.proofs.Cases.{before-suc}
 use Rattle.varint.specs.Varint.{low64}
 use Rattle.varint.proofs.GroupLaws.{groups-end}
 use Rattle.wire.specs.Tag.{tagOf, tagAt}
@@ -33,9 +34,6 @@ pub record Skipping (depth : ℕ) (s : List ℕ) (at number p : ℕ) : Type 0 wh
 pub shut : (s : List ℕ) (at number : ℕ) → groupEnd 0 s at number ≡ Skip.Bad
 unfolding groupEnd
 shut s at number = refl
-
-before-suc : (m : ℕ) → m ≡ suc m - 1
-before-suc m = omega arith
 
 opened : (depth : ℕ) (s : List ℕ) (at number : ℕ) → 0 < depth → rest depth (length s) s at number ≡ groupEnd depth s at number
 unfolding groupEnd

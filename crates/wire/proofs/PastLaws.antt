@@ -7,10 +7,11 @@ use mathlib.Core.List.{List}
 use lib.ListN.{length}
 use lib.Dec.{ltb, leb, eqb}
 use borrow.Author.Tests.{ltb-false, leb-true}
+use Rattle.prelude.proofs.Cases.{both}
 use Rattle.varint.specs.Varint.{varintAt}
 use Rattle.varint.specs.Past.{Past}
 use Rattle.varint.specs.declared.Varint.{Varint}
-use Rattle.varint.proofs.PastLaws.{both, varint-past}
+use Rattle.varint.proofs.PastLaws.{varint-past}
 use Rattle.wire.specs.Tag.{tagOf, tagAt}
 use Rattle.wire.specs.Value.{ofVarint, ofLength, asFixed, valueAt}
 use Rattle.wire.specs.Group.{behind, skipValue, andThen, groupField, groupFields, groupEnd}

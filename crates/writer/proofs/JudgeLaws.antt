@@ -7,6 +7,7 @@ use mathlib.Core.List.{List}
 use lib.ListN.{length}
 use lib.Dec.{eqb}
 use borrow.Author.Tests.{lt-ltb, le-ltb, eq-eqb, ne-eqb}
+use Rattle.prelude.proofs.Cases.{yes, no as without, before-suc}
 use Rattle.protocol.specs.Client as Client
 use Rattle.wire.specs.Field.{fieldAt}
 use Rattle.wire.specs.Past.{PastField}
@@ -14,7 +15,6 @@ use Rattle.wire.specs.declared.field.Field.{Field}
 use Rattle.wire.proofs.PastLaws.{field-past}
 use Rattle.args.specs.Value.{argumentIn}
 use Rattle.args.specs.Arguments.{anyTypeOf}
-use Rattle.args.proofs.PartLaws.{yes, no as without}
 use Rattle.message.specs.Operation as Operation
 use Rattle.writer.specs.Judge.{isGood, onArg, argsFrom, goodStretch, isType, goodPrepare, acceptedAs}
 
@@ -34,9 +34,6 @@ judged-end (suc m) s p h = simp (le-ltb p (length s) h)
 
 pub ends : {s : List ℕ} {p : ℕ} → Judging s p → length s ≤ p → true ≡ goodStretch s
 ends {s} {p} k h = sym (judged-end (k .most) s p h) ∙ k .whole
-
-before-suc : (m : ℕ) → m ≡ suc m - 1
-before-suc m = omega arith
 
 pub unroll : (most : ℕ) (s : List ℕ) (p : ℕ) → 0 < most → p < length s →
     argsFrom most s p ≡ onArg s (λ next. argsFrom (most - 1) s next) (fieldAt s p)

@@ -7,6 +7,7 @@ use mathlib.Core.List.{List, [], _∷_, _++_, map, append-assoc, append-nil}
 use lib.ListN.{length, length-append}
 use lib.Dec.{eqb}
 use borrow.Author.Tests.{eqb-true, eqb-false, ne-eqb}
+use Rattle.prelude.proofs.Cases.{less-or-not}
 use Rattle.wire.specs.Field.{fieldAt}
 use Rattle.wire.specs.declared.field.Field.{Field}
 use Rattle.scalar.specs.declared.argument.Argument.{Argument}
@@ -22,7 +23,7 @@ use Rattle.args.proofs.ArgumentsLaws.{type-good}
 use Rattle.encode.specs.Field.{numberField}
 use Rattle.args.specs.Moved.{moved}
 use Rattle.encode.specs.Field.{optionalField}
-use Rattle.varint.proofs.TailLaws.{less-or-not, Tail, tail-length, tail-stands, Stands, stands-length}
+use Rattle.varint.proofs.TailLaws.{Tail, tail-length, tail-stands, Stands, stands-length}
 use Rattle.varint.proofs.TailLaws.{stands-first, stands-next}
 use Rattle.args.proofs.MovedArgLaws.{argument-moved}
 use Rattle.args.proofs.MovedArgLaws.{field-inside, args-found}

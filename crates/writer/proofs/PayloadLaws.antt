@@ -5,11 +5,11 @@ use mathlib.Core.List.{List, [], _++_}
 use native.Mathlib.Nat.{add-zero}
 use lib.ListN.{length}
 use borrow.Author.Tests.{ne-eqb}
+use Rattle.prelude.proofs.Cases.{no as without}
 use Rattle.protocol.specs.Client as Client
 use Rattle.encode.specs.Puts.{Puts}
 use Rattle.encode.specs.Field.{numberField, bytesField}
 use Rattle.encode.proofs.PutsLaws.{puts-then, puts-as}
-use Rattle.args.proofs.PartLaws.{no as without}
 use Rattle.writer.specs.declared.Draft.{Draft}
 use Rattle.encode.specs.Field.{prefixOf}
 use Rattle.writer.specs.Payload.{executePayload, preparePayload, openPayload, fetchPayload, payloadAs}

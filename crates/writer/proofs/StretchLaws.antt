@@ -8,6 +8,7 @@ use mathlib.Core.List.{List, _∷_}
 use lib.ListN.{length, getD, set}
 use lib.Dec.{eqb}
 use borrow.Author.Tests.{lt-ltb, eqb-true, eqb-false}
+use Rattle.prelude.proofs.Cases.{less-or-not}
 use Rattle.wire.specs.Field.{fieldAt}
 use Rattle.wire.specs.declared.field.Field.{Field}
 use Rattle.layout.specs.Fields.{useOf, noted}
@@ -17,7 +18,7 @@ use Rattle.layout.proofs.FieldsLaws.{Listing, goes-on}
 use Rattle.args.specs.Value.{argumentIn}
 use Rattle.args.specs.Arguments.{anyTypeOf}
 use Rattle.writer.specs.Judge.{onArg, argsFrom, goodStretch}
-use Rattle.varint.proofs.TailLaws.{less-or-not, Stands, stands-length}
+use Rattle.varint.proofs.TailLaws.{Stands, stands-length}
 use Rattle.wire.proofs.MovedLaws.{movedField, field-moved}
 use Rattle.wire.proofs.AgreeLaws.{field-longer}
 use Rattle.args.proofs.MovedArgLaws.{field-inside}

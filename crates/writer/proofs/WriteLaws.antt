@@ -8,7 +8,7 @@ use mathlib.Core.List.{List, [], _∷_, _++_}
 use lib.ListN.{length}
 use lib.Dec.{leb, eqb}
 use borrow.Author.Tests.{le-leb, lt-leb, eqb-true}
-use Rattle.varint.proofs.PastLaws.{both}
+use Rattle.prelude.proofs.Cases.{both, yes, no as without}
 use Rattle.encode.proofs.PutLaws.{put-fits}
 use Rattle.encode.specs.Puts.{Puts}
 use Rattle.encode.specs.Frame.{fourBytes, frame}
@@ -16,7 +16,6 @@ use Rattle.encode.proofs.PutsLaws.{puts-then, puts-as}
 use Rattle.protocol.specs.Client as Client
 use Rattle.protocol.specs.Reason as Reason
 use Rattle.message.specs.Head.{maxLength}
-use Rattle.args.proofs.PartLaws.{yes, no as without}
 use Rattle.writer.specs.declared.Draft.{Draft}
 use Rattle.writer.specs.declared.Sent.{Sent}
 use Rattle.writer.specs.Judge.{accepted, acceptedAs}

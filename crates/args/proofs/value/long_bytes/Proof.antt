@@ -1,7 +1,7 @@
 -- `args::value::long_bytes` meets its contract. Assumes nothing.
 use mathlib.Core.Path.{_∙_}
 use borrow.Author.Tests.{not-true, not-false}
-use Rattle.args.proofs.PartLaws.{yes, no as without}
+use Rattle.prelude.proofs.Cases.{yes, no as without}
 use Rattle.args.proofs.ArrayLaws.{bytes-held, bytes-refused}
 use borrow.Author.Needs.{needs}
 use Rattle.args.proofs.value.long_bytes.Statement.{statement}

@@ -4,11 +4,11 @@ use mathlib.Core.Path.{refl, sym, ap, _∙_}
 use mathlib.Core.List.{List}
 use lib.ListN.{length}
 use lib.Seq.{take-length}
+use Rattle.prelude.proofs.Cases.{yes, no as without}
 use Rattle.layout.specs.Table.{rowsOf, bytes}
 use Rattle.layout.specs.Row.{rowFor}
 use Rattle.layout.specs.Fields.{hasRequired}
 use Rattle.args.specs.Value.{bytesOf, bytesIn}
-use Rattle.args.proofs.PartLaws.{yes, no as without}
 use Rattle.args.proofs.TextLaws.{text-kept}
 use borrow.Author.Needs.{needs}
 use Rattle.args.proofs.value.read_bytes.Statement.{statement}

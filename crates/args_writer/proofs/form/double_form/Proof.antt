@@ -1,7 +1,7 @@
 -- `args_writer::form::double_form` meets its contract. Assumes nothing.
+use Rattle.prelude.proofs.Cases.{yes, no}
 use Rattle.protocol.specs.Scalars as Scalars
 use lib.Ieee.{binary64, toBits}
-use Rattle.args.proofs.PartLaws.{yes, no}
 use Rattle.args_writer.specs.private.Form.{noForm, valueForm}
 use Rattle.args_writer.proofs.FormLaws.{nan-told, nan-not, nan-asked}
 use mathlib.Core.Path.{_∙_}

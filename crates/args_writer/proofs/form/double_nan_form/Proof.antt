@@ -1,7 +1,7 @@
 -- `args_writer::form::double_nan_form` meets its contract. Assumes nothing.
+use Rattle.prelude.proofs.Cases.{yes, no}
 use Rattle.protocol.specs.Scalars as Scalars
 use lib.Ieee.{binary64}
-use Rattle.args.proofs.PartLaws.{yes, no}
 use Rattle.scalar.proofs.ArgumentLaws.{is-nan, no-nan}
 use Rattle.args_writer.specs.private.Form.{noForm, valueForm}
 use mathlib.Core.Path.{_∙_}

@@ -6,6 +6,7 @@ use mathlib.Core.Path.{sym}
 use lib.ListN.{length-take}
 use lib.Seq.{length-take-le}
 use borrow.Author.Needs.{needs}
+use Rattle.encode.proofs.MoveLaws.{moved-front}
 use Rattle.session.specs.Words.{sessionOf}
 use Rattle.trace_line.proofs.PrintLaws.{printed}
 use Rattle.trace_line.proofs.printer.print_chunk.Statement.{statement}
@@ -49,14 +50,6 @@ part-stands-first-start c =
     let n = l .before .lesser .result + l .lesser2 .result in
     omega (arith, w .put-lines .ensures .within, length-take n (b .write-bytes .last .0))
 
-move-front-requires : tie.Need-move-front-requires
-move-front-requires c κs =
-    let w = c .before .before .before .before .before .before in
-    let b = w .before .before .before .before .before .before in
-    let l = b .before .before .before in
-    let n = l .before .lesser .result + l .lesser2 .result in
-    omega (arith, w .put-lines .ensures .within, length-take n (b .write-bytes .last .0))
-
 returns : tie.Need-returns
 returns c =
     let m = c .before .before in
@@ -65,9 +58,12 @@ returns c =
     let b = w .before .before .before .before .before .before in
     let k = b .before .before .before in
     let a = k .before .before .before .before .before .args in
+    let n = k .before .lesser .result + k .lesser2 .result in
+    let at = w .put-lines .result .at in
+    let there = omega (arith, w .put-lines .ensures .within, length-take n (b .write-bytes .last .0)) in
     printed (a .p) (sessionOf (a .words .now)) (a .store .now) (a .chunk .now) (a .out .now)
     (k .before .lesser .ensures) (k .lesser2 .ensures) (b .write-bytes .ensures .1) (w .put-lines .ensures)
-    (f .stands-first .ensures) (m .move-front .ensures)
+    (f .stands-first .ensures) (m .move-front .ensures ∙ moved-front (b .write-bytes .last .0) at (n - at) there)
 
 pub print-chunk-spec : {M : Type 1} → statement M
 print-chunk-spec =
@@ -87,7 +83,7 @@ print-chunk-spec =
     part-stands-first-start
     (λ c. search needs)
     (λ c κs. search needs)
-    move-front-requires
+    (λ c κs. search needs)
     (λ c. search needs)
     (λ c. search needs)
     returns)

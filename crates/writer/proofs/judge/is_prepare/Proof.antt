@@ -3,8 +3,8 @@ use mathlib.Core.Bool.{false}
 use mathlib.Core.Path.{sym, ap, _∙_}
 use borrow.Author.Tests.{not-true, not-false}
 use borrow.Author.Needs.{needs}
+use Rattle.prelude.proofs.Cases.{yes, no as without}
 use Rattle.args.specs.declared.arguments.Arguments.{Arguments}
-use Rattle.args.proofs.PartLaws.{yes, no as without}
 use Rattle.writer.specs.Judge.{goodBody}
 use Rattle.writer.proofs.judge.is_prepare.Statement.{statement}
 use Rattle.writer.proofs.judge.is_prepare.Tie as tie

@@ -5,10 +5,13 @@ use native.Mathlib.Omega.{arith}
 use native.Mathlib.Numerals.{add-one}
 use mathlib.Core.Path.{_≡_, refl, sym, ap, _∙_}
 use mathlib.Core.List.{List}
+use mathlib.Core.Bool.{false}
+use lib.Dec.{leb}
+use borrow.Author.Tests.{le-leb}
 use lib.ListN.{length, getD, take, drop, set, length-drop, length-set, drop-of-length-le}
 use lib.Seq.{sets, length-take-le, drop-cons, drop-drop, drop-set-lt, getD-take, getD-drop}
-use Rattle.encode.specs.Put.{written}
+use Rattle.encode.specs.Put.{written, movedFront}
 use Rattle.encode.proofs.PutLaws.{put-fits}
 
 -- where the moving loop stands: what is left, stored from here on, gives the store that is to be; from here on it is
 -- as it was
@@ -61,3 +64,11 @@ module _ {b₀ b : List ℕ} {start len i : ℕ} (there : start + len ≤ length
       sym (ap (sets b i) (drop-of-length-le p {i = i} (rw length-part h)))
       ∙ m .moved
       ∙ put-fits b₀ 0 p (omega (arith, length-part)) .1
+
+-- where the buffer has them they are moved, and else nothing is
+pub moved-front : (b : List ℕ) (start len : ℕ) → start + len ≤ length b →
+    movedFront b start len ≡ written b 0 (take len (drop start b))
+moved-front b start len h = rw (le-leb (start + len) (length b) h)
+
+pub moved-none : (b : List ℕ) (start len : ℕ) → leb (start + len) (length b) ≡ false → b ≡ movedFront b start len
+moved-none b start len e = rw e

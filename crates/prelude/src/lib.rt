@@ -1,0 +1,1 @@
+// Nothing that runs: laws that several crates need, in proofs/.
