@@ -7,11 +7,12 @@ use mathlib.Core.Path.{_≡_, refl, sym, ap, subst, _∙_}
 use mathlib.Core.List.{List}
 use lib.ListN.{length, getD, set, length-set}
 use lib.Seq.{getD-set-same, getD-set-other}
+use Rattle.prelude.proofs.Cases.{less-or-not}
 use Rattle.wire.specs.Field.{fieldAt}
 use Rattle.wire.specs.Past.{PastField}
 use Rattle.wire.specs.declared.field.Field.{Field}
 use Rattle.wire.proofs.PastLaws.{field-past}
-use Rattle.wire.proofs.MovedLaws.{movedField, field-moved, less-or-not, Tail, tail-length}
+use Rattle.wire.proofs.MovedLaws.{movedField, field-moved, Tail, tail-length}
 use Rattle.layout.specs.Row.{isRepeated, rowFor, slotCount}
 use Rattle.layout.specs.Slots.{noSlots, badSlots}
 use Rattle.layout.specs.Fields.{useOf, noted, fieldList, hasRequired, checked, fieldsAt}

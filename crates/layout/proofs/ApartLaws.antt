@@ -7,11 +7,11 @@ use mathlib.Core.List.{List}
 use lib.ListN.{length, getD, set, length-set}
 use lib.Seq.{getD-set-same, getD-set-other}
 use lib.Dec.{ltb}
+use Rattle.prelude.proofs.Cases.{both}
 use Rattle.wire.specs.Field.{fieldAt}
 use Rattle.wire.specs.Past.{PastField}
 use Rattle.wire.specs.declared.field.Field.{Field}
 use Rattle.wire.proofs.PastLaws.{field-past}
-use Rattle.wire.proofs.LongLaws.{both}
 use Rattle.layout.specs.Row.{slotCount}
 use Rattle.layout.specs.Slots.{noSlots, badSlots}
 use Rattle.layout.specs.Fields.{useOf, noted, onField, fieldsFrom, fieldList, hasRequired}

@@ -9,9 +9,10 @@ use lib.ListN.{length, getD, set, take, length-set}
 use lib.Seq.{getD-set-other, take-length}
 use lib.Dec.{ltb, leb, eqb}
 use borrow.Author.Tests.{le-leb, eqb-true, eqb-false}
+use Rattle.prelude.proofs.Cases.{both}
 use Rattle.wire.specs.Field.{fieldAt}
 use Rattle.wire.specs.declared.field.Field.{Field}
-use Rattle.wire.proofs.LongLaws.{both, LongField, field-long}
+use Rattle.wire.proofs.LongLaws.{LongField, field-long}
 use Rattle.layout.specs.Row.{numberOf, wireOf, isRepeated, listedOf, listed, rowFor, takes, slotCount}
 use Rattle.layout.specs.Slots.{noSlots, badSlots}
 use Rattle.layout.specs.Fields.{useOf, noted, onField, fieldsFrom, fieldList, hasRequired, checked, fieldsAt, fieldsTo}

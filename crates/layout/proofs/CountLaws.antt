@@ -8,9 +8,9 @@ use lib.ListN.{length, getD, set, take, length-set}
 use lib.Seq.{getD-set-same}
 use lib.Dec.{ltb, leb}
 use borrow.Author.Tests.{leb-true}
+use Rattle.prelude.proofs.Cases.{both}
 use Rattle.wire.specs.Field.{fieldAt}
 use Rattle.wire.specs.declared.field.Field.{Field}
-use Rattle.wire.proofs.LongLaws.{both}
 use Rattle.layout.specs.Slots.{badSlots}
 use Rattle.layout.specs.Fields.{useOf, noted, onField, fieldsFrom, fieldList, hasRequired, fieldsAt, fieldsTo}
 use Rattle.layout.specs.declared.slots.Slots.{Slots}

@@ -9,11 +9,11 @@ use lib.ListN.{length, getD, set}
 use lib.Seq.{getD-set-same, getD-set-other}
 use lib.Dec.{ltb, eqb}
 use borrow.Author.Tests.{lt-ltb, eqb-true}
+use Rattle.prelude.proofs.Cases.{both}
 use Rattle.wire.specs.Field.{fieldAt}
 use Rattle.wire.specs.Past.{PastField}
 use Rattle.wire.specs.declared.field.Field.{Field}
 use Rattle.wire.proofs.AgreeLaws.{Agree, reach, reach-le, field-kept, Tails, tails-later, field-tail}
-use Rattle.wire.proofs.LongLaws.{both}
 use Rattle.wire.proofs.PastLaws.{field-past}
 use Rattle.layout.specs.SameBut.{SameBut}
 use Rattle.layout.specs.Row.{numberOf, wireOf, isRepeated, rowFor, takes, slotCount}

@@ -1,5 +1,6 @@
 // The trace printer: reads standard input, however it arrives, and writes what `trace_line::printer` puts: the
 // header, a line for each record and the end's text. Here bytes are moved, and nothing else.
+use encode::put::Put;
 use libc::STDIN_FILENO;
 use libc::STDOUT_FILENO;
 use session::Session;
@@ -7,7 +8,6 @@ use session::WORDS;
 use trace_line::printer::First;
 use trace_line::printer::MAX_RECORD;
 use trace_line::printer::Printer;
-use encode::put::Put;
 
 const CHUNK: usize = 65536;
 

@@ -1,6 +1,7 @@
 // Traces stored runs through `trace_line::printer`, each on a fresh session and in small pieces. Standard input has
 // for each run four bytes of length, least first, and its bytes.
 ghost use Prim.Native.Nat.{_≤_, _<_};
+use encode::put::Put;
 use libc::STDIN_FILENO;
 use libc::STDOUT_FILENO;
 use session::Session;
@@ -9,7 +10,6 @@ use trace_line::printer::First;
 use trace_line::printer::MAX_LINE;
 use trace_line::printer::MAX_RECORD;
 use trace_line::printer::Printer;
-use encode::put::Put;
 
 const INPUT: usize = 262144;
 

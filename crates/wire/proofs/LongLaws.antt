@@ -8,7 +8,7 @@ use lib.Dec.{ltb, eqb}
 use borrow.Author.Tests.{eqb-true}
 use Rattle.varint.specs.Varint.{varintAt}
 use Rattle.varint.specs.declared.Varint.{Varint}
-pub use Rattle.varint.proofs.PastLaws.{both}
+use Rattle.prelude.proofs.Cases.{both}
 use Rattle.wire.specs.Tag.{tagAt}
 use Rattle.wire.specs.Value.{asNumber, asFixed, ofLength, asLength, valueAt}
 use Rattle.wire.specs.Group.{groupEnd}

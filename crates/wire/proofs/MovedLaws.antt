@@ -25,7 +25,8 @@ use Rattle.wire.specs.declared.field.Field.{Field}
 use Rattle.wire.proofs.FieldLaws.{field-tagged}
 use Rattle.wire.proofs.GroupLaws.{Skipping, starts, shut, unended, no-tag, ended, misended, inner-bad}
 use Rattle.wire.proofs.GroupLaws.{inner-past, inner-on, value-bad, value-past, value-on}
-pub use Rattle.varint.proofs.TailLaws.{less-or-not, Tail, tail-length, Stands, stands-length, stands-take}
+use Rattle.prelude.proofs.Cases.{less-or-not}
+pub use Rattle.varint.proofs.TailLaws.{Tail, tail-length, Stands, stands-length, stands-take}
 use Rattle.varint.proofs.TailLaws.{chosen-alike, leb-add, tail-byte}
 
 abbrev pub movedVarint : ℕ → Varint → Varint
