@@ -65,7 +65,8 @@ unfolding argumentsFrom
 from-none zero s p e = refl
 from-none (suc m) s p e = ap (andMore (λ next. argumentsFrom m s next)) e
 
-from-found : (most : ℕ) (s : List ℕ) (p : ℕ) {a : Argument} {next : ℕ} → 0 < most → nextArgument s p ≡ NextArgument.Found a next →
+pub from-found : (most : ℕ) (s : List ℕ) (p : ℕ) {a : Argument} {next : ℕ} → 0 < most →
+    nextArgument s p ≡ NextArgument.Found a next →
     argumentsFrom most s p ≡ a ∷ argumentsFrom (most - 1) s next
 unfolding argumentsFrom
 from-found zero s p g e = absurd (omega arith)
@@ -132,6 +133,39 @@ together-on : (x : Arguments) (a : Argument) (rest : List Argument) → (anyType
 unfolding together
 together-on x a rest h =
     ap (λ (b : Bool). cond b badArguments (together (withType x (anyTypeOf a)) rest)) (ne-eqb (anyTypeOf a) 0 h)
+
+-- what good arguments leave as it was
+type-kept : (x : Arguments) (t : ℕ) → (t ≡ 0 → ⊥) → (withType x t .start ≡ x .start) × (withType x t .end ≡ x .end)
+type-kept x t h = rw (ne-eqb t 0 h) (go (ltb t 2) (eqb (x .kind) 0))
+  where
+    go : (b c : Bool) →
+        (cond b (counted x (x .kind) (x .index))
+        (cond c (counted x t (x .count)) (counted x (x .kind) (x .index))) .start ≡ x .start)
+        × (cond b (counted x (x .kind) (x .index))
+        (cond c (counted x t (x .count)) (counted x (x .kind) (x .index))) .end ≡ x .end)
+    go true c = (refl, refl)
+    go false true = (refl, refl)
+    go false false = (refl, refl)
+
+pub together-kept : (x : Arguments) (l : List Argument) → together x l .good ≡ true →
+    (together x l .start ≡ x .start) × (together x l .end ≡ x .end)
+unfolding together
+together-kept x [] g = (refl, refl)
+together-kept x (a ∷ l) g =
+    go (λ h. together-kept (withType x (anyTypeOf a)) l h) (eqb (anyTypeOf a) 0) refl g
+  where
+    go : (together (withType x (anyTypeOf a)) l .good ≡ true →
+        (together (withType x (anyTypeOf a)) l .start ≡ withType x (anyTypeOf a) .start) × (together
+        (withType x (anyTypeOf a)) l .end ≡ withType x (anyTypeOf a) .end)) →
+        (b : Bool) → eqb (anyTypeOf a) 0 ≡ b →
+        cond b badArguments (together (withType x (anyTypeOf a)) l) .good ≡ true →
+        (cond b badArguments (together (withType x (anyTypeOf a)) l) .start ≡ x .start) × (cond b badArguments
+        (together (withType x (anyTypeOf a)) l) .end ≡ x .end)
+    go on true e h = absurd (let z : _≡_ {A = ℕ} 0 1 = cc in omega arith)
+    go on false e h =
+        let w = on h in
+        let v = type-kept x (anyTypeOf a) (eqb-false (anyTypeOf a) 0 e) in
+        (w .0 ∙ v .0, w .1 ∙ v .1)
 
 -- where the loop stands: what is left at p, on top of x, answers for all
 pub record Walking (s : List ℕ) (from p : ℕ) (x : Arguments) : Type 0 where

@@ -65,7 +65,7 @@ module _ {s : List ℕ} {at p : ℕ} (k : Seeking s at p) (inside : p < length s
         go : PastField p (length s) (fieldAt s p) → p < next
         go = rw e (λ h. h .2)
 
-    by-args : (b : Bool) → b ≡ isArgs number wire v →
+    pub by-args : (b : Bool) → b ≡ isArgs number wire v →
         cond b (ArgPlace.At start len next) (placeFrom (k .most - 1) s next) ≡ argPlace s at
     by-args b h =
         ap (λ (c : Bool). cond c (ArgPlace.At start len next) (placeFrom (k .most - 1) s next)) h
@@ -74,7 +74,7 @@ module _ {s : List ℕ} {at p : ℕ} (k : Seeking s at p) (inside : p < length s
     pub found : number ≡ 2 → wire ≡ 2 → ArgPlace.At start len next ≡ argPlace s at
     found h g = by-args true (is-args number wire v h g)
 
-    on : placeFrom (k .most - 1) s next ≡ argPlace s at → Seeking s at next
+    pub on : placeFrom (k .most - 1) s next ≡ argPlace s at → Seeking s at next
     on w = record { most = k .most - 1; enough = omega (arith, k .enough, advances); whole = w }
 
     pub other-wire : number ≡ 2 → (wire ≡ 2 → ⊥) → Seeking s at next

@@ -1,18 +1,25 @@
 -- What an Any and a Scalar do not choose is not read. Assumes nothing.
-use Prim.Native.Nat.{ℕ, suc, _+_, _≤_, _<_}
+use Prim.Native.Nat.{ℕ, zero, suc, _+_, _-_, _≤_, _<_}
 use native.Mathlib.Omega.{arith}
 use mathlib.Core.Bool.{Bool, true, false, not, cond}
 use mathlib.Core.Logic.{_⊎_, inl, inr, ⊎-elim}
 use mathlib.Core.Path.{_≡_, refl, sym, ap, ap₂, subst, _∙_}
 use mathlib.Core.List.{List, [], _∷_}
-use lib.ListN.{length, getD, take, drop, length-take, length-drop, List·getD-eq-default}
-use lib.Seq.{getD-take, getD-drop, length-take-le}
+use lib.ListN.{length, getD, take, drop, length-take, length-drop, take-append-drop}
+use lib.ListN.{List·getD-eq-default}
+use lib.Seq.{getD-take, getD-drop, take-take, length-take-le}
 use lib.Dec.{leb, eqb}
 use borrow.Author.Tests.{ne-eqb, eqb-true, eqb-false}
 use Rattle.prelude.proofs.Cases.{less-or-not}
+use Rattle.varint.proofs.TailLaws.{Stands}
+use Rattle.wire.specs.Field.{fieldAt}
+use Rattle.wire.specs.Past.{PastField}
+use Rattle.wire.specs.declared.field.Field.{Field}
+use Rattle.wire.proofs.PastLaws.{field-past}
 use Rattle.wire.proofs.AgreeLaws.{Tails}
 use Rattle.scalar.specs.declared.argument.Argument.{Argument}
 use Rattle.layout.specs.SameBut.{SameBut}
+use Rattle.layout.specs.Reaches.{Reaches, stays, passes}
 use Rattle.layout.specs.Row.{wireOf, isRepeated, rowFor}
 use Rattle.layout.specs.Table.{rowsOf, any, scalar, bytes, len}
 use Rattle.layout.specs.Slots.{noSlots, badSlots}
@@ -23,12 +30,18 @@ use Rattle.layout.proofs.CountLaws.{good-list}
 use Rattle.layout.proofs.ApartLaws.{kept-apart}
 use Rattle.layout.proofs.KeptLaws.{kept-within}
 use Rattle.layout.proofs.UnreadLaws.{from-tail, kept-behind, bytes-unread}
+use Rattle.layout.proofs.UnreadLaws.{reaches-later, field-itself, field-on-way, tail-behind, field-unread}
 use Rattle.args.specs.Part.{embedded, countOf, startOf, lenOf, absent}
-use Rattle.args.specs.Value.{bad, present, bytesOf, bytesIn, ofType, scalarOf, ofAnyType, anyOf}
-use Rattle.args.specs.Arguments.{argumentsFrom, argumentsAt}
-use Rattle.args.specs.UnreadRules.{typeIn, OnlyField, AnyUnread, ScalarUnread}
+use Rattle.args.specs.Value.{bad, present, bytesOf, bytesIn, ofType, scalarOf, ofAnyType, anyOf, argumentIn}
+use Rattle.args.specs.Moved.{moved}
+use Rattle.args.specs.Arguments.{isArgs, argPlace, nextArgument, andMore, argumentsFrom, argumentsAt}
+use Rattle.args.specs.UnreadRules.{typeIn, OnlyField, AnyUnread, ScalarUnread, OneField, ListUnread}
+use Rattle.args.specs.declared.arguments.ArgPlace.{ArgPlace}
 use Rattle.args.proofs.PartLaws.{part-within}
-use Rattle.args.proofs.MovedArgLaws.{args-moved}
+use Rattle.args.proofs.MovedArgLaws.{argument-moved, field-inside, args-moved}
+use Rattle.args.proofs.PlaceLaws.{starts, by-args, on, next-placed}
+use Rattle.args.proofs.ArgumentsLaws.{from-found}
+use Rattle.args.proofs.EnoughLaws.{enough-fields, enough-arguments}
 
 -- ---- bytes that differ somewhere
 
@@ -223,3 +236,154 @@ scalar-unread s t at n octets h o =
     ap (λ (z : Slots). cond (z .good) (ofType t z (typeIn z)) bad)
     (embedded-unread (rowsOf scalar) s at n (fieldOf octets) (f .0) (f .1) (o .good) t (o .there) (o .same))
     ∙ ap (λ (a : Argument). cond (x .good) a bad) (type-kept s t at n octets h o)
+
+-- ---- the bytes of one field among the arguments
+
+-- an argument that has the same bytes
+stands-there : (s : List ℕ) (at n : ℕ) → at ≤ length s →
+    Stands s at (take n (drop at s)) (drop n (drop at s))
+stands-there s at n h = record { within = h; there = sym (take-append-drop n (drop at s)) }
+
+argument-local : (s t : List ℕ) (at n : ℕ) → length t ≡ length s → at + n ≤ length s →
+    ((i : ℕ) → at ≤ i → i < at + n → getD t i 0 ≡ getD s i 0) → argumentIn t at n ≡ argumentIn s at n
+argument-local s t at n e h same =
+    let b = take n (drop at s) in
+    let size-s = length-drop at s in
+    let size-t = length-drop at t in
+    let alike : take n (drop at t) ≡ b =
+    list-same (take n (drop at t)) b (omega (arith, length-take n (drop at t), length-take n (drop at s)))
+    (λ i.
+    take-same n (drop at s) (drop at t) i (omega arith)
+    (λ l. getD-drop at t i 0 ∙ same (at + i) (omega arith) (omega arith) ∙ sym (getD-drop at s i 0))) in
+    let z : at + 0 ≡ at = omega arith in
+    ap (λ (k : ℕ). argumentIn t k n) (sym z)
+    ∙ argument-moved (stands-there t at n (omega arith)) 0 n (omega (arith, length-take n (drop at t)))
+    ∙ ap (λ (l : List ℕ). moved at (argumentIn l 0 n)) alike
+    ∙ sym (argument-moved (stands-there s at n (omega arith)) 0 n (omega (arith, length-take n (drop at s))))
+    ∙ ap (λ (k : ℕ). argumentIn s k n) z
+
+-- a field's bytes stand behind its tag, and end before the next field
+past-start : (s : List ℕ) (p : ℕ) {i w v st ln after : ℕ} → fieldAt s p ≡ Field.Good i w v st ln after → p < st
+past-start s p {i} {w} {v} {st} {ln} {after} e = subst (PastField p (length s)) e (field-past s p) .0
+
+field-ends : (s : List ℕ) (p : ℕ) {i w v st ln after : ℕ} → fieldAt s p ≡ Field.Good i w v st ln after →
+    st + ln ≤ after
+field-ends s p {i} {w} {v} {st} {ln} {after} e = subst (PastField p (length s)) e (field-past s p) .1
+
+-- the arguments from a field on
+next-same : (m : ℕ) (s : List ℕ) (a b : ℕ) → nextArgument s a ≡ nextArgument s b →
+    argumentsFrom m s a ≡ argumentsFrom m s b
+unfolding argumentsFrom
+next-same zero s a b e = refl
+next-same (suc m) s a b e = ap (andMore (λ next. argumentsFrom m s next)) e
+
+module _ (s : List ℕ) (p : ℕ) {i w v st ln after : ℕ} (e : fieldAt s p ≡ Field.Good i w v st ln after) where
+  room : (p < after) × (after ≤ length s) × (st + ln ≤ length s)
+  room = let h = field-inside s p e in (h .1, h .2, h .0)
+
+  args-at : isArgs i w v ≡ true → argumentsAt s p ≡ argumentIn s st ln ∷ argumentsAt s after
+  args-at t =
+      let h = room in
+      from-found (length s) s p (omega arith)
+      (sym (next-placed s p (ArgPlace.At st ln after) (by-args (starts s p) (omega arith) e true (sym t))))
+      ∙ ap (λ (l : List Argument). argumentIn s st ln ∷ l) (enough-arguments (length s - 1) s after (omega arith))
+
+  args-past : isArgs i w v ≡ false → argumentsAt s p ≡ argumentsAt s after
+  args-past t =
+      let h = room in
+      let k = on (starts s p) (omega arith) e (by-args (starts s p) (omega arith) e false (sym t)) in
+      next-same (length s) s p after
+      (sym
+      (next-placed s p (argPlace s after) (sym (enough-fields (k .most) s after (k .enough)) ∙ k .whole))
+      ∙ next-placed s after (argPlace s after) refl)
+
+module _ (s t : List ℕ) (p number value start n next : ℕ) (e : fieldAt s p ≡ Field.Good number len value start n next)
+    (b : SameBut s t start (start + n))
+    (own : isArgs number len value ≡ true → argumentIn t start n ≡ argumentIn s start n) where
+  rest : argumentsAt t next ≡ argumentsAt s next
+  rest = arguments-local s t next (tail-behind s t p number value start n next e b) (room s p e .1)
+
+  it : fieldAt t p ≡ Field.Good number len value start n next
+  it = field-itself s t p number value start n next e b
+
+  at-field : (c : Bool) → isArgs number len value ≡ c → argumentsAt t p ≡ argumentsAt s p
+  at-field true h =
+      args-at t p it h ∙ ap₂ (λ (a : Argument) (l : List Argument). a ∷ l) (own h) rest ∙ sym (args-at s p e h)
+  at-field false h = args-past t p it h ∙ rest ∙ sym (args-past s p e h)
+
+  before-field : (q : ℕ) {i w v st ln after : ℕ} → fieldAt s q ≡ Field.Good i w v st ln after → after ≤ p →
+      argumentsAt t after ≡ argumentsAt s after → (c : Bool) → isArgs i w v ≡ c → argumentsAt t q ≡ argumentsAt s q
+  before-field q {i} {w} {v} {st} {ln} {after} f h more c g =
+      go c g
+    where
+      f′ : fieldAt t q ≡ Field.Good i w v st ln after
+      f′ = field-on-way s t p number value start n next e b q f h
+
+      go : (c : Bool) → isArgs i w v ≡ c → argumentsAt t q ≡ argumentsAt s q
+      go true g =
+          args-at t q f′ g
+          ∙ ap₂ (λ (a : Argument) (l : List Argument). a ∷ l)
+          (argument-local s t st ln (b .size) (room s q f .2)
+          (λ j _ l. b .same j (inl (omega (arith, past-start s p e, field-ends s q f)))))
+          more
+          ∙ sym (args-at s q f g)
+      go false g = args-past t q f′ g ∙ more ∙ sym (args-past s q f g)
+
+  list-reached : {q : ℕ} → Reaches s q p → argumentsAt t q ≡ argumentsAt s q
+  list-reached stays = at-field (isArgs number len value) refl
+  list-reached {q} (passes {number = i} {wire = w} {value = v} f r) =
+      before-field q f (reaches-later r) (list-reached r) (isArgs i w v) refl
+
+pub list-unread : ListUnread
+list-unread s t from p number value start n next r e b own = list-reached s t p number value start n next e b own r
+
+-- ---- one field of an embedded message
+
+module _ {s t : List ℕ} {from to : ℕ} (o : OneField s t from to) where
+  -- its bytes lie in the message
+  pub one-inside : (from < o .start) × (o .start + o .n ≤ to) × (o .start + o .n ≤ length s)
+  one-inside =
+      let k = subst (PastField (o .place) (length (take to s))) (o .field) (field-past (take to s) (o .place)) in
+      let l = length-take to s in
+      (omega (arith, reaches-later (o .reached), k .0), omega (arith, k .1, k .3), omega (arith, k .1, k .3))
+
+  -- in bytes cut off behind the message
+  pub one-cut : (end : ℕ) → to ≤ end → OneField (take end s) (take end t) from to
+  one-cut end h =
+      let e = sym (take-take to end s h) in
+      let f = sym (take-take to end t h) in
+      record {
+        place = o .place;
+        number = o .number;
+        value = o .value;
+        start = o .start;
+        n = o .n;
+        next = o .next;
+        reached = subst (λ (l : List ℕ). Reaches l from (o .place)) e (o .reached);
+        field =
+            subst
+            (λ (l : List ℕ). fieldAt l (o .place) ≡ Field.Good (o .number) len (o .value) (o .start) (o .n) (o .next))
+            e (o .field);
+        same = same-take (o .same) end;
+        alike = λ a.
+            ap (λ (l : List ℕ). argumentIn l (o .start) (o .n)) (sym f)
+            ∙ o .alike a
+            ∙ ap (λ (l : List ℕ). argumentIn l (o .start) (o .n)) e;
+      }
+
+  pub cut-start : (end : ℕ) (h : to ≤ end) → one-cut end h .start ≡ o .start
+  unfolding one-cut
+  cut-start end h = refl
+
+module _ (s t : List ℕ) (at n : ℕ) (o : OneField s t at (at + n)) where
+  pub one-embedded : (rows : List (List ℕ)) → embedded rows t at n ≡ embedded rows s at n
+  one-embedded rows =
+      ap (λ (k : ℕ). cond (leb (at + n) k) (fieldsAt rows (take (at + n) t) at) badSlots) (o .same .size)
+      ∙ ap (λ (y : Slots). cond (leb (at + n) (length s)) y badSlots)
+      (field-unread rows (take (at + n) s) (take (at + n) t) at (o .place) (o .number) (o .value) (o .start) (o .n)
+      (o .next) (o .reached) (o .field) (same-take (o .same) (at + n)))
+
+  pub one-list : argumentsAt (take (at + n) t) at ≡ argumentsAt (take (at + n) s) at
+  one-list =
+      list-unread (take (at + n) s) (take (at + n) t) at (o .place) (o .number) (o .value) (o .start) (o .n) (o .next)
+      (o .reached) (o .field) (same-take (o .same) (at + n)) (o .alike)

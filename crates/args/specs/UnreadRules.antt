@@ -1,14 +1,19 @@
 -- What an Any and a Scalar do not choose is not read: other bytes of the same length there change no argument (L10).
-use Prim.Native.Nat.{ℕ}
+use Prim.Native.Nat.{ℕ, _+_}
 use mathlib.Core.Bool.{Bool, true, false, cond}
 use mathlib.Core.Path.{_≡_}
 use mathlib.Core.List.{List}
+use lib.ListN.{take}
+use Rattle.wire.specs.Field.{fieldAt}
+use Rattle.wire.specs.declared.field.Field.{Field}
 use Rattle.layout.specs.SameBut.{SameBut}
-use Rattle.layout.specs.Table.{rowsOf, any, scalar}
+use Rattle.layout.specs.Reaches.{Reaches}
+use Rattle.layout.specs.Table.{rowsOf, any, scalar, len}
 use Rattle.layout.specs.FieldsRules.{startIn, endIn}
 use Rattle.layout.specs.declared.slots.Slots.{Slots}
 use Rattle.args.specs.Part.{embedded, absent, valueOf, low32}
 use Rattle.args.specs.Value.{scalarIn, argumentIn}
+use Rattle.args.specs.Arguments.{isArgs, argumentsAt}
 
 -- the type that a message names in field 1
 abbrev pub typeIn : Slots → ℕ
@@ -33,3 +38,26 @@ ScalarUnread =
     (s t : List ℕ) (at n : ℕ) (octets : Bool) →
     (typeIn (embedded (rowsOf scalar) s at n) ≡ cond octets 4 8 → ⊥) →
     OnlyField (embedded (rowsOf scalar) s at n) (cond octets 5 9) s t → scalarIn t at n ≡ scalarIn s at n
+
+-- s and t differ only in the bytes of one field of the message between two places; an argument there reads alike
+pub record OneField (s t : List ℕ) (from to : ℕ) : Type 0 where
+  pub place : ℕ
+  pub number : ℕ
+  pub value : ℕ
+  pub start : ℕ
+  pub n : ℕ
+  pub next : ℕ
+  pub reached : Reaches (take to s) from place
+  pub field : fieldAt (take to s) place ≡ Field.Good number len value start n next
+  pub same : SameBut s t start (start + n)
+  pub alike : isArgs number len value ≡ true → argumentIn (take to t) start n ≡ argumentIn (take to s) start n
+
+-- the arguments of a message depend on the bytes of one of its fields only as far as that argument does
+abbrev pub ListUnread : Type 0
+ListUnread =
+    (s t : List ℕ) (from p number value start n next : ℕ) →
+    Reaches s from p →
+    fieldAt s p ≡ Field.Good number len value start n next →
+    SameBut s t start (start + n) →
+    (isArgs number len value ≡ true → argumentIn t start n ≡ argumentIn s start n) →
+    argumentsAt t from ≡ argumentsAt s from

@@ -20,7 +20,8 @@ use Rattle.layout.specs.Row.{numberOf, wireOf, isRepeated, rowFor, takes
 use Rattle.layout.specs.Table.{len}
 use Rattle.layout.specs.Slots.{noSlots, badSlots}
 use Rattle.layout.specs.Fields.{useOf, noted, onField, fieldsFrom, fieldList, hasRequired, checked, fieldsAt}
-use Rattle.layout.specs.FieldsRules.{startIn, endIn, BytesUnread}
+use Rattle.layout.specs.FieldsRules.{startIn, endIn, BytesUnread, FieldUnread}
+use Rattle.layout.specs.Reaches.{Reaches, stays, passes}
 use Rattle.layout.specs.declared.slots.Slots.{Slots}
 use Rattle.layout.specs.declared.fields.Use.{Use}
 use Rattle.layout.proofs.FieldsLaws.{kept-slot}
@@ -250,3 +251,62 @@ bytes-unread rows s t from k bytes once g some b =
     (from-kept rows s (length s) from (none-kept (length s)) .inside k)
     (subst (λ (y : Slots). SameBut s t (startIn y k) (endIn y k)) is b) in
     ap (checked rows) same
+
+-- ---- a field on the way
+
+field-ahead : (s : List ℕ) (p : ℕ) {i w v st ln after : ℕ} → fieldAt s p ≡ Field.Good i w v st ln after → p < after
+field-ahead s p {i} {w} {v} {st} {ln} {after} e = subst (PastField p (length s)) e (field-past s p) .2
+
+none-left : (rows : List (List ℕ)) (s : List ℕ) (p : ℕ) (x : Slots) → fieldsFrom 0 rows s p x ≡ x
+unfolding fieldsFrom
+none-left rows s p x = refl
+
+pub reaches-later : {s : List ℕ} {p q : ℕ} → Reaches s p q → p ≤ q
+reaches-later stays = omega arith
+reaches-later {s} {p} (passes e r) = omega (arith, reaches-later r, field-ahead s p e)
+
+-- the bytes of the field at p are other ones: every field on the way to it, and its own tag and length, are the same
+module _ (s t : List ℕ) (p number value start n next : ℕ)
+    (e : fieldAt s p ≡ Field.Good number len value start n next) (b : SameBut s t start (start + n)) where
+  inside : PastField p (length s) (Field.Good number len value start n next)
+  inside = subst (PastField p (length s)) e (field-past s p)
+
+  agrees : (q : ℕ) → Agree s t q start
+  agrees q =
+      record {
+        here = omega (arith, inside .1, inside .3);
+        there = omega (arith, inside .1, inside .3, b .size);
+        same = λ i _ j. b .same i (inl j);
+      }
+
+  pub field-itself : fieldAt t p ≡ Field.Good number len value start n next
+  field-itself = field-kept s t start p (agrees p) e (omega arith) (omega (arith, inside .3, b .size))
+
+  pub field-on-way : (q : ℕ) {i w v st ln after : ℕ} → fieldAt s q ≡ Field.Good i w v st ln after → after ≤ p →
+      fieldAt t q ≡ Field.Good i w v st ln after
+  field-on-way q {i} {w} {v} {st} {ln} {after} f h =
+      let k = subst (PastField q (length s)) f (field-past s q) in
+      field-kept s t start q (agrees q) f (omega (arith, reach-le w st after (omega (arith, k .1)), inside .0))
+      (omega (arith, k .3, b .size))
+
+  pub tail-behind : Tails s t next
+  tail-behind = record { size = b .size; same = λ i j. b .same i (inr (omega (arith, inside .1))) }
+
+  module _ (rows : List (List ℕ)) where
+    from-reached : (most : ℕ) {q : ℕ} (x : Slots) → Reaches s q p →
+        fieldsFrom most rows t q x ≡ fieldsFrom most rows s q x
+    from-reached zero {q} x r = none-left rows t q x ∙ sym (none-left rows s q x)
+    from-reached (suc most) x stays =
+        step most rows t p x (omega (arith, inside .2, inside .3, b .size)) field-itself
+        ∙ from-tail most rows s t next (noted (useOf rows number len value) x number value start n) tail-behind
+        ∙ sym (step most rows s p x (omega (arith, inside .2, inside .3)) e)
+    from-reached (suc most) {q} x (passes {number = i} {wire = w} {value = v} {start = st} {len = ln} f r) =
+        let k = subst (PastField q (length s)) f (field-past s q) in
+        step most rows t q x (omega (arith, k .2, k .3, b .size)) (field-on-way q f (reaches-later r))
+        ∙ from-reached most (noted (useOf rows i w v) x i v st ln) r
+        ∙ sym (step most rows s q x (omega (arith, k .2, k .3)) f)
+
+pub field-unread : FieldUnread
+field-unread rows s t from p number value start n next r e b =
+    ap (λ (m : ℕ). checked rows (fieldsFrom m rows t from noSlots)) (b .size)
+    ∙ ap (checked rows) (from-reached s t p number value start n next e b rows (length s) noSlots r)

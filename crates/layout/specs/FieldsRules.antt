@@ -5,7 +5,10 @@ use mathlib.Core.Logic.{_⊎_}
 use mathlib.Core.Path.{_≡_}
 use mathlib.Core.List.{List}
 use lib.ListN.{length, getD}
+use Rattle.wire.specs.Field.{fieldAt}
+use Rattle.wire.specs.declared.field.Field.{Field}
 use Rattle.layout.specs.SameBut.{SameBut}
+use Rattle.layout.specs.Reaches.{Reaches}
 use Rattle.layout.specs.Row.{wireOf, isRepeated, rowFor}
 use Rattle.layout.specs.Table.{len}
 use Rattle.layout.specs.Slots.{noSlots}
@@ -47,3 +50,11 @@ BytesUnread =
     (getD (fieldsAt rows s from .count) k 0 ≡ 0 → ⊥) →
     SameBut s t (startIn (fieldsAt rows s from) k) (endIn (fieldsAt rows s from) k) →
     fieldsAt rows t from ≡ fieldsAt rows s from
+
+-- the same of any field with bytes on the way, be it counted, skipped or one of several
+abbrev pub FieldUnread : Type 0
+FieldUnread =
+    (rows : List (List ℕ)) (s t : List ℕ) (from p number value start n next : ℕ) →
+    Reaches s from p →
+    fieldAt s p ≡ Field.Good number len value start n next →
+    SameBut s t start (start + n) → fieldsAt rows t from ≡ fieldsAt rows s from

@@ -6,3 +6,4 @@ pub mod Arrays
 pub mod TableRules
 pub mod FieldsRules
 pub mod SameBut
+pub mod Reaches

@@ -8,3 +8,5 @@ pub mod BoundLaws
 pub mod BehindLaws
 pub mod UnchosenLaws
 pub mod OuterLaws
+pub mod OneFieldLaws
+pub mod NestedLaws

@@ -10,22 +10,18 @@ use lib.Seq.{length-take-le}
 use lib.Dec.{leb, eqb}
 use borrow.Author.Tests.{leb-true, eq-eqb}
 use Rattle.protocol.specs.Client as Client
-use Rattle.layout.specs.Row.{wireOf, isRepeated, rowFor}
+use Rattle.layout.specs.Row.{rowFor}
 use Rattle.layout.specs.Table.{rowsOf, prepareStmt, stmtExecute, len}
-use Rattle.layout.specs.Fields.{hasRequired, checked, fieldList}
-use Rattle.layout.specs.FieldsRules.{startIn, endIn}
-use Rattle.layout.specs.Slots.{badSlots}
+use Rattle.layout.specs.Fields.{hasRequired}
 use Rattle.layout.specs.declared.slots.Slots.{Slots}
-use Rattle.layout.proofs.UnreadLaws.{kept-behind, bytes-unread}
 use Rattle.scalar.specs.declared.argument.Argument.{Argument}
-use Rattle.args.specs.Part.{embedded, absent, countOf, valueOf, startOf, lenOf, low32}
+use Rattle.args.specs.Part.{absent, countOf, valueOf, startOf, lenOf, low32}
 use Rattle.args.specs.Arguments.{noArguments, together, argumentsAt}
 use Rattle.args.specs.UnreadRules.{typeIn, OnlyField}
 use Rattle.args.specs.declared.arguments.Arguments.{Arguments}
-use Rattle.args.proofs.UnreadLaws.{same-wider, same-take, take-same, take-size, embedded-local, arguments-local}
-use Rattle.args.proofs.UnreadLaws.{field-in, field-beside, embedded-unread}
+use Rattle.args.proofs.UnreadLaws.{same-take, take-same, take-size, embedded-local, arguments-local}
+use Rattle.args.proofs.UnreadLaws.{field-beside}
 use Rattle.message.specs.Operation as Operation
-use Rattle.message.specs.Payload.{payload}
 use Rattle.message.specs.Execute.{argumentsWithin}
 use Rattle.message.specs.Prepare.{bodyIn, prepareFrame}
 use Rattle.message.specs.Frame.{frameIn, ofHead, frameOf}
@@ -33,6 +29,7 @@ use Rattle.message.specs.UnreadRules.{prepareIn, stmtIn, UnchosenUnread}
 use Rattle.message.specs.declared.request.Request.{Request}
 use Rattle.message.specs.declared.request.Frame.{Frame}
 use Rattle.message.proofs.BehindLaws.{head-same}
+use Rattle.message.proofs.NestedLaws.{Bytes, required-there, payload-before, same-outer, same-inner}
 
 -- ---- a body with the same bytes
 
@@ -77,28 +74,14 @@ two-needed count e z = go (not (eqb (getD count 1 0) 0)) (rw (eq-eqb (getD count
     go true f = let y : _≡_ {A = ℕ} 0 1 = cc in omega arith
     go false f = let y : _≡_ {A = ℕ} 0 1 = cc in omega arith
 
-stmt-there : (s : List ℕ) → prepareIn s .good ≡ true → countOf (prepareIn s) 2 ≡ 0 → ⊥
-stmt-there s = go (fieldList (rowsOf Client.prepare) s payload)
-  where
-    listed : (x : Slots) (b : Bool) → hasRequired (rowsOf Client.prepare) (x .count) ≡ b →
-        cond b x badSlots .good ≡ true → countOf (cond b x badSlots) 2 ≡ 0 → ⊥
-    listed x true e g z = two-needed (x .count) e z
-    listed x false e g z = let y : _≡_ {A = ℕ} 0 1 = cc in omega arith
+pub stmt-there : (s : List ℕ) → prepareIn s .good ≡ true → countOf (prepareIn s) 2 ≡ 0 → ⊥
+stmt-there = required-there (rowsOf Client.prepare) 2 two-needed
 
-    go : (x : Slots) → checked (rowsOf Client.prepare) x .good ≡ true →
-        countOf (checked (rowsOf Client.prepare) x) 2 ≡ 0 → ⊥
-    go x g z = listed x (hasRequired (rowsOf Client.prepare) (x .count)) refl g z
-
--- these have bytes and stand once
-abbrev Bytes : ℕ → ℕ → Type 0
-Bytes message k =
-    (wireOf (rowFor (rowsOf message) k) ≡ len) × (isRepeated (rowFor (rowsOf message) k) ≡ false)
-
-stmt-row : Bytes Client.prepare 2
+pub stmt-row : Bytes (rowsOf Client.prepare) 2
 unfolding rowsOf rowFor
 stmt-row = (refl, refl)
 
-body-row : (k : ℕ) → 2 ≤ k → k ≤ 6 → Bytes prepareStmt k
+pub body-row : (k : ℕ) → 2 ≤ k → k ≤ 6 → Bytes (rowsOf prepareStmt) k
 unfolding rowsOf rowFor
 body-row zero h g = absurd (omega arith)
 body-row (suc zero) h g = absurd (omega arith)
@@ -111,13 +94,13 @@ body-row (suc (suc (suc (suc (suc (suc (suc k))))))) h g = absurd (omega arith)
 
 -- ---- the frame of its parts
 
-abbrev chosen : Slots → ℕ
+abbrev pub chosen : Slots → ℕ
 chosen y = Operation.fieldOf (typeIn y)
 
-abbrev bodyBy : List ℕ → Slots → Arguments
+abbrev pub bodyBy : List ℕ → Slots → Arguments
 bodyBy s y = bodyIn s (typeIn y) (startOf y (chosen y)) (lenOf y (chosen y))
 
-shape : ℕ → Slots → Slots → Arguments → Frame
+unfoldable pub shape : ℕ → Slots → Slots → Arguments → Frame
 shape n x y a =
     cond (x .good)
     (cond (y .good && not (absent y (chosen y)))
@@ -134,39 +117,17 @@ shape n x y a =
     (Frame.BadPayload n Client.prepare))
     (Frame.BadPayload n Client.prepare)
 
-frame-shape : (s : List ℕ) → prepareFrame s ≡ shape (length s) (prepareIn s) (stmtIn s) (bodyBy s (stmtIn s))
+pub frame-shape : (s : List ℕ) → prepareFrame s ≡ shape (length s) (prepareIn s) (stmtIn s) (bodyBy s (stmtIn s))
 unfolding prepareFrame shape
 frame-shape s = refl
 
-module _ (f g : List ℕ) (k : ℕ) (good : prepareIn f .good ≡ true) (row : Bytes prepareStmt k)
+module _ (f g : List ℕ) (k : ℕ) (good : prepareIn f .good ≡ true) (row : Bytes (rowsOf prepareStmt) k)
     (other : k ≡ chosen (stmtIn f) → ⊥) (o : OnlyField (stmtIn f) k f g) where
   abbrev x : Slots
   x = prepareIn f
 
   abbrev y : Slots
   y = stmtIn f
-
-  inside : (startOf x 2 < startIn y k) × (endIn y k ≤ startOf x 2 + lenOf x 2)
-  inside = field-in (rowsOf prepareStmt) f (startOf x 2) (lenOf x 2) k (row .0) (row .1) (o .good) (o .there)
-
-  payload-before : payload < startIn y k
-  payload-before =
-      omega (
-        arith,
-        inside .0,
-        kept-behind (rowsOf Client.prepare) 2 (stmt-row .0) (stmt-row .1) f payload good (stmt-there f good),
-      )
-
-  same-fields : prepareIn g ≡ x
-  same-fields =
-      bytes-unread (rowsOf Client.prepare) f g payload 2 (stmt-row .0) (stmt-row .1) good (stmt-there f good)
-      (same-wider (o .same) (startIn x 2) (endIn x 2) (omega (arith, inside .0)) (omega (arith, inside .1)))
-
-  same-stmt : stmtIn g ≡ y
-  same-stmt =
-      ap (λ (z : Slots). embedded (rowsOf prepareStmt) g (startOf z 2) (lenOf z 2)) same-fields
-      ∙ embedded-unread (rowsOf prepareStmt) f (startOf x 2) (lenOf x 2) k (row .0) (row .1) (o .good) g (o .there)
-      (o .same)
 
   same-body : bodyBy g y ≡ bodyBy f y
   same-body =
@@ -179,9 +140,14 @@ module _ (f g : List ℕ) (k : ℕ) (good : prepareIn f .good ≡ true) (row : B
 
   prepare-unread : prepareFrame g ≡ prepareFrame f
   prepare-unread =
+      let there = stmt-there f good in
       frame-shape g
-      ∙ ap (λ (z : Slots). shape (length g) z (stmtIn g) (bodyBy g (stmtIn g))) same-fields
-      ∙ ap (λ (z : Slots). shape (length g) x z (bodyBy g z)) same-stmt
+      ∙ ap (λ (z : Slots). shape (length g) z (stmtIn g) (bodyBy g (stmtIn g)))
+      (same-outer (rowsOf Client.prepare) (rowsOf prepareStmt) 2 k stmt-row row f good there (o .good) (o .there) g
+      (o .same))
+      ∙ ap (λ (z : Slots). shape (length g) x z (bodyBy g z))
+      (same-inner (rowsOf Client.prepare) (rowsOf prepareStmt) 2 k stmt-row row f good there (o .good) (o .there) g
+      (o .same))
       ∙ ap (shape (length g) x y) same-body
       ∙ ap (λ (n : ℕ). shape n x y (bodyBy f y)) (o .same .size)
       ∙ sym (frame-shape f)
@@ -193,7 +159,9 @@ unchosen-unread s t end k head good two six other o =
     let row = body-row k two six in
     let cut : OnlyField (stmtIn f) k f (take end t) =
     record { good = o .good; there = o .there; same = same-take (o .same) end } in
-    let before = payload-before f (take end t) k good row other cut in
+    let before =
+    payload-before (rowsOf Client.prepare) (rowsOf prepareStmt) 2 k stmt-row row f good (stmt-there f good)
+    (o .good) (o .there) in
     ap (ofHead t)
     (head-same s t (omega (arith, o .same .size)) (λ i h _. o .same .same i (inl (omega arith)))
     (λ e. let h = sym head ∙ e in let z : _≡_ {A = ℕ} 0 1 = cc in omega arith)

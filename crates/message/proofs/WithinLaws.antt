@@ -68,7 +68,7 @@ within-stretch s at n =
 embedded-within : (rows : List (List ℕ)) (s : List ℕ) (at n : ℕ) → embedded rows s at n .good ≡ true → at + n ≤ length s
 embedded-within rows s at n h = good-list rows s at (at + n) h .0
 
-execute-good-inv : (x : Slots) (a : Arguments) → executeOf x a .args .good ≡ true →
+pub execute-good-inv : (x : Slots) (a : Arguments) → executeOf x a .args .good ≡ true →
     (x .good ≡ true) × (executeOf x a .args ≡ a)
 execute-good-inv x a h = go (x .good) refl (a .good) refl
   where

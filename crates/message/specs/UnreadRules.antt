@@ -11,12 +11,15 @@ use Rattle.layout.specs.Table.{rowsOf, prepareStmt}
 use Rattle.layout.specs.Fields.{fieldsAt}
 use Rattle.layout.specs.declared.slots.Slots.{Slots}
 use Rattle.args.specs.Part.{embedded, startOf, lenOf}
-use Rattle.args.specs.UnreadRules.{typeIn, OnlyField}
+use Rattle.args.specs.UnreadRules.{typeIn, OnlyField, OneField}
 use Rattle.message.specs.Head.{headOf}
 use Rattle.message.specs.Operation as Operation
+use Rattle.message.specs.Request.{argsOf}
 use Rattle.message.specs.Payload.{payload}
 use Rattle.message.specs.Frame.{frameOf, reasonOf, bodyOf, argumentOf}
 use Rattle.message.specs.declared.head.Head.{Head}
+use Rattle.message.specs.declared.request.Request.{Request}
+use Rattle.message.specs.declared.request.Frame.{Frame}
 
 -- t means what s means
 pub record Reads (s t : List ℕ) : Type 0 where
@@ -46,3 +49,10 @@ UnchosenUnread =
     k ≤ 6 →
     (k ≡ Operation.fieldOf (typeIn (stmtIn (take end s))) → ⊥) →
     OnlyField (stmtIn (take end s)) k s t → frameOf t ≡ frameOf s
+
+-- what an argument does not choose is not read either: bytes in which one argument reads alike mean the same message
+abbrev pub ArgumentUnread : Type 0
+ArgumentUnread =
+    (s t : List ℕ) (used : ℕ) (q : Request) →
+    frameOf s ≡ Frame.Good used q →
+    OneField s t (argsOf q .start) (argsOf q .end) → frameOf t ≡ frameOf s

@@ -1,18 +1,18 @@
 -- The arguments of a message by their index, moved; and what they say together. Assumes nothing.
 use Prim.Native.Nat.{ℕ}
-use native.Mathlib.Omega.{arith}
 use mathlib.Core.Bool.{Bool, true, false, cond}
 use mathlib.Core.Path.{_≡_, refl, sym, ap, _∙_}
 use mathlib.Core.List.{List, [], _∷_, map}
 use lib.ListN.{getD, List·getD-map}
-use lib.Dec.{ltb, eqb}
-use borrow.Author.Tests.{eqb-false, ne-eqb}
+use lib.Dec.{eqb}
+use borrow.Author.Tests.{eqb-false}
 use Rattle.scalar.specs.declared.argument.Argument.{Argument}
 use Rattle.scalar.specs.declared.argument.Argument.the-variants as Va
-use Rattle.args.specs.Arguments.{argumentsAt, anyTypeOf, badArguments, counted, withType, together, asked}
+use Rattle.args.specs.Arguments.{argumentsAt, anyTypeOf, badArguments, withType, together, asked}
 use Rattle.args.specs.Arguments.{nthArgument}
 use Rattle.args.specs.declared.arguments.Arguments.{Arguments}
 use Rattle.args.proofs.ArgumentsLaws.{type-good}
+pub use Rattle.args.proofs.ArgumentsLaws.{together-kept}
 use Rattle.args.specs.Moved.{moved}
 
 -- ---- one by its index
@@ -61,39 +61,6 @@ nth-moved d s at t e i =
     ∙ asked-moved d (getD (argumentsAt t 0) i (Va.Refused 9))
 
 -- ---- together
-
--- what good arguments leave as it was
-type-kept : (x : Arguments) (t : ℕ) → (t ≡ 0 → ⊥) → (withType x t .start ≡ x .start) × (withType x t .end ≡ x .end)
-type-kept x t h = rw (ne-eqb t 0 h) (go (ltb t 2) (eqb (x .kind) 0))
-  where
-    go : (b c : Bool) →
-        (cond b (counted x (x .kind) (x .index))
-        (cond c (counted x t (x .count)) (counted x (x .kind) (x .index))) .start ≡ x .start)
-        × (cond b (counted x (x .kind) (x .index))
-        (cond c (counted x t (x .count)) (counted x (x .kind) (x .index))) .end ≡ x .end)
-    go true c = (refl, refl)
-    go false true = (refl, refl)
-    go false false = (refl, refl)
-
-pub together-kept : (x : Arguments) (l : List Argument) → together x l .good ≡ true →
-    (together x l .start ≡ x .start) × (together x l .end ≡ x .end)
-unfolding together
-together-kept x [] g = (refl, refl)
-together-kept x (a ∷ l) g =
-    go (λ h. together-kept (withType x (anyTypeOf a)) l h) (eqb (anyTypeOf a) 0) refl g
-  where
-    go : (together (withType x (anyTypeOf a)) l .good ≡ true →
-        (together (withType x (anyTypeOf a)) l .start ≡ withType x (anyTypeOf a) .start) × (together
-        (withType x (anyTypeOf a)) l .end ≡ withType x (anyTypeOf a) .end)) →
-        (b : Bool) → eqb (anyTypeOf a) 0 ≡ b →
-        cond b badArguments (together (withType x (anyTypeOf a)) l) .good ≡ true →
-        (cond b badArguments (together (withType x (anyTypeOf a)) l) .start ≡ x .start) × (cond b badArguments
-        (together (withType x (anyTypeOf a)) l) .end ≡ x .end)
-    go on true e h = absurd (let z : _≡_ {A = ℕ} 0 1 = cc in omega arith)
-    go on false e h =
-        let w = on h in
-        let v = type-kept x (anyTypeOf a) (eqb-false (anyTypeOf a) 0 e) in
-        (w .0 ∙ v .0, w .1 ∙ v .1)
 
 pub together-moved : (d : ℕ) (x y : Arguments) (l : List Argument) → x .good ≡ y .good →
     together x (map (moved d) l) .good ≡ together y l .good
