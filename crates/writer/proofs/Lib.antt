@@ -10,3 +10,4 @@ pub mod BackLaws
 pub mod ExecuteBackLaws
 pub mod PrepareBackLaws
 pub mod RoundTripLaws
+pub mod EnoughLaws

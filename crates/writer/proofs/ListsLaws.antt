@@ -5,9 +5,7 @@ use mathlib.Core.Bool.{Bool, true, false, cond}
 use mathlib.Core.Path.{_≡_, refl, sym, ap, _∙_}
 use mathlib.Core.List.{List, [], _∷_, _++_, map, append-assoc, append-nil}
 use lib.ListN.{length, length-append}
-use lib.Dec.{eqb}
-use borrow.Author.Tests.{eqb-true, eqb-false, ne-eqb}
-use Rattle.prelude.proofs.Cases.{less-or-not}
+use borrow.Author.Tests.{ne-eqb}
 use Rattle.wire.specs.Field.{fieldAt}
 use Rattle.wire.specs.declared.field.Field.{Field}
 use Rattle.scalar.specs.declared.argument.Argument.{Argument}
@@ -17,7 +15,7 @@ use Rattle.args.specs.Arguments.{together}
 use Rattle.args.specs.declared.arguments.ArgPlace.{ArgPlace}
 use Rattle.args.specs.declared.arguments.NextArgument.{NextArgument}
 use Rattle.args.specs.declared.arguments.Arguments.{Arguments}
-use Rattle.args.proofs.PlaceLaws.{Seeking, starts, ends, no-field, advances, found, other-wire, other-number, next-end}
+use Rattle.args.proofs.PlaceLaws.{starts, found, other-number, next-end}
 use Rattle.args.proofs.PlaceLaws.{next-placed}
 use Rattle.args.proofs.ArgumentsLaws.{type-good}
 use Rattle.encode.specs.Field.{numberField}
@@ -26,6 +24,7 @@ use Rattle.encode.specs.Field.{optionalField}
 use Rattle.varint.proofs.TailLaws.{Tail, tail-length, tail-stands, Stands, stands-length}
 use Rattle.varint.proofs.TailLaws.{stands-first, stands-next}
 use Rattle.args.proofs.MovedArgLaws.{argument-moved}
+use Rattle.args.proofs.EnoughLaws.{enough-fields}
 use Rattle.args.proofs.MovedArgLaws.{field-inside, args-found}
 use Rattle.args.proofs.ArgumentsLaws.{from-none as args-none}
 use Rattle.writer.proofs.FieldLaws.{number-reads}
@@ -38,38 +37,13 @@ next-finds s p {v} {st} {ln} {next} e =
     let inside = field-inside s p e in
     sym (next-placed s p (ArgPlace.At st ln next) (found (starts s p) (omega arith) e refl refl))
 
--- the same place is found from two places on
-seek-both : (s : List ℕ) (a b most p : ℕ) → length s ≤ p + most → Seeking s a p → Seeking s b p →
-    argPlace s a ≡ argPlace s b
-seek-both s a b zero p h f g = sym (ends f (omega arith)) ∙ ends g (omega arith)
-seek-both s a b (suc most) p h f g =
-    less-or-not p (length s) (λ i. by-field i (λ q z. seek-both s a b most q (omega arith)) (fieldAt s p) refl)
-    (λ i. sym (ends f i) ∙ ends g i)
-  where
-    by-field : p < length s → ((q : ℕ) → p < q → Seeking s a q → Seeking s b q → argPlace s a ≡ argPlace s b) →
-        (z : Field) → fieldAt s p ≡ z →
-        argPlace s a ≡ argPlace s b
-    by-field i on Field.Bad e = sym (no-field f i e) ∙ no-field g i e
-    by-field i on (Field.Good n w v st ln next) e = go (eqb n 2) refl (eqb w 2) refl
-      where
-        go : (x : Bool) → eqb n 2 ≡ x → (y : Bool) → eqb w 2 ≡ y → argPlace s a ≡ argPlace s b
-        go true x true y =
-            let n2 = eqb-true n 2 x in let w2 = eqb-true w 2 y in sym (found f i e n2 w2) ∙ found g i e n2 w2
-        go true x false y =
-            let n2 = eqb-true n 2 x in
-            let w2 = eqb-false w 2 y in
-            on next (advances f i e) (other-wire f i e n2 w2) (other-wire g i e n2 w2)
-        go false x w2 y =
-            let n2 = eqb-false n 2 x in on next (advances f i e) (other-number f i e n2) (other-number g i e n2)
-
 -- any other field is passed over
 pub next-skips : (s : List ℕ) (p : ℕ) {n w v st ln next : ℕ} → (n ≡ 2 → ⊥) → fieldAt s p ≡ Field.Good n w v st ln next →
     nextArgument s p ≡ nextArgument s next
 next-skips s p {n} {w} {v} {st} {ln} {next} z e =
     let inside = field-inside s p e in
-    sym (next-placed s p (argPlace s next)
-    (sym (seek-both s p next (length s) next (omega arith) (other-number (starts s p) (omega arith) e z)
-    (starts s next))))
+    let k = other-number (starts s p) (omega arith) e z in
+    sym (next-placed s p (argPlace s next) (sym (enough-fields (k .most) s next (k .enough)) ∙ k .whole))
     ∙ next-placed s next (argPlace s next) refl
 
 args-zero : (s : List ℕ) (p : ℕ) → argumentsFrom 0 s p ≡ []

@@ -2,3 +2,4 @@ pub mod Judge
 pub mod Payload
 pub mod Write
 pub mod RoundTrip
+pub mod JudgeRules

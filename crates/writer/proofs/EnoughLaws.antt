@@ -1,0 +1,44 @@
+-- Fuel that is enough for the bytes left makes no difference to a stretch. Assumes nothing.
+use Prim.Native.Nat.{ℕ, zero, suc, _+_, _≤_, _<_}
+use native.Mathlib.Omega.{arith}
+use mathlib.Core.Bool.{Bool, true, false, cond}
+use mathlib.Core.Path.{_≡_, refl, sym, ap}
+use mathlib.Core.List.{List}
+use lib.ListN.{length}
+use lib.Dec.{ltb, eqb}
+use borrow.Author.Tests.{le-ltb}
+use Rattle.wire.specs.Field.{fieldAt}
+use Rattle.wire.specs.Past.{PastField}
+use Rattle.wire.specs.declared.field.Field.{Field}
+use Rattle.wire.proofs.PastLaws.{field-past}
+use Rattle.args.specs.Value.{argumentIn}
+use Rattle.writer.specs.Judge.{isGood, onArg, argsFrom}
+use Rattle.writer.specs.JudgeRules.{EnoughFields}
+
+module _ (s : List ℕ) where
+  -- ways on that agree from here on
+  field-same : (at : ℕ) (z : Field) → PastField at (length s) z → (f g : ℕ → Bool) → ((q : ℕ) → at < q → f q ≡ g q) →
+      onArg s f z ≡ onArg s g z
+  field-same at (Field.Good number wire v start len next) h f g e =
+      ap
+      (λ (x : Bool).
+      cond (eqb number 2) (cond (eqb wire 2) (cond (isGood (argumentIn s start len)) x false) false) false)
+      (e next (h .2))
+  field-same at Field.Bad h f g e = refl
+
+  none-left : (m at : ℕ) → length s ≤ at → argsFrom m s at ≡ true
+  unfolding argsFrom
+  none-left zero at h = refl
+  none-left (suc m) at h = rw (le-ltb at (length s) h)
+
+  stretch-same : (m n at : ℕ) → length s ≤ at + m → length s ≤ at + n → argsFrom m s at ≡ argsFrom n s at
+  unfolding argsFrom
+  stretch-same zero n at h i = sym (none-left n at (omega arith))
+  stretch-same (suc m) zero at h i = none-left (suc m) at (omega arith)
+  stretch-same (suc m) (suc n) at h i =
+      ap (λ (x : Bool). cond (ltb at (length s)) x true)
+      (field-same at (fieldAt s at) (field-past s at) (λ next. argsFrom m s next) (λ next. argsFrom n s next)
+      (λ q j. stretch-same m n q (omega arith) (omega arith)))
+
+pub enough-fields : EnoughFields
+enough-fields most s h = stretch-same s most (length s) 0 (omega arith) (omega arith)
