@@ -1,19 +1,20 @@
 -- The arguments of a message by their index, moved; and what they say together. Assumes nothing.
-use Prim.Native.Nat.{ℕ}
+use Prim.Native.Nat.{ℕ, _+_}
 use mathlib.Core.Bool.{Bool, true, false, cond}
 use mathlib.Core.Path.{_≡_, refl, sym, ap, _∙_}
 use mathlib.Core.List.{List, [], _∷_, map}
 use lib.ListN.{getD, List·getD-map}
-use lib.Dec.{eqb}
+use lib.Dec.{ltb, eqb}
 use borrow.Author.Tests.{eqb-false}
 use Rattle.scalar.specs.declared.argument.Argument.{Argument}
 use Rattle.scalar.specs.declared.argument.Argument.the-variants as Va
-use Rattle.args.specs.Arguments.{argumentsAt, anyTypeOf, badArguments, withType, together, asked}
+use Rattle.args.specs.Arguments.{argumentsAt, anyTypeOf, badArguments, counted, withType, together, asked}
 use Rattle.args.specs.Arguments.{nthArgument}
 use Rattle.args.specs.declared.arguments.Arguments.{Arguments}
 use Rattle.args.proofs.ArgumentsLaws.{type-good}
 pub use Rattle.args.proofs.ArgumentsLaws.{together-kept}
 use Rattle.args.specs.Moved.{moved}
+use Rattle.writer.specs.RoundTrip.{TellAlike}
 
 -- ---- one by its index
 
@@ -79,3 +80,39 @@ together-moved d x y (a ∷ l) e =
     go on false f =
         let h = eqb-false (anyTypeOf a) 0 f in
         on (type-good x (anyTypeOf a) h ∙ e ∙ sym (type-good y (anyTypeOf a) h))
+
+-- together they tell the same, wherever they stand
+type-tells : (x y : Arguments) (t : ℕ) → TellAlike x y → TellAlike (withType x t) (withType y t)
+type-tells x y t h = rw (h .kind) (go (eqb t 0) (ltb t 2) (eqb (y .kind) 0))
+  where
+    more : x .count + 1 ≡ y .count + 1
+    more = ap (λ (n : ℕ). n + 1) (h .count)
+
+    go : (a b c : Bool) →
+        TellAlike
+        (cond a badArguments
+        (cond b (counted x (y .kind) (x .index))
+        (cond c (counted x t (x .count)) (counted x (y .kind) (x .index)))))
+        (cond a badArguments
+        (cond b (counted y (y .kind) (y .index))
+        (cond c (counted y t (y .count)) (counted y (y .kind) (y .index)))))
+    go true b c = record { count = refl; kind = refl; index = refl }
+    go false true c = record { count = more; kind = refl; index = h .index }
+    go false false true = record { count = more; kind = refl; index = h .count }
+    go false false false = record { count = more; kind = refl; index = h .index }
+
+pub together-tells : (d : ℕ) (x y : Arguments) (l : List Argument) → TellAlike x y →
+    TellAlike (together x (map (moved d) l)) (together y l)
+unfolding together
+together-tells d x y [] h = h
+together-tells d x y (a ∷ l) h =
+    rw (type-moved d a)
+    (go (eqb (anyTypeOf a) 0)
+    (together-tells d (withType x (anyTypeOf a)) (withType y (anyTypeOf a)) l (type-tells x y (anyTypeOf a) h)))
+  where
+    go : (b : Bool) →
+        TellAlike (together (withType x (anyTypeOf a)) (map (moved d) l)) (together (withType y (anyTypeOf a)) l) →
+        TellAlike (cond b badArguments (together (withType x (anyTypeOf a)) (map (moved d) l)))
+        (cond b badArguments (together (withType y (anyTypeOf a)) l))
+    go true on = record { count = refl; kind = refl; index = refl }
+    go false on = on

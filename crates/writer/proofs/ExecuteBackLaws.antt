@@ -60,6 +60,8 @@ pub record Held (s : List ℕ) (at n : ℕ) (l : List Argument) (a : Arguments) 
   pub start : a .start ≡ at
   pub end : a .end ≡ at + n
   pub list : argumentsAt (take (at + n) s) at ≡ l
+  pub size : ℕ
+  pub all : a ≡ together (noArguments at size) l
 
 -- the slots of an Execute with n arguments
 abbrev executeSlots : ℕ → ℕ → ℕ → ℕ → Bool → Bool → Slots
@@ -126,6 +128,8 @@ module _ (stmt : ℕ) (b z : Bool) (args : List ℕ) (g : Stretch args 0) (small
               ap (λ (a : Arguments). a .end) is ∙ together-kept x l fine .1
               ∙ length-take-le (at + length bytes) s (omega (arith, stands-length k));
           list = list-is;
+          size = length (take (at + length bytes) s);
+          all = is;
         }
       where
         x : Arguments

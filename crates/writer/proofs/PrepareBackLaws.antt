@@ -230,6 +230,8 @@ module _ {s q : List ℕ} {at : ℕ} (body : List ℕ) (k : Stands s at body q) 
                 ap (λ (a : Arguments). a .end) within-is ∙ together-kept x l fine .1
                 ∙ length-take-le (at + n) s (omega (arith, stands-length k));
             list = list-is;
+            size = length (take (at + n) s);
+            all = within-is;
           }
       go false g = absurd (let z : _≡_ {A = ℕ} 0 1 = cc in omega arith)
 

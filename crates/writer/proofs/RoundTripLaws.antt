@@ -15,7 +15,7 @@ use Rattle.encode.specs.Frame.{frame}
 use Rattle.encode.specs.Field.{numberField}
 use Rattle.protocol.specs.Client as Client
 use Rattle.protocol.specs.Reason as Reason
-use Rattle.args.specs.Arguments.{noArguments, argumentsFrom, argumentsAt, nthArgument}
+use Rattle.args.specs.Arguments.{noArguments, argumentsFrom, argumentsAt, together, argumentsIn}
 use Rattle.args.specs.declared.arguments.Arguments.{Arguments}
 use Rattle.message.specs.Head.{maxLength}
 use Rattle.message.specs.Operation as Operation
@@ -23,7 +23,7 @@ use Rattle.message.specs.Request.{kindOf, stmtOf, cursorOf, rowsOf, compactOf, 
 use Rattle.message.specs.Request.{noPart}
 use Rattle.message.specs.Payload.{payload}
 use Rattle.message.specs.Prepare.{bodyIn as judged}
-use Rattle.message.specs.Frame.{frameIn, frameOf, partOf, bodyIn, argumentAt, argumentIn}
+use Rattle.message.specs.Frame.{frameIn, frameOf, partOf, bodyIn, argumentIn}
 use Rattle.message.specs.declared.request.Request.{Request}
 use Rattle.message.specs.declared.request.Frame.{Frame}
 use Rattle.writer.specs.declared.Draft.{Draft}
@@ -33,11 +33,11 @@ use Rattle.writer.specs.Payload.{payloadAs, payloadOf, executePayload, p
 use Rattle.writer.specs.Payload.{openStmtPayload, openPayload, fetchPayload}
 use Rattle.writer.specs.Write.{frameBytes, draftReason, writeReason, leftOf}
 use Rattle.writer.specs.RoundTrip.{Sized, hasStmt, hasCursor, hasRows, hasArgs, given, argsBytes, ReadsAs}
-use Rattle.writer.specs.RoundTrip.{RoundTrip, WrittenReads}
+use Rattle.writer.specs.RoundTrip.{argumentsOf, TellAlike, RoundTrip, WrittenReads}
 use Rattle.writer.proofs.JudgeLaws.{kind-none}
 use Rattle.writer.proofs.WriteLaws.{frame-length}
 use Rattle.varint.proofs.TailLaws.{Stands, stands-length, stands-bytes, stands-more, tail-stands}
-use Rattle.writer.proofs.ArgListLaws.{nth-moved}
+use Rattle.writer.proofs.ArgListLaws.{nth-moved, together-tells}
 use Rattle.layout.proofs.KeptLaws.{same-or-not}
 use Rattle.writer.proofs.StretchLaws.{stretch-of}
 use Rattle.writer.proofs.BackLaws.{frame-is, payload-tail, reset-back, session-close-back, deallocate-back}
@@ -73,7 +73,8 @@ record Expected (d : Draft) (body args bytes : List ℕ) (q : Request) : Type 0 
       cond (eqb (d .kind) Client.prepare) body (cond (eqb (d .kind) Client.open') (executePayload d args) [])
   place : ℕ
   stands : take (length (argsBytes d body args)) (drop place bytes) ≡ argsBytes d body args
-  argument : (i : ℕ) → argumentAt bytes i (argsOf q) ≡ moved place (nthArgument (argsBytes d body args) 0 i)
+  arguments : argumentsOf bytes q ≡ map (moved place) (argumentsAt (argsBytes d body args) 0)
+  told : TellAlike (argsOf q) (argumentsIn (argsBytes d body args) 0)
 
 reads-as : (d : Draft) {body args bytes : List ℕ} {q : Request} →
     frameOf bytes ≡ Frame.Good (length (frameBytes d body args)) q →
@@ -91,18 +92,31 @@ reads-as d {body} {args} {bytes} {q} e x =
       chosen = ap (λ (f : Frame). bodyIn bytes (partOf f)) e ∙ x .chosen;
       place = x .place;
       stands = x .stands;
-      argument = λ i. ap (argumentIn bytes i) e ∙ x .argument i;
+      arguments = x .arguments;
+      told = x .told;
+      argument = λ i.
+          ap (argumentIn bytes i) e
+          ∙ nth-moved (x .place) (take (argsOf q .end) bytes) (argsOf q .start) (argsBytes d body args)
+          (x .arguments) i;
     }
 
--- arguments that are held in the frame, asked of it with more bytes behind
-held-argument : (s rest : List ℕ) (at n p : ℕ) (t : List ℕ) (a : Arguments) →
+-- arguments that are held in the frame, read of it with more bytes behind
+held-arguments : (s rest : List ℕ) (at n p : ℕ) (t : List ℕ) (a : Arguments) →
     Held s at n (map (moved p) (argumentsAt t 0)) a → at + n ≤ length s →
-    (i : ℕ) → nthArgument (take (a .end) (s ++ rest)) (a .start) i ≡ moved p (nthArgument t 0 i)
-held-argument s rest at n p t a h g i =
-    ap (λ (k : ℕ). nthArgument (take k (s ++ rest)) (a .start) i) (h .end)
-    ∙ ap (λ (k : ℕ). nthArgument (take (at + n) (s ++ rest)) k i) (h .start)
-    ∙ ap (λ (l : List ℕ). nthArgument l at i) (take-append-le (at + n) s rest g)
-    ∙ nth-moved p (take (at + n) s) at t (h .list) i
+    argumentsAt (take (a .end) (s ++ rest)) (a .start) ≡ map (moved p) (argumentsAt t 0)
+held-arguments s rest at n p t a h g =
+    ap (λ (k : ℕ). argumentsAt (take k (s ++ rest)) (a .start)) (h .end)
+    ∙ ap (λ (k : ℕ). argumentsAt (take (at + n) (s ++ rest)) k) (h .start)
+    ∙ ap (λ (l : List ℕ). argumentsAt l at) (take-append-le (at + n) s rest g)
+    ∙ h .list
+
+-- and what they tell together
+held-told : (s : List ℕ) (at n p : ℕ) (t : List ℕ) (a : Arguments) →
+    Held s at n (map (moved p) (argumentsAt t 0)) a → TellAlike a (argumentsIn t 0)
+held-told s at n p t a h =
+    subst (λ (x : Arguments). TellAlike x (argumentsIn t 0)) (sym (h .all))
+    (together-tells p (noArguments at (h .size)) (noArguments 0 (length t)) (argumentsAt t 0)
+    (record { count = refl; kind = refl; index = refl }))
 
 good-prepare : (t : ℕ) (body : List ℕ) → goodPrepare t body ≡ true → (isType t ≡ true) × (goodBody t body ≡ true)
 good-prepare t body = go (isType t)
@@ -125,7 +139,7 @@ module _ (d : Draft) (body args rest : List ℕ) (sized : Sized d) where
       compactOf q ≡ noOptional → operationOf q ≡ 0 → bodyOf q ≡ noPart → argsOf q ≡ noArguments 0 0 →
       hasArgs k ≡ false →
       eqb k Client.prepare ≡ false → eqb k Client.open' ≡ false → Expected (withKind d k) body args bytes q
-  unfolding argumentsFrom
+  unfolding argumentsFrom together
   simple k q bytes is e f g c o p n a b h =
       record {
         kind = is;
@@ -137,7 +151,8 @@ module _ (d : Draft) (body args rest : List ℕ) (sized : Sized d) where
         chosen = rw (b, h, p);
         place = 0;
         stands = rw (a, b);
-        argument = λ i. rw (a, b, n);
+        arguments = rw (a, b, n);
+        told = rw (a, b, n) (record { count = refl; kind = refl; index = refl });
       }
 
   back-reset : Back Client.reset
@@ -184,6 +199,7 @@ module _ (d : Draft) (body args rest : List ℕ) (sized : Sized d) where
       let k = tail-stands (payload-tail Client.execute (executePayload d args)) in
       let a = args-stand (d .stmt) (d .hascompact) (d .compact) args g (sized .stmt) k in
       let p = payload + length (numberField 1 (d .stmt)) in
+      let held = args-held (d .stmt) (d .hascompact) (d .compact) args g (sized .stmt) k in
       reads-as (withKind d Client.execute)
       (frame-is Client.execute (executePayload d args) rest fits
       ∙ execute-back (d .stmt) (d .hascompact) (d .compact) args g (sized .stmt))
@@ -197,10 +213,10 @@ module _ (d : Draft) (body args rest : List ℕ) (sized : Sized d) where
         chosen = refl;
         place = p;
         stands = stands-bytes (stands-more rest a);
-        argument =
-            held-argument s rest payload (length (executePayload d args)) p args _
-            (args-held (d .stmt) (d .hascompact) (d .compact) args g (sized .stmt) k)
+        arguments =
+            held-arguments s rest payload (length (executePayload d args)) p args _ held
             (omega (arith, stands-length k));
+        told = held-told s payload (length (executePayload d args)) p args _ held;
       })
 
   back-open : goodStretch args ≡ true → Back Client.open'
@@ -218,6 +234,7 @@ module _ (d : Draft) (body args rest : List ℕ) (sized : Sized d) where
       (sized .cursor) (sized .rows) in
       let p = at + length (numberField 1 (d .stmt)) in
       let long = frame-length Client.open' (openPayload d args) in
+      let held = args-held (d .stmt) (d .hascompact) (d .compact) args g (sized .stmt) k in
       reads-as (withKind d Client.open')
       (frame-is Client.open' (openPayload d args) rest fits
       ∙ open-back (d .stmt) (d .hascompact) (d .compact) args g (sized .stmt) (d .cursor) (d .rows) (d .hasrows)
@@ -234,35 +251,40 @@ module _ (d : Draft) (body args rest : List ℕ) (sized : Sized d) where
         place = p;
         stands =
             stands-bytes (stands-more rest (args-stand (d .stmt) (d .hascompact) (d .compact) args g (sized .stmt) k));
-        argument =
-            held-argument s rest at (length e) p args _
-            (args-held (d .stmt) (d .hascompact) (d .compact) args g (sized .stmt) k)
-            (omega (arith, stands-length k));
+        arguments = held-arguments s rest at (length e) p args _ held (omega (arith, stands-length k));
+        told = held-told s at (length e) p args _ held;
       })
 
   -- the arguments of a Prepare: those of its body, or none
   module _ (s : List ℕ) (at : ℕ) (k : Stands s at body []) (good : goodBody (d .operation) body ≡ true) where
-    abbrev asked-of : Arguments → ℕ → Argument
-    asked-of a i = nthArgument (take (a .end) (s ++ rest)) (a .start) i
+    -- where they stand, and what is read there
+    record Carries (t : List ℕ) (a : Arguments) : Type 0 where
+      place : ℕ
+      stands : take (length t) (drop place (s ++ rest)) ≡ t
+      arguments : argumentsAt (take (a .end) (s ++ rest)) (a .start) ≡ map (moved place) (argumentsAt t 0)
+      told : TellAlike a (argumentsIn t 0)
 
     prepare-args : (b : Bool) → eqb (d .operation) Operation.stmtExecute ≡ b →
-        (p : ℕ)
-        × (take (length (cond b body [])) (drop p (s ++ rest)) ≡ cond b body [])
-        × ((i : ℕ) → asked-of (judged s (d .operation) at (length body)) i ≡ moved p (nthArgument (cond b body []) 0 i))
-    unfolding argumentsFrom
-    prepare-args true e = (
-      at,
-      stands-bytes (stands-more rest k),
-      held-argument s rest at (length body) at body _
-          (body-held body k (d .operation) (eqb-true (d .operation) Operation.stmtExecute e) good)
-          (omega (arith, stands-length k)),
-    )
-    prepare-args false e = (
-      0,
-      refl,
-      λ i. ap (λ (a : Arguments). asked-of a i)
-          (body-plain body k (d .operation) (eqb-false (d .operation) Operation.stmtExecute e) good),
-    )
+        Carries (cond b body []) (judged s (d .operation) at (length body))
+    unfolding argumentsFrom together
+    prepare-args true e =
+        let held = body-held body k (d .operation) (eqb-true (d .operation) Operation.stmtExecute e) good in
+        record {
+          place = at;
+          stands = stands-bytes (stands-more rest k);
+          arguments = held-arguments s rest at (length body) at body _ held (omega (arith, stands-length k));
+          told = held-told s at (length body) at body _ held;
+        }
+    prepare-args false e =
+        let none = body-plain body k (d .operation) (eqb-false (d .operation) Operation.stmtExecute e) good in
+        record {
+          place = 0;
+          stands = refl;
+          arguments = ap (λ (a : Arguments). argumentsAt (take (a .end) (s ++ rest)) (a .start)) none;
+          told =
+              subst (λ (a : Arguments). TellAlike a (argumentsIn [] 0)) (sym none)
+              (record { count = refl; kind = refl; index = refl });
+        }
 
   back-prepare : goodPrepare (d .operation) body ≡ true → Back Client.prepare
   unfolding payloadAs frameIn prepareStmtPayload preparePayload
@@ -286,9 +308,10 @@ module _ (d : Draft) (body args rest : List ℕ) (sized : Sized d) where
         compact = refl;
         operation = refl;
         chosen = stands-bytes (stands-more rest k);
-        place = a .0;
-        stands = a .1;
-        argument = a .2;
+        place = a .place;
+        stands = a .stands;
+        arguments = a .arguments;
+        told = a .told;
       })
 
 -- ---- every kind

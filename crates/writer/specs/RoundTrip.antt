@@ -2,14 +2,16 @@
 use Prim.Native.Nat.{ℕ, _^_, _<_}
 use mathlib.Core.Path.{_≡_}
 use mathlib.Core.Bool.{Bool, true, cond, _||_}
-use mathlib.Core.List.{List, [], _++_}
+use mathlib.Core.List.{List, [], _++_, map}
 use lib.ListN.{length, take, drop}
 use lib.Dec.{eqb}
 use Rattle.protocol.specs.Client as Client
 use Rattle.protocol.specs.Reason as Reason
-use Rattle.args.specs.Arguments.{nthArgument}
+use Rattle.scalar.specs.declared.argument.Argument.{Argument}
+use Rattle.args.specs.Arguments.{argumentsAt, argumentsIn, nthArgument}
+use Rattle.args.specs.declared.arguments.Arguments.{Arguments}
 use Rattle.message.specs.Operation as Operation
-use Rattle.message.specs.Request.{kindOf, stmtOf, cursorOf, rowsOf, compactOf, operationOf, noOptional}
+use Rattle.message.specs.Request.{kindOf, stmtOf, cursorOf, rowsOf, compactOf, operationOf, argsOf, noOptional}
 use Rattle.message.specs.Frame.{frameOf, bodyOf, argumentOf}
 use Rattle.message.specs.declared.request.Optional.{Optional}
 use Rattle.message.specs.declared.request.Request.{Request}
@@ -48,6 +50,17 @@ argsBytes d body args =
     cond (hasArgs (d .kind)) args
     (cond (eqb (d .kind) Client.prepare) (cond (eqb (d .operation) Operation.stmtExecute) body []) [])
 
+-- the arguments of a request, in the frame that it is read of
+abbrev pub argumentsOf : List ℕ → Request → List Argument
+argumentsOf bytes q = argumentsAt (take (argsOf q .end) bytes) (argsOf q .start)
+
+-- what arguments tell together, as refusals 8 and 9 see them: how many there are, and of the first object or array its
+-- type and its index (A8, R8, R9)
+pub record TellAlike (x y : Arguments) : Type 0 where
+  pub count : x .count ≡ y .count
+  pub kind : x .kind ≡ y .kind
+  pub index : x .index ≡ y .index
+
 -- these bytes read, by the reader's definitions, as the draft
 pub record ReadsAs (d : Draft) (body args bytes : List ℕ) : Type 0 where
   -- they hold a request, and the frame and nothing else is used
@@ -63,9 +76,12 @@ pub record ReadsAs (d : Draft) (body args bytes : List ℕ) : Type 0 where
   -- the chosen body is the one handed in; Open's is its Execute
   pub chosen : bodyOf bytes ≡
       cond (eqb (d .kind) Client.prepare) body (cond (eqb (d .kind) Client.open') (executePayload d args) [])
-  -- the arguments' bytes stand at a place, and each argument reads as it does in them
+  -- the arguments' bytes stand at a place, and all arguments, objects and arrays among them, read as they do in those
+  -- bytes by themselves: the whole list, what they tell together, and each that is asked for
   pub place : ℕ
   pub stands : take (length (argsBytes d body args)) (drop place bytes) ≡ argsBytes d body args
+  pub arguments : argumentsOf bytes request ≡ map (moved place) (argumentsAt (argsBytes d body args) 0)
+  pub told : TellAlike (argsOf request) (argumentsIn (argsBytes d body args) 0)
   pub argument : (i : ℕ) → argumentOf bytes i ≡ moved place (nthArgument (argsBytes d body args) 0 i)
 
 -- every draft that is not refused 6 or 2 is read back from its frame, whatever bytes stand behind it
