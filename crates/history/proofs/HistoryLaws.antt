@@ -204,12 +204,23 @@ module _ (s : Session) (t : Tally) (h : Inv s t) where
       gone x e f =
           true≢false (sym f ∙ sym (or-false (eqb (x .cursor) (o .cursor))) ∙ not-true _ e)
 
+      -- all rows of the new opening are sent exactly when its Open sent as many as were reported
+      opening-all : eqb (openCount (o .rows) (r .rows) + 0) (r .rows)
+          ≡ allSent
+          (record { cursor = o .cursor; stmt = o .execute .stmt; first = 0; rows = r .rows; segments = part (Open o) ∷ [] })
+      unfolding rowCount sumBy
+      opening-all = refl
+
       opening-tells : Says (o .cursor) (isDone (replyTo s (Open o) r)) (added (Open o) .live)
       unfolding All replyTo rowCount firstRow sumBy
       opening-tells =
           let n = openCount (o .rows) (r .rows) in
           let z : 0 + n ≡ n + 0 = omega arith in (
-            λ _. done-end (r .rows - (0 + n)) ∙ left-none (r .rows) (0 + n) (omega arith) ∙ ap (λ (k : ℕ). eqb k (r .rows)) z,
+            λ _.
+                done-end (r .rows - (0 + n))
+                ∙ left-none (r .rows) (0 + n) (omega arith)
+                ∙ ap (λ (k : ℕ). eqb k (r .rows)) z
+                ∙ opening-all,
             all-imp (λ x. not (endsIt (Open o) (x .cursor) (x .stmt)) ≡ true)
                 (λ x. isOf (o .cursor) x ≡ true → isDone (replyTo s (Open o) r) ≡ allSent x) (λ x e f. absurd (gone x e f))
                 (endings (Open o) t .live) (kept-pass (λ x. not (endsIt (Open o) (x .cursor) (x .stmt))) (t .live)),
