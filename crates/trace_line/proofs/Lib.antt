@@ -6,6 +6,7 @@ pub mod MarkLaws
 pub mod PrintLaws
 pub mod ProgressLaws
 pub mod RecordLaws
+pub mod SampleLaws
 pub mod TraceLaws
 pub mod WalkLaws
 pub mod WithinLaws

@@ -6,5 +6,6 @@ pub mod Printer
 pub mod private
 pub mod Chunks
 pub mod Record
+pub mod Samples
 pub mod RecordRules
 pub mod Trace
