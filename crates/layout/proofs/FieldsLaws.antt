@@ -14,22 +14,31 @@ use Rattle.wire.specs.Field.{fieldAt}
 use Rattle.wire.specs.Past.{PastField}
 use Rattle.wire.specs.declared.field.Field.{Field}
 use Rattle.wire.proofs.PastLaws.{field-past}
-use Rattle.layout.specs.Row.{numberOf, rowFor, takes, slotCount}
+use Rattle.layout.specs.Row.{numberOf, noRow, rowFor, takes, slotCount}
 use Rattle.layout.specs.Slots.{noSlots, badSlots}
-use Rattle.layout.specs.Fields.{useOf, noted, onField, fieldsFrom, fieldList, hasRequired, checked, fieldsTo}
+use Rattle.layout.specs.Fields.{useBy, useOf, noted, onField, fieldsFrom, fieldList, hasRequired, checked}
+use Rattle.layout.specs.Fields.{fieldsTo}
 use Rattle.layout.specs.Arrays.{occurs, metBy, hasSeen, Noted, Listed, Holds}
 use Rattle.layout.specs.declared.slots.Slots.{Slots}
 use Rattle.layout.specs.declared.fields.Use.{Use}
 
-module _ (rows : List (List ℕ)) (number wire value : ℕ) (row : List ℕ) (found : row ≡ rowFor rows number) where
-  pub use-unknown : takes row number wire value ≡ false → Use.Unknown ≡ useOf rows number wire value
-  use-unknown e = rw (← found) (simp e)
+module _ (row : List ℕ) (number wire value : ℕ) where
+  pub use-unknown : takes row number wire value ≡ false → Use.Unknown ≡ useBy row number wire value
+  use-unknown e = simp e
 
-  pub use-counted : takes row number wire value ≡ true → getD row 4 0 ≡ 1 → Use.Counted ≡ useOf rows number wire value
-  use-counted e h = rw (← found) (simp (e, eq-eqb (getD row 4 0) 1 h))
+  pub use-counted : takes row number wire value ≡ true → getD row 4 0 ≡ 1 → Use.Counted ≡ useBy row number wire value
+  use-counted e h = simp (e, eq-eqb (getD row 4 0) 1 h)
 
-  pub use-kept : takes row number wire value ≡ true → (getD row 4 0 ≡ 1 → ⊥) → Use.Kept ≡ useOf rows number wire value
-  use-kept e h = rw (← found) (simp (e, ne-eqb (getD row 4 0) 1 h))
+  pub use-kept : takes row number wire value ≡ true → (getD row 4 0 ≡ 1 → ⊥) → Use.Kept ≡ useBy row number wire value
+  use-kept e h = simp (e, ne-eqb (getD row 4 0) 1 h)
+
+-- the row that no number has takes no field
+pub use-none : (number wire value : ℕ) → 0 < number → Use.Unknown ≡ useBy noRow number wire value
+use-none number wire value h = use-unknown noRow number wire value (go (ltb number slotCount) refl)
+  where
+    go : (b : Bool) → ltb number slotCount ≡ b → takes noRow number wire value ≡ false
+    go true e = simp (e, ne-eqb 0 number (λ z. omega arith))
+    go false e = simp e
 
 -- a row that takes a field has a slot for it
 pub use-slot : (rows : List (List ℕ)) (number wire value : ℕ) → (useOf rows number wire value ≡ Use.Unknown → ⊥) → number < slotCount

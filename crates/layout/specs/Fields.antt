@@ -13,11 +13,12 @@ use Rattle.layout.specs.declared.slots.Slots.{Slots}
 use Rattle.layout.specs.declared.fields.Use.{Use}
 
 -- a field that no row takes is unknown; a repeated one is counted, any other kept
+abbrev pub useBy : List ℕ → ℕ → ℕ → ℕ → Use
+useBy row number wire value =
+    cond (takes row number wire value) (cond (isRepeated row) Use.Counted Use.Kept) Use.Unknown
+
 abbrev pub useOf : List (List ℕ) → ℕ → ℕ → ℕ → Use
-useOf rows number wire value =
-    cond (takes (rowFor rows number) number wire value)
-    (cond (isRepeated (rowFor rows number)) Use.Counted Use.Kept)
-    Use.Unknown
+useOf rows number wire value = useBy (rowFor rows number) number wire value
 
 -- the field is a repeated one of the message
 abbrev pub isCounted : Use → Bool

@@ -1,7 +1,8 @@
 // The one field-list reader, driven by a message's rows.
 ghost use mathlib.Core.Path.{_≡_};
+ghost use Prim.Native.Nat.{_<_};
 ghost use Rattle.layout.specs.Slots.{badSlots, noSlots};
-ghost use Rattle.layout.specs.Fields.{fieldList, fieldsTo, useOf};
+ghost use Rattle.layout.specs.Fields.{fieldList, fieldsTo, useBy, useOf};
 ghost use Rattle.layout.specs.Arrays.{Holds, Listed, Noted, hasSeen, metBy};
 use wire::field::Field;
 
@@ -13,10 +14,10 @@ pub enum Use {
     Kept,
 }
 
-fn use_of(rows: &[[u16; 6]], number: u64, wire: u64, value: u64) -> Use
-    ensures { λ r. ⌜ r ≡ useOf (now (rows .entry)) number wire value ⌝ }
+// By the row of the field's number.
+fn use_by(row: [u16; 6], number: u64, wire: u64, value: u64) -> Use
+    ensures { λ r. ⌜ r ≡ useBy row number wire value ⌝ }
 {
-    let row = crate::row::row_for(rows, number);
     if !crate::row::row_takes(row, number, wire, value) {
         return Use::Unknown;
     }
@@ -24,6 +25,21 @@ fn use_of(rows: &[[u16; 6]], number: u64, wire: u64, value: u64) -> Use
         return Use::Counted;
     }
     Use::Kept
+}
+
+// By the message's rows; a number that no row has, and no field has the number 0, is unknown at once.
+fn use_of(rows: &[[u16; 6]], number: u64, wire: u64, value: u64) -> Use
+    requires { ⌜ 0 < number ⌝ }
+    ensures { λ r. ⌜ r ≡ useOf (now (rows .entry)) number wire value ⌝ }
+{
+    let mut i = 0;
+    while i < rows.len() {
+        if crate::row::wide(rows[i][1]) == number {
+            return use_by(rows[i], number, wire, value);
+        }
+        i += 1;
+    }
+    Use::Unknown
 }
 
 // Arrays that hold nothing.

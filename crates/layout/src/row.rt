@@ -1,26 +1,12 @@
 // One row of the layout table, and whether it takes a field.
 ghost use mathlib.Core.Path.{_≡_};
-ghost use Rattle.layout.specs.Row.{listed, rowFor, takes};
+ghost use Rattle.layout.specs.Row.{listed, takes};
 
 // A cast that asks nothing.
 pub fn wide(x: u16) -> u64
     ensures { λ r. ⌜ r ≡ x ⌝ }
 {
     x as u64
-}
-
-// The row of a field number among a message's rows; a row of zeros where there is none.
-pub fn row_for(rows: &[[u16; 6]], number: u64) -> [u16; 6]
-    ensures { λ r. ⌜ r ≡ rowFor (now (rows .entry)) number ⌝ }
-{
-    let mut i = 0;
-    while i < rows.len() {
-        if wide(rows[i][1]) == number {
-            return rows[i];
-        }
-        i += 1;
-    }
-    [0; 6]
 }
 
 // Whether an enum's value is among the listed ones.

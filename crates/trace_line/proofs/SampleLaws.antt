@@ -15,7 +15,8 @@ use Rattle.message.specs.Frame.{frameIn, frameOf}
 use Rattle.session.specs.Lists.{sumBy, first}
 use Rattle.reply.specs.Decimal.{digits}
 use Rattle.reply.specs.Text.{text}
-use Rattle.reply.specs.Frame.{numberField, bytesField, errorPayload}
+use Rattle.encode.specs.Field.{numberField, bytesField}
+use Rattle.reply.specs.Frame.{errorPayload}
 use Rattle.reply.specs.Reply.{replyBytes}
 use Rattle.rules.specs.Refusal.{lookReason, reportReason}
 use Rattle.rules.specs.Rows.{firstRow, rowCount, sendsColumns}

@@ -7,3 +7,4 @@ pub mod LongLaws
 pub mod EnoughLaws
 pub mod AgreeLaws
 pub mod MovedLaws
+pub mod NumberLaws

@@ -4,6 +4,7 @@ use Prim.Native.Nat.{_-_, _<_}
 use native.Mathlib.Omega.{arith}
 use lib.ListN.{length}
 use Rattle.layout.proofs.FieldsLaws.{Filling, filling, filled, spoiled, ahead, fills-unknown, fills-counted, fills-kept, counted-slot, kept-slot}
+use Rattle.wire.proofs.NumberLaws.{field-number}
 use mathlib.Core.Path.{sym, _∙_}
 use Rattle.layout.proofs.fields.list_fields.Statement.{statement}
 use Rattle.layout.proofs.fields.list_fields.Tie as tie
@@ -30,6 +31,11 @@ loop-holds c = let a = c .before .args in filling (a .rows .now) (a .s .now) (a 
 returns : tie.Need-returns Inv-loop μ-loop
 returns c =
     spoiled (c .before .before .before .before .loop .inv) (c .before .before .before .loop-test .taken) (sym (c .before .before .quick-field .ensures) ∙ c .enum-told .given .1)
+
+use-of-requires : (c : tie.After-known-told Inv-loop μ-loop) → 0 < c .before .number .given .0 .0
+use-of-requires c =
+    let a = c .before .before .before .before .before .before .before .args in
+    field-number (a .s .now) _ (sym (c .before .before .before .quick-field .ensures) ∙ c .before .number .given .1)
 
 element-write-seen : tie.Need-element-write-seen Inv-loop μ-loop
 element-write-seen c = counted-in c
@@ -87,7 +93,7 @@ list-fields-spec =
     (λ c. search needs)
     (λ c. search needs)
     returns
-    (λ c κs. tt)
+    (λ c κs. use-of-requires c)
     (λ c. search needs)
     (λ c. search needs)
     element-write-seen
