@@ -179,12 +179,14 @@ pub starts : (s : List ℕ) (from : ℕ) → Walking s from from (noArguments fr
 starts s from = record { most = length s; enough = omega arith; good = refl; small = omega arith; whole = refl }
 
 -- where the next argument is the same from a later place on, the loop may stand there
-from-same : (most : ℕ) (s : List ℕ) (p q : ℕ) → nextArgument s p ≡ nextArgument s q → argumentsFrom most s p ≡ argumentsFrom most s q
+from-same : (most : ℕ) (s : List ℕ) (p q : ℕ) → nextArgument s p ≡ nextArgument s q
+    → argumentsFrom most s p ≡ argumentsFrom most s q
 unfolding argumentsFrom
 from-same zero s p q e = refl
 from-same (suc m) s p q e = ap (andMore (λ next. argumentsFrom m s next)) e
 
-pub passes : {s : List ℕ} {from p q : ℕ} {x : Arguments} → Walking s from p x → p ≤ q → nextArgument s p ≡ nextArgument s q → Walking s from q x
+pub passes : {s : List ℕ} {from p q : ℕ} {x : Arguments} → Walking s from p x → p ≤ q
+    → nextArgument s p ≡ nextArgument s q → Walking s from q x
 passes {s} {from} {p} {q} {x} k h e =
     record {
       most = k .most;
@@ -232,21 +234,32 @@ pub record Spans (x y : Arguments) : Type 0 where
   pub upto : y .good ≡ true → y .end ≡ x .end
   pub bad : y .good ≡ false → badArguments ≡ y
 
+spoilt : (x : Arguments) → Spans x badArguments
+spoilt x = record { from = no; upto = no; bad = λ _. refl }
+  where
+    no : {A : Type 0} → _≡_ {A = Bool} false true → A
+    no h = absurd (let z : _≡_ {A = ℕ} 0 1 = cc in omega arith)
+
+kept-span : {x y : Arguments} → y .start ≡ x .start → y .end ≡ x .end → y .good ≡ true → Spans x y
+kept-span a b g =
+    record { from = λ _. a; upto = λ _. b; bad = λ h. absurd (let z : _≡_ {A = ℕ} 0 1 = cc in omega arith) }
+
 type-spans : (x : Arguments) (t : ℕ) → x .good ≡ true → Spans x (withType x t)
 type-spans x t g =
     both (Spans x) (eqb t 0) _ _
-    (λ _. record { from = λ h. absurd (let z : _≡_ {A = ℕ} 0 1 = cc in omega arith); upto = λ h. absurd (let z : _≡_ {A = ℕ} 0 1 = cc in omega arith); bad = λ _. refl })
-    (λ _. both (Spans x) (ltb t 2) _ _ (λ _. same) (λ _. both (Spans x) (eqb (x .kind) 0) _ _ (λ _. same) (λ _. same)))
+    (λ _. spoilt x)
+    (λ _. both (Spans x) (ltb t 2) _ _ (λ _. same)
+    (λ _. both (Spans x) (eqb (x .kind) 0) _ _ (λ _. same) (λ _. same)))
   where
     same : {kind index : ℕ} → Spans x (counted x kind index)
-    same = record { from = λ _. refl; upto = λ _. refl; bad = λ h. absurd (let z : _≡_ {A = ℕ} 0 1 = cc in omega arith) }
+    same = kept-span refl refl g
 
 pub spans : (l : List Argument) (x : Arguments) → x .good ≡ true → Spans x (together x l)
 unfolding together
-spans [] x g = record { from = λ _. refl; upto = λ _. refl; bad = λ h. absurd (let z : _≡_ {A = ℕ} 0 1 = cc in omega arith) }
+spans [] x g = kept-span refl refl g
 spans (a ∷ rest) x g =
     both (Spans x) (eqb (anyTypeOf a) 0) _ _
-    (λ _. record { from = λ h. absurd (let z : _≡_ {A = ℕ} 0 1 = cc in omega arith); upto = λ h. absurd (let z : _≡_ {A = ℕ} 0 1 = cc in omega arith); bad = λ _. refl })
+    (λ _. spoilt x)
     (λ e.
     let h = type-good x (anyTypeOf a) (eqb-false (anyTypeOf a) 0 e) ∙ g in
     let s = type-spans x (anyTypeOf a) g in

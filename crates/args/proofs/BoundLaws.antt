@@ -22,8 +22,10 @@ use Rattle.layout.proofs.CountLaws.{noted-length}
 use Rattle.layout.proofs.FieldsLaws as Fields
 use Rattle.args.specs.Part.{embedded, valueOf}
 use Rattle.args.specs.Value.{argumentIn}
-use Rattle.args.specs.Arguments.{nextArgument, argumentsAt, anyTypeOf, noArguments, badArguments, withType, argumentsIn}
-use Rattle.args.specs.Bound.{rowsBy, wireBy, isArgs, nothing, withField, ownOf, found, badBound, boundOf, boundAt, boundIn, argsOf}
+use Rattle.args.specs.Arguments.{nextArgument, argumentsAt, anyTypeOf, noArguments, badArguments, withType}
+use Rattle.args.specs.Arguments.{argumentsIn}
+use Rattle.args.specs.Bound.{rowsBy, wireBy, isArgs, nothing, withField, ownOf, found, badBound, boundOf}
+use Rattle.args.specs.Bound.{boundAt, boundIn, argsOf}
 use Rattle.args.specs.declared.arguments.Arguments.{Arguments}
 use Rattle.args.specs.declared.arguments.NextArgument.{NextArgument}
 use Rattle.args.specs.declared.bound.Own.{Own}
@@ -48,11 +50,13 @@ module _ (k : Own) (own number wire value : ℕ) where
 
   module _ (is : wire ≡ own) where
     pub with-one : number ≡ 1 →
-        record { hasone = true; one = value; hasthree = k .hasthree; three = k .three } ≡ withField k own number wire value
+        record { hasone = true; one = value; hasthree = k .hasthree; three = k .three } ≡ withField k own number wire
+        value
     with-one h = yes _ _ (eq-eqb number 1 h) ∙ yes _ k (eq-eqb wire own is)
 
     pub with-three : (number ≡ 1 → ⊥) → number ≡ 3 →
-        record { hasone = k .hasone; one = k .one; hasthree = true; three = value } ≡ withField k own number wire value
+        record { hasone = k .hasone; one = k .one; hasthree = true; three = value } ≡ withField k own number wire
+        value
     with-three n h = yes _ k (eq-eqb number 3 h) ∙ no _ _ (ne-eqb number 1 n) ∙ yes _ k (eq-eqb wire own is)
 
     pub with-none : (number ≡ 1 → ⊥) → (number ≡ 3 → ⊥) → k ≡ withField k own number wire value
@@ -98,10 +102,14 @@ module _ (x : Slots) (number v start len : ℕ) (u : Use) where
   own-apart a b =
       let a' : 1 ≡ number → ⊥ = λ e. a (sym e) in
       let b' : 3 ≡ number → ⊥ = λ e. b (sym e) in
-      ap (λ (c : ℕ). make c (valueOf x 1) (getD (x .count) 3 0) (valueOf x 3)) (count-apart x number v start len 1 a' u)
-      ∙ ap (λ (w : ℕ). make (getD (then .count) 1 0) w (getD (x .count) 3 0) (valueOf x 3)) (value-apart x number v start len 1 a' u)
-      ∙ ap (λ (c : ℕ). make (getD (then .count) 1 0) (valueOf then 1) c (valueOf x 3)) (count-apart x number v start len 3 b' u)
-      ∙ ap (make (getD (then .count) 1 0) (valueOf then 1) (getD (then .count) 3 0)) (value-apart x number v start len 3 b' u)
+      ap (λ (c : ℕ). make c (valueOf x 1) (getD (x .count) 3 0) (valueOf x 3))
+      (count-apart x number v start len 1 a' u)
+      ∙ ap (λ (w : ℕ). make (getD (then .count) 1 0) w (getD (x .count) 3 0) (valueOf x 3))
+      (value-apart x number v start len 1 a' u)
+      ∙ ap (λ (c : ℕ). make (getD (then .count) 1 0) (valueOf then 1) c (valueOf x 3))
+      (count-apart x number v start len 3 b' u)
+      ∙ ap (make (getD (then .count) 1 0) (valueOf then 1) (getD (then .count) 3 0))
+      (value-apart x number v start len 3 b' u)
 
 one-more : (n : ℕ) → true ≡ not (eqb (n + 1) 0)
 one-more n = sym (ap not (ne-eqb (n + 1) 0 (λ h. omega arith)))
@@ -110,7 +118,8 @@ module _ (x : Slots) (v start len : ℕ) (counts : length (x .count) ≡ 10) (va
   seen-at : (k : ℕ) → k < 10 → true ≡ not (eqb (getD (set (x .count) k (getD (x .count) k 0 + 1)) k 0) 0)
   seen-at k h =
       one-more (getD (x .count) k 0)
-      ∙ ap (λ (n : ℕ). not (eqb n 0)) (sym (getD-set-same (x .count) k (getD (x .count) k 0 + 1) 0 (omega (arith, counts))))
+      ∙ ap (λ (n : ℕ). not (eqb n 0))
+      (sym (getD-set-same (x .count) k (getD (x .count) k 0 + 1) 0 (omega (arith, counts))))
 
   held-at : (k : ℕ) → k < 10 → v ≡ getD (set (x .value) k v) k 0
   held-at k h = sym (getD-set-same (x .value) k v 0 (omega (arith, values)))
@@ -164,9 +173,11 @@ module _ (text : Bool) (x : Slots) (number wire v start len : ℕ) (counts : len
   abbrev used : Use
   used = useOf (rowsBy text) number wire v
 
-  as-kept : (k : ℕ) → number ≡ k → used ≡ Use.Kept → ownOf (noted Use.Kept x k v start len) ≡ ownOf (noted used x number v start len)
+  as-kept : (k : ℕ) → number ≡ k → used ≡ Use.Kept → ownOf (noted Use.Kept x k v start len) ≡ ownOf
+      (noted used x number v start len)
   as-kept k e u =
-      ap (λ (n : ℕ). ownOf (noted Use.Kept x n v start len)) (sym e) ∙ ap (λ (w : Use). ownOf (noted w x number v start len)) (sym u)
+      ap (λ (n : ℕ). ownOf (noted Use.Kept x n v start len)) (sym e) ∙ ap
+      (λ (w : Use). ownOf (noted w x number v start len)) (sym u)
 
   as-left : used ≡ Use.Unknown → ownOf x ≡ ownOf (noted used x number v start len)
   as-left u = ap (λ (w : Use). ownOf (noted w x number v start len)) (sym u)
@@ -195,7 +206,9 @@ module _ (text : Bool) (x : Slots) (number wire v start len : ℕ) (counts : len
           apart w e ∙ own-apart x number v start len used (eqb-false number 1 f) (eqb-false number 3 g)
         where
           apart : (w : Bool) → eqb wire own ≡ w → withField (ownOf x) own number wire v ≡ ownOf x
-          apart true d = sym (with-none (ownOf x) own number wire v (eqb-true wire own d) (eqb-false number 1 f) (eqb-false number 3 g))
+          apart true d =
+              sym
+              (with-none (ownOf x) own number wire v (eqb-true wire own d) (eqb-false number 1 f) (eqb-false number 3 g))
           apart false d = sym (with-other (ownOf x) own number wire v (eqb-false wire own d))
       go false e true f b g =
           let h = eqb-false wire own e in
@@ -263,7 +276,8 @@ module _ {text : Bool} {s : List ℕ} {from p : ℕ} {x : Arguments} {k : Own} (
 
   module _ (inside : p < length s) where
     pub no-field : fieldAt s p ≡ Field.Bad → badBound ≡ boundAt text s from
-    no-field e = bad-slots fields (argumentsIn s from) (ap (λ (z : Slots). z .good) (sym (Fields.no-field (b .listing) inside e)))
+    no-field e = bad-slots fields (argumentsIn s from)
+        (ap (λ (z : Slots). z .good) (sym (Fields.no-field (b .listing) inside e)))
 
     module _ {number wire v start len next : ℕ} (e : fieldAt s p ≡ Field.Good number wire v start len next) where
       pub ahead : p < next
@@ -319,7 +333,8 @@ module _ {text : Bool} {s : List ℕ} {from p : ℕ} {x : Arguments} {k : Own} (
                   let a = args-are number wire h in
                   slots-on
                   (b .holding .own
-                  ∙ own-apart (b .slots) number v start len use-here (λ z. omega (arith, a .0)) (λ z. omega (arith, a .0)));
+                  ∙ own-apart (b .slots) number v start len use-here (λ z. omega (arith, a .0))
+                  (λ z. omega (arith, a .0)));
               listing = Fields.goes-on (b .listing) inside e use-here refl;
               walking = Walk.goes-on (b .walking) inside here t u g;
             }
@@ -338,7 +353,8 @@ module _ (text : Bool) (s : List ℕ) (at n : ℕ) where
 -- ---- what the answer says: field 1 is there exactly where fields and arguments are good
 
 -- field 1 alone is required
-asked : (text : Bool) (count : List ℕ) → cond (not (eqb (getD count 1 0) 0)) true false ≡ hasRequired (rowsBy text) count
+asked : (text : Bool) (count : List ℕ) → cond (not (eqb (getD count 1 0) 0)) true false ≡ hasRequired
+    (rowsBy text) count
 unfolding rowsOf hasRequired
 asked true count = refl
 asked false count = refl
@@ -347,7 +363,8 @@ itself : (b : Bool) → cond b true false ≡ b
 itself true = refl
 itself false = refl
 
-required : (text : Bool) (count : List ℕ) {b : Bool} → not (eqb (getD count 1 0) 0) ≡ b → hasRequired (rowsBy text) count ≡ b
+required : (text : Bool) (count : List ℕ) {b : Bool} → not (eqb (getD count 1 0) 0) ≡ b → hasRequired
+    (rowsBy text) count ≡ b
 required text count e = sym (asked text count) ∙ itself (not (eqb (getD count 1 0) 0)) ∙ e
 
 checked-sound : (rows : List (List ℕ)) (x : Slots) → x .good ≡ false → checked rows x .good ≡ false
@@ -402,7 +419,8 @@ module _ (text : Bool) (s : List ℕ) (at n : ℕ) where
   abbrev Lost : Bound → Type 0
   Lost b = b .hasone ≡ false → embedded (rowsBy text) s at n .good ≡ true → read .good ≡ false
 
-  unlisted : {A : Type 0} → embedded (rowsBy text) s at n .good ≡ false → embedded (rowsBy text) s at n .good ≡ true → A
+  unlisted : {A : Type 0} → embedded (rowsBy text) s at n .good ≡ false → embedded (rowsBy text) s at n .good ≡ true
+      → A
   unlisted h g = absurd (let z : _≡_ {A = ℕ} 0 1 = cc in omega arith)
 
   loses : Lost (boundIn text s at n)

@@ -87,7 +87,8 @@ module _ {s : List ℕ} {at p : ℕ} (k : Seeking s at p) (inside : p < length s
 pub place-none : (s : List ℕ) (at : ℕ) → length s ≤ at → ArgPlace.End ≡ argPlace s at
 place-none s at h = ends (starts s at) h
 
-pub args-here : (s : List ℕ) (at : ℕ) → at < length s → getD s at 0 ≡ 18 → ofValue 2 2 (asLength s (at + 1)) ≡ fieldAt s at
+pub args-here : (s : List ℕ) (at : ℕ) → at < length s → getD s at 0 ≡ 18 → ofValue 2 2
+    (asLength s (at + 1)) ≡ fieldAt s at
 args-here s at h e = quick-wire s at 18 h (sym e) (omega arith) 2 (omega arith) refl (omega arith)
 
 pub place-here : (s : List ℕ) (at : ℕ) → at < length s → getD s at 0 ≡ 18 → placeOf (asLength s (at + 1)) ≡ argPlace s at

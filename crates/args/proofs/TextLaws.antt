@@ -46,7 +46,8 @@ module _ (s : List ℕ) (at : ℕ) where
     unfolding textAt
     text-other o = no _ Text.Other (ne-eqb (getD s at 0) 10 o) ∙ yes _ Text.Other (lt-ltb at (length s) inside)
 
-    pub text-read : getD s at 0 ≡ 10 → (read : Value) → read ≡ asLength s (at + 1) → textOf (length s) read ≡ textAt s at
+    pub text-read : getD s at 0 ≡ 10 → (read : Value) → read ≡ asLength s (at + 1) →
+        textOf (length s) read ≡ textAt s at
     unfolding textAt
     text-read o read e =
         ap (textOf (length s)) e
@@ -95,7 +96,8 @@ at-says s at =
         (λ _. tt)
       where
         read : fieldAt s at ≡ Field.Good 1 2 value start len next
-        read = sym (quick-wire s at 10 i (sym o) (omega arith) 2 (omega arith) refl (omega arith)) ∙ ap (ofValue 1 2) e
+        read = sym (quick-wire s at 10 i (sym o) (omega arith) 2 (omega arith) refl (omega arith)) ∙ ap
+            (ofValue 1 2) e
 
         long : LongField (fieldAt s at) → _≡_ {A = ℕ} 2 2 → value ≡ len
         long = rw read (λ f. f)
@@ -117,7 +119,8 @@ in-says s at n =
 
 -- ---- what rows that keep it make of it
 
-module _ (s : List ℕ) (at n : ℕ) {r : Text} {start len : ℕ} (e : r ≡ Text.Alone start len) (p : r ≡ textIn s at n) where
+module _ (s : List ℕ) (at n : ℕ) {r : Text} {start len : ℕ} (e : r ≡ Text.Alone start len)
+    (p : r ≡ textIn s at n) where
   pub told : SaysIn s at n (Text.Alone start len)
   told = subst (SaysIn s at n) (sym p ∙ e) (in-says s at n)
 
@@ -125,7 +128,8 @@ module _ (s : List ℕ) (at n : ℕ) {r : Text} {start len : ℕ} (e : r ≡ Tex
       checked rows (noted Use.Kept noSlots 1 len start len) ≡ embedded rows s at n
   text-kept rows kept =
       ap (checked rows)
-      (ends (goes-on (starts rows (take (at + n) s) at) (told .1 .inside) (told .1 .field) Use.Kept kept) (omega arith))
+      (ends (goes-on (starts rows (take (at + n) s) at) (told .1 .inside) (told .1 .field) Use.Kept kept)
+      (omega arith))
       ∙ part-within rows s at n (told .0)
 
   -- a message of that field alone has no arguments

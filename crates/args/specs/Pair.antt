@@ -49,7 +49,8 @@ textOf end Value.Bad = Text.Other
 
 unfoldable pub textAt : List ℕ → ℕ → Text
 textAt s at =
-    cond (ltb at (length s)) (cond (eqb (getD s at 0) 10) (textOf (length s) (asLength s (at + 1))) Text.Other) Text.Other
+    cond (ltb at (length s))
+    (cond (eqb (getD s at 0) 10) (textOf (length s) (asLength s (at + 1))) Text.Other) Text.Other
 
 -- in n bytes of s from the place `at` on
 unfoldable pub textIn : List ℕ → ℕ → ℕ → Text

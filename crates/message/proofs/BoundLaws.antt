@@ -24,7 +24,8 @@ use Rattle.message.specs.Execute.{argumentsWithin, badExecute, executeOf
 use Rattle.message.specs.Prepare.{bodyIn}
 use Rattle.message.specs.declared.request.Optional.{Optional}
 use Rattle.message.specs.declared.request.Execute.{Execute}
-use Rattle.message.proofs.MessageLaws.{within-there, execute-bad, execute-worse, execute-good, body-stmt-bad, body-stmt}
+use Rattle.message.proofs.MessageLaws.{within-there, execute-bad, execute-worse, execute-good, body-stmt-bad}
+use Rattle.message.proofs.MessageLaws.{body-stmt}
 
 module _ (text : Bool) (s : List ℕ) (at n : ℕ) (b : Bound) (e : b ≡ boundIn text s at n) where
   abbrev slots : Slots
@@ -74,7 +75,8 @@ module _ (s : List ℕ) (at n : ℕ) (b : Bound) (e : b ≡ boundIn false s at n
       ap (λ (c : Bound). made (c .one) (optionalBy (c .hasthree) (c .three)) (argsOf b at (at + n))) (f .is)
       ∙ ap (λ (x : Slots). made (valueOf x 1) (optionalOf x 3) (argsOf b at (at + n))) (sym (f .fields))
       ∙ ap (made (valueOf run 1) (optionalOf run 3)) a
-      ∙ execute-good run (argumentsWithin s at n) (found-good false s at n b e h) (sym (ap (λ (c : Arguments). c .good) a))
+      ∙ execute-good run (argumentsWithin s at n) (found-good false s at n b e h)
+      (sym (ap (λ (c : Arguments). c .good) a))
 
 module _ (s : List ℕ) (t at n : ℕ) (stmt : t ≡ Operation.stmtExecute) (b : Bound) (e : b ≡ boundIn true s at n) where
   abbrev body : Slots

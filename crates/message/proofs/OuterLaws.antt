@@ -35,7 +35,8 @@ rows-of = rowsOf Client.open'
 module _ (s : List ℕ) (id : ℕ) (one : FieldOne s payload id) (inside : 7 < length s) (is : getD s 7 0 ≡ 34)
     {v start len next : ℕ} (e : asLength s 8 ≡ Value.Good v start len next) where
   stmt-read : fieldAt s 7 ≡ Field.Good 4 2 v start len next
-  stmt-read = sym (quick-wire s 7 34 inside (sym is) (omega arith) 2 (omega arith) refl (omega arith)) ∙ ap (ofValue 4 2) e
+  stmt-read = sym (quick-wire s 7 34 inside (sym is) (omega arith) 2 (omega arith) refl (omega arith)) ∙ ap
+      (ofValue 4 2) e
 
   stmt-long : v ≡ len
   stmt-long = go (field-long s 7) refl
@@ -52,7 +53,8 @@ module _ (s : List ℕ) (id : ℕ) (one : FieldOne s payload id) (inside : 7 < l
   listed : Listing rows-of s payload next two
   unfolding rowsOf rowFor
   listed =
-      goes-on (goes-on (starts rows-of s payload) (omega (arith, inside)) (field-one one) Use.Kept refl) inside stmt-field
+      goes-on (goes-on (starts rows-of s payload) (omega (arith, inside))
+      (field-one one) Use.Kept refl) inside stmt-field
       Use.Kept refl
 
   opens : (x : Slots) (has : Bool) (rows : ℕ) → x ≡ fieldsAt rows-of s payload → Opens x id start len has rows →
@@ -99,5 +101,6 @@ module _ (s : List ℕ) {id start len rows : ℕ} {has : Bool}
       ∙ ap (λ (i : ℕ). openInside s i (optionalOf x 5) start len) (o .id-is)
       ∙ ap (λ (p : ℕ). openInside s (valueOf x 1) (optionalOf x 5) p len) (o .start-is)
       ∙ ap (openInside s (valueOf x 1) (optionalOf x 5) (startOf x 4)) (o .len-is)
-      ∙ yes (openInside s (valueOf x 1) (optionalOf x 5) (startOf x 4) (lenOf x 4)) (Frame.BadPayload (length s) Client.open')
+      ∙ yes (openInside s (valueOf x 1) (optionalOf x 5) (startOf x 4) (lenOf x 4))
+      (Frame.BadPayload (length s) Client.open')
       (sym (o .good))

@@ -56,8 +56,10 @@ module _ (s : List ℕ) {r : Pair} {first tag value start : ℕ} (e : r ≡ Pair
         ap (λ (x : ℕ). fetching x rows) c ∙ ap (fetching (low32 first)) o ∙ fetch-fills
 
   -- of a field with bytes the length is the value
-  pub pair-fills-bytes : (at : ℕ) → at ≤ length s → r ≡ pairIn s at (length s - at) → (rows : List (List ℕ)) (key : ℕ) →
-      tag ≡ key → 8 ≤ key → key % 8 ≡ 2 → Use.Kept ≡ useOf rows 1 0 first → Use.Kept ≡ useOf rows (key / 8) (key % 8) value →
+  pub pair-fills-bytes : (at : ℕ) → at ≤ length s → r ≡ pairIn s at (length s - at) → (rows : List (List ℕ))
+      (key : ℕ) →
+      tag ≡ key → 8 ≤ key → key % 8 ≡ 2 → Use.Kept ≡ useOf rows 1 0 first → Use.Kept ≡ useOf rows (key / 8)
+      (key % 8) value →
       checked rows (noted Use.Kept (noted Use.Kept noSlots 1 first (at + 1) 1) (key / 8) value start value)
       ≡ fieldsAt rows s at
   pair-fills-bytes at h p rows key is some long one two =

@@ -22,19 +22,30 @@ loop-holds c =
 returns : tie.Need-returns Inv-loop μ-loop
 returns c =
     c .bad-bound .ensures
-    ∙ no-field (c .before .before .before .before .before .loop .inv) (c .before .before .before .before .loop-test .taken)
+    ∙ no-field (c .before .before .before .before .before .loop .inv)
+    (c .before .before .before .before .loop-test .taken)
     (sym (c .before .before .before .field-at .ensures) ∙ c .before .enum-told .given .1)
 
 with-type-requires : tie.Need-with-type-requires Inv-loop μ-loop
 with-type-requires c κs =
-    omega (arith, c .before .before .before .before .before .before .before .before .loop .inv .walking .small, c .before .before .before .before .before .before .before .loop-test .taken)
+    omega (
+      arith,
+      c .before .before .before .before .before .before .before .before .loop .inv .walking .small,
+      c
+          .before .before .before .before .before .before .before .loop-test .taken,
+    )
 
 returns-2 : tie.Need-returns-2 Inv-loop μ-loop
 returns-2 c =
     c .bad-bound2 .ensures
-    ∙ spoils (c .before .before .before .before .before .before .before .before .before .before .before .before .loop .inv) (c .before .before .before .before .before .before .before .before .before .before .before .loop-test .taken)
-    (sym (c .before .before .before .before .before .before .before .before .before .before .field-at .ensures) ∙ c .before .before .before .before .before .before .before .before .number .given .1)
-    (sym (c .before .before .before .before .before .before .is-args .ensures) ∙ c .before .before .before .before .before .if1 .taken) _ (c .before .before .before .before .argument-type .ensures)
+    ∙ spoils (c .before .before .before .before .before .before .before .before .before .before .before .before .loop
+    .inv) (c .before .before .before .before .before .before .before .before .before .before .before .loop-test
+    .taken)
+    (sym (c .before .before .before .before .before .before .before .before .before .before .field-at .ensures)
+    ∙ c .before .before .before .before .before .before .before .before .number .given .1)
+    (sym (c .before .before .before .before .before .before .is-args .ensures)
+    ∙ c .before .before .before .before .before .if1 .taken) _
+    (c .before .before .before .before .argument-type .ensures)
     (sym (ap (λ x. x .good) (c .before .before .before .with-type .ensures)) ∙ not-true _ (c .before .if2 .taken))
 
 loop-less : tie.Need-loop-less Inv-loop μ-loop
@@ -42,17 +53,22 @@ loop-less c =
     omega (
       arith,
       c .before .before .before .before .before .before .before .before .before .before .loop-test .taken,
-      ahead (c .before .before .before .before .before .before .before .before .before .before .before .loop .inv) (c .before .before .before .before .before .before .before .before .before .before .loop-test .taken)
-          (sym (c .before .before .before .before .before .before .before .before .before .field-at .ensures) ∙ c .before .before .before .before .before .before .before .number .given .1),
+      ahead (c .before .before .before .before .before .before .before .before .before .before .before .loop .inv)
+          (c .before .before .before .before .before .before .before .before .before .before .loop-test .taken)
+          (sym (c .before .before .before .before .before .before .before .before .before .field-at .ensures)
+          ∙ c .before .before .before .before .before .before .before .number .given .1),
     )
 
 loop-again : tie.Need-loop-again Inv-loop μ-loop
 loop-again c =
     let e = c .before .before .with-type .ensures in
     rw e
-    (counts-one (c .before .before .before .before .before .before .before .before .before .before .before .loop .inv) (c .before .before .before .before .before .before .before .before .before .before .loop-test .taken)
-    (sym (c .before .before .before .before .before .before .before .before .before .field-at .ensures) ∙ c .before .before .before .before .before .before .before .number .given .1)
-    (sym (c .before .before .before .before .before .is-args .ensures) ∙ c .before .before .before .before .if1 .taken) _ (c .before .before .before .argument-type .ensures)
+    (counts-one (c .before .before .before .before .before .before .before .before .before .before .before .loop
+    .inv) (c .before .before .before .before .before .before .before .before .before .before .loop-test .taken)
+    (sym (c .before .before .before .before .before .before .before .before .before .field-at .ensures)
+    ∙ c .before .before .before .before .before .before .before .number .given .1)
+    (sym (c .before .before .before .before .before .is-args .ensures)
+    ∙ c .before .before .before .before .if1 .taken) _ (c .before .before .before .argument-type .ensures)
     (sym (ap (λ x. x .good) e) ∙ not-false _ (c .if2 .left)))
 
 loop-less-2 : tie.Need-loop-less-2 Inv-loop μ-loop
@@ -60,16 +76,21 @@ loop-less-2 c =
     omega (
       arith,
       c .before .before .before .before .before .before .before .loop-test .taken,
-      ahead (c .before .before .before .before .before .before .before .before .loop .inv) (c .before .before .before .before .before .before .before .loop-test .taken)
-          (sym (c .before .before .before .before .before .before .field-at .ensures) ∙ c .before .before .before .before .number .given .1),
+      ahead (c .before .before .before .before .before .before .before .before .loop .inv)
+          (c .before .before .before .before .before .before .before .loop-test .taken)
+          (sym (c .before .before .before .before .before .before .field-at .ensures)
+          ∙ c .before .before .before .before .number .given .1),
     )
 
 loop-again-2 : tie.Need-loop-again-2 Inv-loop μ-loop
 loop-again-2 c =
     rw (c .with-field .ensures)
     (rw (c .before .before .before .before .before .before .before .before .before .before .wire-by .ensures)
-    (passes (c .before .before .before .before .before .before .before .before .loop .inv) (c .before .before .before .before .before .before .before .loop-test .taken)
-    (sym (c .before .before .before .before .before .before .field-at .ensures) ∙ c .before .before .before .before .number .given .1) (sym (c .before .before .is-args .ensures) ∙ c .before .if1 .left)))
+    (passes (c .before .before .before .before .before .before .before .before .loop .inv)
+    (c .before .before .before .before .before .before .before .loop-test .taken)
+    (sym (c .before .before .before .before .before .before .field-at .ensures)
+    ∙ c .before .before .before .before .number .given .1)
+    (sym (c .before .before .is-args .ensures) ∙ c .before .if1 .left)))
 
 returns-3 : tie.Need-returns-3 Inv-loop μ-loop
 returns-3 c = c .bound-of .ensures ∙ done (c .before .before .loop .inv) (c .before .loop-test .left)

@@ -35,12 +35,20 @@ returns-2 c =
 mul-if3 : tie.Need-mul-if3
 mul-if3 c =
     let a = c .before .before .before .before .before .before .before .before .args in
-    omega (arith, named-short (a .s .now) (a .at) (a .n) (c .before .first .given .1) (c .before .before .before .read-pair .ensures))
+    omega (
+      arith,
+      named-short (a .s .now) (a .at) (a .n) (c .before .first .given .1)
+          (c .before .before .before .read-pair .ensures),
+    )
 
 add-if3 : tie.Need-add-if3
 add-if3 c =
     let a = c .before .before .before .before .before .before .before .before .args in
-    omega (arith, named-short (a .s .now) (a .at) (a .n) (c .before .first .given .1) (c .before .before .before .read-pair .ensures))
+    omega (
+      arith,
+      named-short (a .s .now) (a .at) (a .n) (c .before .first .given .1)
+          (c .before .before .before .read-pair .ensures),
+    )
 
 returns-3 : tie.Need-returns-3
 unfolding rowsOf rowFor hasRequired anyOf ofAnyType
@@ -48,11 +56,13 @@ returns-3 c =
     let a = c .before .before .before .before .before .before .before .before .before .before .args in
     c .scalar-type .ensures
     ∙ ap (λ (x : Slots). anyTypeOf (anyOf (a .s .now) x))
-    (pair-bytes (a .s .now) (a .at) (a .n) (c .before .before .before .first .given .1) (c .before .before .before .before .before .read-pair .ensures)
+    (pair-bytes (a .s .now) (a .at) (a .n) (c .before .before .before .first .given .1)
+    (c .before .before .before .before .before .read-pair .ensures)
     (rowsOf any) 1 18 (c .before .if3 .taken) (omega arith) refl refl refl)
 
 slice-aggregate-read-argument : tie.Need-slice-aggregate-read-argument
-slice-aggregate-read-argument c = sym (ap length (take-length (c .before .before .before .before .before .before .before .args .s .now)))
+slice-aggregate-read-argument c = sym
+    (ap length (take-length (c .before .before .before .before .before .before .before .args .s .now)))
 
 returns-4 : tie.Need-returns-4
 returns-4 c =

@@ -1,4 +1,4 @@
--- By the laws on one field and on two the rows hold a value of the type that the key names, and such a value is a scalar.
+-- By the laws on one field and on two the rows hold a value of the type that the key names: a scalar.
 use Prim.Native.Nat.{ℕ}
 use native.Mathlib.Omega.{arith}
 use mathlib.Core.Bool.{true, false}
@@ -32,19 +32,28 @@ returns c =
 mul-named : tie.Need-mul-named
 mul-named c =
     let a = c .before .before .before .before .before .before .before .args in
-    omega (arith, named-short (a .s .now) (a .at) (a .n) (c .before .first .given .1) (c .before .before .before .read-pair .ensures))
+    omega (
+      arith,
+      named-short (a .s .now) (a .at) (a .n) (c .before .first .given .1)
+          (c .before .before .before .read-pair .ensures),
+    )
 
 add-named : tie.Need-add-named
 add-named c =
     let a = c .before .before .before .before .before .before .before .args in
-    omega (arith, named-short (a .s .now) (a .at) (a .n) (c .before .first .given .1) (c .before .before .before .read-pair .ensures))
+    omega (
+      arith,
+      named-short (a .s .now) (a .at) (a .n) (c .before .first .given .1)
+          (c .before .before .before .read-pair .ensures),
+    )
 
 returns-2 : tie.Need-returns-2
 unfolding rowsOf rowFor hasRequired scalarOf ofType
 returns-2 c =
     let a = c .before .before .before .before .before .before .before .before .args in
     ap (λ (x : Slots). anyTypeOf (scalarOf (a .s .now) x))
-    (pair-kept (a .s .now) (a .at) (a .n) (c .before .before .first .given .1) (c .before .before .before .before .read-pair .ensures)
+    (pair-kept (a .s .now) (a .at) (a .n) (c .before .before .first .given .1)
+    (c .before .before .before .before .read-pair .ensures)
     (rowsOf scalar) 1 16 (c .match2 .keys1) (omega arith) refl refl)
 
 returns-3 : tie.Need-returns-3
@@ -52,11 +61,14 @@ unfolding rowsOf rowFor hasRequired scalarOf ofType
 returns-3 c =
     let a = c .before .before .before .before .before .before .before .before .args in
     ap (λ (x : Slots). anyTypeOf (scalarOf (a .s .now) x))
-    (pair-kept (a .s .now) (a .at) (a .n) (c .before .before .first .given .1) (c .before .before .before .before .read-pair .ensures)
+    (pair-kept (a .s .now) (a .at) (a .n) (c .before .before .first .given .1)
+    (c .before .before .before .before .read-pair .ensures)
     (rowsOf scalar) 2 24 (c .match2 .keys2) (omega arith) refl refl)
 
 slice-aggregate-read-bytes : tie.Need-slice-aggregate-read-bytes
-slice-aggregate-read-bytes c = sym (ap length (take-length (c .before .before .before .before .before .before .before .before .before .args .s .now)))
+slice-aggregate-read-bytes c = sym
+    (ap length (take-length
+    (c .before .before .before .before .before .before .before .before .before .args .s .now)))
 
 returns-4 : tie.Need-returns-4
 unfolding rowsOf rowFor hasRequired scalarOf ofType
@@ -68,25 +80,32 @@ returns-4 c =
     (c .before .read-bytes .ensures
     ∙ ap (λ (l : List ℕ). bytesIn true l (f .0 .1 .1 .1 .0) (f .0 .1 .1 .0)) (take-length (a .s .now))
     ∙ ap (scalarOf (a .s .now))
-    (pair-bytes (a .s .now) (a .at) (a .n) (f .1) (c .before .before .before .before .before .before .before .read-pair .ensures)
+    (pair-bytes (a .s .now) (a .at) (a .n) (f .1)
+    (c .before .before .before .before .before .before .before .read-pair .ensures)
     (rowsOf scalar) 4 42 (c .before .before .before .match2 .keys3) (omega arith) refl refl refl))
 
 returns-5 : tie.Need-returns-5
 unfolding rowsOf rowFor hasRequired scalarOf ofType
 returns-5 c =
     let a = c .before .before .before .before .before .before .before .before .args in
-    either-scalar (nanBits binary64 (c .before .before .first .given .0 .1 .1 .0)) (Va.DoubleNan (c .before .before .first .given .0 .1 .1 .0)) (Va.Double (ofBits binary64 (c .before .before .first .given .0 .1 .1 .0))) refl refl
+    either-scalar (nanBits binary64 (c .before .before .first .given .0 .1 .1 .0))
+    (Va.DoubleNan (c .before .before .first .given .0 .1 .1 .0))
+    (Va.Double (ofBits binary64 (c .before .before .first .given .0 .1 .1 .0))) refl refl
     ∙ ap (λ (x : Slots). anyTypeOf (scalarOf (a .s .now) x))
-    (pair-kept (a .s .now) (a .at) (a .n) (c .before .before .first .given .1) (c .before .before .before .before .read-pair .ensures)
+    (pair-kept (a .s .now) (a .at) (a .n) (c .before .before .first .given .1)
+    (c .before .before .before .before .read-pair .ensures)
     (rowsOf scalar) 5 49 (c .match2 .keys4) (omega arith) refl refl)
 
 returns-6 : tie.Need-returns-6
 unfolding rowsOf rowFor hasRequired scalarOf ofType
 returns-6 c =
     let a = c .before .before .before .before .before .before .before .before .args in
-    either-scalar (nanBits binary32 (low32 (c .before .before .first .given .0 .1 .1 .0))) (Va.FloatNan (low32 (c .before .before .first .given .0 .1 .1 .0))) (Va.Float (ofBits binary32 (low32 (c .before .before .first .given .0 .1 .1 .0)))) refl refl
+    either-scalar (nanBits binary32 (low32 (c .before .before .first .given .0 .1 .1 .0)))
+    (Va.FloatNan (low32 (c .before .before .first .given .0 .1 .1 .0)))
+    (Va.Float (ofBits binary32 (low32 (c .before .before .first .given .0 .1 .1 .0)))) refl refl
     ∙ ap (λ (x : Slots). anyTypeOf (scalarOf (a .s .now) x))
-    (pair-kept (a .s .now) (a .at) (a .n) (c .before .before .first .given .1) (c .before .before .before .before .read-pair .ensures)
+    (pair-kept (a .s .now) (a .at) (a .n) (c .before .before .first .given .1)
+    (c .before .before .before .before .read-pair .ensures)
     (rowsOf scalar) 6 61 (c .match2 .keys5) (omega arith) refl refl)
 
 returns-7 : tie.Need-returns-7
@@ -94,11 +113,14 @@ unfolding rowsOf rowFor hasRequired scalarOf ofType
 returns-7 c =
     let a = c .before .before .before .before .before .before .before .before .args in
     ap (λ (x : Slots). anyTypeOf (scalarOf (a .s .now) x))
-    (pair-kept (a .s .now) (a .at) (a .n) (c .before .before .first .given .1) (c .before .before .before .before .read-pair .ensures)
+    (pair-kept (a .s .now) (a .at) (a .n) (c .before .before .first .given .1)
+    (c .before .before .before .before .read-pair .ensures)
     (rowsOf scalar) 7 64 (c .match2 .keys6) (omega arith) refl refl)
 
 slice-aggregate-read-bytes-2 : tie.Need-slice-aggregate-read-bytes-2
-slice-aggregate-read-bytes-2 c = sym (ap length (take-length (c .before .before .before .before .before .before .before .before .before .args .s .now)))
+slice-aggregate-read-bytes-2 c = sym
+    (ap length (take-length
+    (c .before .before .before .before .before .before .before .before .before .args .s .now)))
 
 returns-8 : tie.Need-returns-8
 unfolding rowsOf rowFor hasRequired scalarOf ofType
@@ -110,11 +132,13 @@ returns-8 c =
     (c .before .read-bytes2 .ensures
     ∙ ap (λ (l : List ℕ). bytesIn false l (f .0 .1 .1 .1 .0) (f .0 .1 .1 .0)) (take-length (a .s .now))
     ∙ ap (scalarOf (a .s .now))
-    (pair-bytes (a .s .now) (a .at) (a .n) (f .1) (c .before .before .before .before .before .before .before .read-pair .ensures)
+    (pair-bytes (a .s .now) (a .at) (a .n) (f .1)
+    (c .before .before .before .before .before .before .before .read-pair .ensures)
     (rowsOf scalar) 8 74 (c .before .before .before .match2 .keys7) (omega arith) refl refl refl))
 
 slice-aggregate-read-scalar : tie.Need-slice-aggregate-read-scalar
-slice-aggregate-read-scalar c = sym (ap length (take-length (c .before .before .before .before .before .before .args .s .now)))
+slice-aggregate-read-scalar c = sym
+    (ap length (take-length (c .before .before .before .before .before .before .args .s .now)))
 
 returns-9 : tie.Need-returns-9
 returns-9 c =

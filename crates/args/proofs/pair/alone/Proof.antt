@@ -8,10 +8,12 @@ use Rattle.args.proofs.pair.alone.Statement.{statement}
 use Rattle.args.proofs.pair.alone.Tie as tie
 
 returns : tie.Need-returns
-returns c = text-ends (c .before .before .before .before .args .end) (c .before .before .read .given .1) (omega (arith, c .if1 .taken))
+returns c = text-ends (c .before .before .before .before .args .end) (c .before .before .read .given .1)
+    (omega (arith, c .if1 .taken))
 
 returns-2 : tie.Need-returns-2
-returns-2 c = text-goes-on (c .before .before .before .before .args .end) (c .before .before .read .given .1) (c .if1 .left)
+returns-2 c = text-goes-on (c .before .before .before .before .args .end) (c .before .before .read .given .1)
+    (c .if1 .left)
 
 returns-3 : tie.Need-returns-3
 returns-3 c = ap (textOf (c .before .before .args .end)) (sym (c .enum-told .given .1))

@@ -9,7 +9,8 @@ use Rattle.args.proofs.pair.read_text.Statement.{statement}
 use Rattle.args.proofs.pair.read_text.Tie as tie
 
 slice-aggregate-text-at : tie.Need-slice-aggregate-text-at
-slice-aggregate-text-at c = let a = c .before .before .before .before .args in omega (arith, length-take (a .at + a .n) (a .s .now))
+slice-aggregate-text-at c = let a = c .before .before .before .before .args in omega
+    (arith, length-take (a .at + a .n) (a .s .now))
 
 returns : tie.Need-returns
 returns c = let a = c .before .before .args in text-past (a .s .now) (a .at) (a .n) (omega arith)
@@ -19,7 +20,8 @@ returns-2 c = let a = c .before .before .before .args in text-past (a .s .now) (
 
 returns-3 : tie.Need-returns-3
 returns-3 c =
-    let a = c .before .before .before .before .before .args in c .text-at .ensures ∙ text-cut (a .s .now) (a .at) (a .n) (omega arith)
+    let a = c .before .before .before .before .before .args in c .text-at .ensures ∙ text-cut (a .s .now) (a .at)
+    (a .n) (omega arith)
 
 pub read-text-spec : {M : Type 1} → statement M
 read-text-spec =

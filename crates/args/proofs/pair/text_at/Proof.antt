@@ -10,13 +10,15 @@ returns c = let a = c .before .before .args in text-none (a .s .now) (a .at) (c 
 
 returns-2 : tie.Need-returns-2
 returns-2 c =
-    let a = c .before .before .before .before .args in text-other (a .s .now) (a .at) (c .before .before .if1 .left) (c .if2 .taken)
+    let a = c .before .before .before .before .args in text-other (a .s .now) (a .at) (c .before .before .if1 .left)
+    (c .if2 .taken)
 
 returns-3 : tie.Need-returns-3
 returns-3 c =
     let a = c .before .before .before .before .before .before .args in
     c .alone .ensures
-    ∙ text-read (a .s .now) (a .at) (c .before .before .before .before .if1 .left) (c .before .before .if2 .left) _ (c .before .length-value .ensures)
+    ∙ text-read (a .s .now) (a .at) (c .before .before .before .before .if1 .left) (c .before .before .if2 .left) _
+    (c .before .length-value .ensures)
 
 pub text-at-spec : {M : Type 1} → statement M
 text-at-spec =

@@ -11,21 +11,24 @@ returns : tie.Need-returns
 returns c =
     let r = c .before .before .before .before .before .before in
     let a = r .before .before .args in
-    bytes-refused (a .s .now) (a .at) (a .n) (a .octets) (rw (r .bytes-rows .ensures) at (c .before .fill-part .ensures)) (not-true _ (c .if1 .taken))
+    bytes-refused (a .s .now) (a .at) (a .n) (a .octets)
+    (rw (r .bytes-rows .ensures) at (c .before .fill-part .ensures)) (not-true _ (c .if1 .taken))
 
 returns-2 : tie.Need-returns-2
 returns-2 c =
     let r = c .before .before .before .before .before .before .before in
     let a = r .before .before .args in
     yes _ _ (c .if2 .taken)
-    ∙ bytes-held (a .s .now) (a .at) (a .n) (a .octets) (rw (r .bytes-rows .ensures) at (c .before .before .fill-part .ensures)) (not-false _ (c .before .if1 .left))
+    ∙ bytes-held (a .s .now) (a .at) (a .n) (a .octets)
+    (rw (r .bytes-rows .ensures) at (c .before .before .fill-part .ensures)) (not-false _ (c .before .if1 .left))
 
 returns-3 : tie.Need-returns-3
 returns-3 c =
     let r = c .before .before .before .before .before .before .before in
     let a = r .before .before .args in
     without _ _ (c .if2 .left)
-    ∙ bytes-held (a .s .now) (a .at) (a .n) (a .octets) (rw (r .bytes-rows .ensures) at (c .before .before .fill-part .ensures)) (not-false _ (c .before .if1 .left))
+    ∙ bytes-held (a .s .now) (a .at) (a .n) (a .octets)
+    (rw (r .bytes-rows .ensures) at (c .before .before .fill-part .ensures)) (not-false _ (c .before .if1 .left))
 
 pub long-bytes-spec : {M : Type 1} → statement M
 long-bytes-spec =

@@ -20,7 +20,8 @@ returns c =
     let a = c .before .before .before .before .before .before .args in
     yes _ _ (c .if1 .taken)
     ∙ ap (bytesOf (a .octets))
-    (text-kept (a .s .now) (a .at) (a .n) (c .before .before .start .given .1) (c .before .before .before .before .read-text .ensures) (rowsOf bytes) refl)
+    (text-kept (a .s .now) (a .at) (a .n) (c .before .before .start .given .1)
+    (c .before .before .before .before .read-text .ensures) (rowsOf bytes) refl)
 
 returns-2 : tie.Need-returns-2
 unfolding rowsOf rowFor hasRequired
@@ -28,7 +29,8 @@ returns-2 c =
     let a = c .before .before .before .before .before .before .args in
     without _ _ (c .if1 .left)
     ∙ ap (bytesOf (a .octets))
-    (text-kept (a .s .now) (a .at) (a .n) (c .before .before .start .given .1) (c .before .before .before .before .read-text .ensures) (rowsOf bytes) refl)
+    (text-kept (a .s .now) (a .at) (a .n) (c .before .before .start .given .1)
+    (c .before .before .before .before .read-text .ensures) (rowsOf bytes) refl)
 
 slice-aggregate-long-bytes : tie.Need-slice-aggregate-long-bytes
 slice-aggregate-long-bytes c = sym (ap length (take-length (c .before .before .before .before .before .args .s .now)))

@@ -20,7 +20,8 @@ add-arguments : tie.Need-add-arguments
 add-arguments c =
     let b = c .before .before .before .before .before .read-bound in
     let a = c .before .before .before .before .before .before .before .args in
-    let f = bound-found false (a .s .now) (a .at) (a .n) (b .result) (b .ensures) (not-false _ (c .before .before .before .if1 .left)) in
+    let f = bound-found false (a .s .now) (a .at) (a .n) (b .result) (b .ensures)
+    (not-false _ (c .before .before .before .if1 .left)) in
     record { fits = omega (arith, f .inside) }
 
 returns-2 : tie.Need-returns-2
@@ -31,7 +32,8 @@ returns-2 c =
     (rw (c .before .read-truth .ensures)
     (rw (c .before .before .read-optional .ensures)
     (rw (c .before .before .before .low .ensures)
-    (run-found (a .s .now) (a .at) (a .n) (b .result) (b .ensures) (not-false _ (c .before .before .before .before .if1 .left))))))
+    (run-found (a .s .now) (a .at) (a .n) (b .result) (b .ensures)
+    (not-false _ (c .before .before .before .before .if1 .left))))))
 
 pub execute-in-spec : {M : Type 1} → statement M
 execute-in-spec =

@@ -20,13 +20,15 @@ returns : tie.Need-returns
 returns c =
     let f = c .before in
     let a = f .before .before .before .before .before .before .before .args in
-    open-spoiled (a .s .now) (a .id) (optionalBy (a .has) (a .asked)) (a .at) (a .n) (held f) (not-true _ (c .if1 .taken))
+    open-spoiled (a .s .now) (a .id) (optionalBy (a .has) (a .asked)) (a .at) (a .n) (held f)
+    (not-true _ (c .if1 .taken))
 
 returns-2 : tie.Need-returns-2
 returns-2 c =
     let f = c .before .before in
     let a = f .before .before .before .before .before .before .before .args in
-    open-without (a .s .now) (a .id) (optionalBy (a .has) (a .asked)) (a .at) (a .n) (held f) (not-false _ (c .before .if1 .left))
+    open-without (a .s .now) (a .id) (optionalBy (a .has) (a .asked)) (a .at) (a .n) (held f)
+    (not-false _ (c .before .if1 .left))
     (not-true _ (c .if2 .taken))
 
 returns-3 : tie.Need-returns-3

@@ -13,7 +13,8 @@ returns c =
     let f = c .before in
     let r = f .before .before .before .before .before in
     let s = r .before .before .args .s .now in
-    open-refused s (holds-lent (r .open-rows .ensures) s payload (f .fill-fields .ensures)) (not-true _ (c .if1 .taken))
+    open-refused s (holds-lent (r .open-rows .ensures) s payload (f .fill-fields .ensures))
+    (not-true _ (c .if1 .taken))
 
 returns-2 : tie.Need-returns-2
 returns-2 c =

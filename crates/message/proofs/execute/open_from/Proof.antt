@@ -13,7 +13,13 @@ returns : tie.Need-returns
 returns c =
     let a = c .before .before .before .args in
     payload-bad (a .s .now) Client.open'
-    (Request.Open (record { cursor = low32 (a .id); rows = optionalBy (a .has) (a .asked); body = a .body; execute = a .x }))
+    (Request.Open (record {
+      cursor = low32 (a .id);
+      rows = optionalBy (a .has)
+          (a .asked);
+      body = a .body;
+      execute = a .x;
+    }))
     {good = a .x .args .good} (not-true _ (c .if1 .taken))
 
 returns-2 : tie.Need-returns-2
@@ -22,7 +28,13 @@ returns-2 c =
     rw (c .read-optional .ensures)
     (rw (c .before .low .ensures)
     (payload-good (a .s .now) Client.open'
-    (Request.Open (record { cursor = low32 (a .id); rows = optionalBy (a .has) (a .asked); body = a .body; execute = a .x }))
+    (Request.Open (record {
+      cursor = low32 (a .id);
+      rows = optionalBy (a .has)
+          (a .asked);
+      body = a .body;
+      execute = a .x;
+    }))
     {good = a .x .args .good} (not-false _ (c .before .before .if1 .left))))
 
 pub open-from-spec : {M : Type 1} → statement M

@@ -34,9 +34,11 @@ returns c =
     let f = c .before .before .before .before .first .given in
     let v = f .0 .1 .1 in
     c .open-from .ensures
-    ∙ ap (openFrom (a .s .now) (a .id) (optionalBy (a .has) (a .asked)) (record { start = v .1 .0; len = v .0 })) (c .before .execute-in .ensures)
+    ∙ ap (openFrom (a .s .now) (a .id) (optionalBy (a .has) (a .asked)) (record { start = v .1 .0; len = v .0 }))
+    (c .before .execute-in .ensures)
     ∙ ap (openChosen (a .s .now) (a .id) (optionalBy (a .has) (a .asked)))
-    (pair-bytes (a .s .now) (a .at) (a .n) (f .1) (c .before .before .before .before .before .before .read-pair .ensures) (rowsOf openStmt) 0 18
+    (pair-bytes (a .s .now) (a .at) (a .n) (f .1)
+    (c .before .before .before .before .before .before .read-pair .ensures) (rowsOf openStmt) 0 18
     (c .before .before .if1 .taken) (omega arith) refl refl refl)
 
 slice-aggregate-long-inside : tie.Need-slice-aggregate-long-inside
@@ -46,7 +48,8 @@ returns-2 : tie.Need-returns-2
 returns-2 c =
     let a = c .before .before .before .before .before .args in
     c .long-inside .ensures
-    ∙ ap (λ (l : List ℕ). openInside l (a .id) (optionalBy (a .has) (a .asked)) (a .at) (a .n)) (take-length (a .s .now))
+    ∙ ap (λ (l : List ℕ). openInside l (a .id) (optionalBy (a .has) (a .asked)) (a .at) (a .n))
+    (take-length (a .s .now))
 
 pub open-inside-spec : {M : Type 1} → statement M
 open-inside-spec =

@@ -13,13 +13,15 @@ returns : tie.Need-returns
 returns c =
     let s = c .before .before .before .before .before .before .args .s .now in
     c .open-inside .ensures
-    ∙ open-paired s (subst (Says s) (c .before .before .id .given .1) (c .before .before .before .before .read-outer .ensures))
+    ∙ open-paired s (subst (Says s) (c .before .before .id .given .1)
+    (c .before .before .before .before .read-outer .ensures))
 
 slice-aggregate-long-open : tie.Need-slice-aggregate-long-open
 slice-aggregate-long-open c = sym (ap length (take-length (c .before .before .before .before .before .args .s .now)))
 
 returns-2 : tie.Need-returns-2
-returns-2 c = c .long-open .ensures ∙ ap openFrame (take-length (c .before .before .before .before .before .before .args .s .now))
+returns-2 c = c .long-open .ensures ∙ ap openFrame
+    (take-length (c .before .before .before .before .before .before .args .s .now))
 
 pub read-open-spec : {M : Type 1} → statement M
 read-open-spec =

@@ -8,7 +8,9 @@ use borrow.Author.Needs.{needs}
 use Rattle.message.proofs.outer.read_outer.Statement.{statement}
 use Rattle.message.proofs.outer.read_outer.Tie as tie
 
-first : (c : tie.Else4) → FieldOne (c .before .before .before .before .before .before .before .before .before .args .s .now) payload (c .before .before .before .wide .result)
+first : (c : tie.Else4) → FieldOne
+    (c .before .before .before .before .before .before .before .before .before .args .s .now) payload
+    (c .before .before .before .wide .result)
 first c =
     record {
       inside = omega arith;
@@ -20,16 +22,23 @@ first c =
 returns-6 : tie.Need-returns-6
 returns-6 c =
     let f = c .before .before .before .before .before in
-    opens-two (c .before .before .before .before .before .before .before .before .before .before .before .before .before .before .args .s .now) (f .before .before .before .wide .result) (first f) (omega arith) (f .if4 .left)
-    (sym (c .before .before .before .before .length-value .ensures) ∙ c .before .before .start .given .1) (c .if5 .taken)
+    opens-two (c .before .before .before .before .before .before .before .before .before .before .before .before
+    .before .before .args .s .now) (f .before .before .before .wide .result) (first f) (omega arith) (f .if4 .left)
+    (sym (c .before .before .before .before .length-value .ensures) ∙ c .before .before .start .given .1)
+    (c .if5 .taken)
 
 returns-10 : tie.Need-returns-10
 returns-10 c =
     let f = c .before .before .before .before .before .before .before .before .before .before .before .before in
-    opens-three (c .before .before .before .before .before .before .before .before .before .before .before .before .before .before .before .before .before .before .before .before .before .args .s .now) (f .before .before .before .wide .result) (first f) (omega arith) (f .if4 .left)
-    (sym (c .before .before .before .before .before .before .before .before .before .before .before .length-value .ensures) ∙ c .before .before .before .before .before .before .before .before .before .start .given .1)
-    (c .before .before .before .before .before .before .before .if5 .left) (c .before .before .before .before .before .if6 .left)
-    (sym (c .before .before .before .before .number-value .ensures) ∙ c .before .before .rows .given .1) (omega (arith, c .if7 .left))
+    opens-three (c .before .before .before .before .before .before .before .before .before .before .before .before
+    .before .before .before .before .before .before .before .before .before .args .s .now)
+    (f .before .before .before .wide .result) (first f) (omega arith) (f .if4 .left)
+    (sym (c .before .before .before .before .before .before .before .before .before .before .before .length-value
+    .ensures) ∙ c .before .before .before .before .before .before .before .before .before .start .given .1)
+    (c .before .before .before .before .before .before .before .if5 .left)
+    (c .before .before .before .before .before .if6 .left)
+    (sym (c .before .before .before .before .number-value .ensures) ∙ c .before .before .rows .given .1)
+    (omega (arith, c .if7 .left))
 
 pub read-outer-spec : {M : Type 1} → statement M
 read-outer-spec =

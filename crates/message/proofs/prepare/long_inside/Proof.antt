@@ -26,7 +26,8 @@ returns-2 c =
     let f = c .before .before .before in
     let a = f .before .before .before .before .before .before .before .args in
     let k = c .before .field-of in
-    prepare-without (a .s .now) (a .id) (a .at) (a .n) (held f) (not-false _ (c .before .before .if1 .left)) (k .result)
+    prepare-without (a .s .now) (a .id) (a .at) (a .n) (held f) (not-false _ (c .before .before .if1 .left))
+    (k .result)
     (k .ensures .0)
     (not-true _ (c .if2 .taken))
 

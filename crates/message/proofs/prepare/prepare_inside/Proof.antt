@@ -32,7 +32,8 @@ add-if1 c =
 
 -- the statement that was found, by the arguments of its body
 chosen : (c : tie.Then1) (b : Arguments) →
-    let a = c .before .before .before .before .before .before .args in let v = c .before .before .first .given .0 .1 .1 in
+    let a = c .before .before .before .before .before .before .args in let v = c .before .before .first .given .0 .1
+    .1 in
     b ≡ bodyIn (a .s .now) Operation.stmtExecute (v .1 .0) (v .0) →
     prepareFrom (a .s .now) (a .id) Operation.stmtExecute (record { start = v .1 .0; len = v .0 }) b
     ≡ prepareInside (a .s .now) (a .id) (a .at) (a .n)
@@ -43,7 +44,8 @@ chosen c b e =
     let v = f .0 .1 .1 in
     ap (prepareFrom (a .s .now) (a .id) Operation.stmtExecute (record { start = v .1 .0; len = v .0 })) e
     ∙ ap (prepareRead (a .s .now) (a .id))
-    (pair-bytes (a .s .now) (a .at) (a .n) (f .1) (c .before .before .before .before .read-pair .ensures) (rowsOf prepareStmt)
+    (pair-bytes (a .s .now) (a .at) (a .n) (f .1) (c .before .before .before .before .read-pair .ensures)
+    (rowsOf prepareStmt)
     5 50 (c .if1 .taken) (omega arith) refl refl refl)
 
 add-none : tie.Need-add-none
@@ -64,12 +66,15 @@ returns c =
     (c .before .before .before .before .read-text .ensures))
 
 slice-aggregate-read-body : tie.Need-slice-aggregate-read-body
-slice-aggregate-read-body c = sym (ap length (take-length (c .before .before .before .before .before .before .before .before .before .before .args .s .now)))
+slice-aggregate-read-body c = sym
+    (ap length (take-length
+    (c .before .before .before .before .before .before .before .before .before .before .args .s .now)))
 
 returns-2 : tie.Need-returns-2
 returns-2 c =
     let v = c .before .before .before .before .before .before .before .before .first .given .0 .1 .1 in
-    let s = c .before .before .before .before .before .before .before .before .before .before .before .before .args .s .now in
+    let s = c .before .before .before .before .before .before .before .before .before .before .before .before .args
+    .s .now in
     c .prepare-from2 .ensures
     ∙ chosen (c .before .before .before .before .before .before) _
     (c .before .read-body .ensures

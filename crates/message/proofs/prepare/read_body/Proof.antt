@@ -18,7 +18,8 @@ returns c =
     let b = c .before .before .before .read-bound in
     let a = c .before .before .before .before .before .before .args in
     c .bad .ensures
-    ∙ body-lost (a .s .now) (a .operation) (a .at) (a .n) (c .before .before .before .before .if1 .taken) (b .result) (b .ensures)
+    ∙ body-lost (a .s .now) (a .operation) (a .at) (a .n) (c .before .before .before .before .if1 .taken) (b .result)
+    (b .ensures)
     (not-true _ (c .before .if2 .taken))
 
 add-arguments : tie.Need-add-arguments
@@ -33,7 +34,8 @@ returns-2 c =
     let b = c .before .before .before .read-bound in
     let a = c .before .before .before .before .before .before .args in
     c .arguments .ensures
-    ∙ body-found (a .s .now) (a .operation) (a .at) (a .n) (c .before .before .before .before .if1 .taken) (b .result) (b .ensures)
+    ∙ body-found (a .s .now) (a .operation) (a .at) (a .n) (c .before .before .before .before .if1 .taken)
+    (b .result) (b .ensures)
     (not-false _ (c .before .if2 .left))
 
 returns-3 : tie.Need-returns-3
@@ -42,7 +44,8 @@ returns-3 c =
     let a = f .before .before .before .before .before .before .before .before .args in
     c .bad2 .ensures
     ∙ body-list-bad (a .s .now) (a .operation) (a .at) (a .n) (embedded [] (a .s .now) (a .at) (a .n))
-    (f .before .before .before .before .before .before .if1 .left) refl (held-good (f .fill-part .ensures) (not-true _ (c .before .if3 .taken)))
+    (f .before .before .before .before .before .before .if1 .left) refl
+    (held-good (f .fill-part .ensures) (not-true _ (c .before .if3 .taken)))
 
 returns-4 : tie.Need-returns-4
 returns-4 c =
@@ -50,7 +53,8 @@ returns-4 c =
     let a = f .before .before .before .before .before .before .before .before .args in
     c .none .ensures
     ∙ body-list (a .s .now) (a .operation) (a .at) (a .n) (embedded [] (a .s .now) (a .at) (a .n))
-    (f .before .before .before .before .before .before .if1 .left) refl (held-good (f .fill-part .ensures) (not-false _ (c .before .if3 .left)))
+    (f .before .before .before .before .before .before .if1 .left) refl
+    (held-good (f .fill-part .ensures) (not-false _ (c .before .if3 .left)))
 
 pub read-body-spec : {M : Type 1} → statement M
 read-body-spec =

@@ -19,7 +19,8 @@ slice-aggregate-long-prepare : tie.Need-slice-aggregate-long-prepare
 slice-aggregate-long-prepare c = sym (ap length (take-length (c .before .before .before .args .s .now)))
 
 returns-2 : tie.Need-returns-2
-returns-2 c = c .long-prepare .ensures ∙ ap prepareFrame (take-length (c .before .before .before .before .args .s .now))
+returns-2 c = c .long-prepare .ensures ∙ ap prepareFrame
+    (take-length (c .before .before .before .before .args .s .now))
 
 pub read-prepare-spec : {M : Type 1} → statement M
 read-prepare-spec =

@@ -15,7 +15,8 @@ slice-aggregate-read-tag : tie.Need-slice-aggregate-read-tag
 slice-aggregate-read-tag c = sym (ap length (take-length (c .before .before .args .s .now)))
 
 slice-aggregate-tagged : tie.Need-slice-aggregate-tagged
-slice-aggregate-tagged c = sym (ap length (take-length (c .before .before .before .before .before .before .before .args .s .now)))
+slice-aggregate-tagged c = sym
+    (ap length (take-length (c .before .before .before .before .before .before .before .args .s .now)))
 
 returns : tie.Need-returns
 returns c =
@@ -24,7 +25,8 @@ returns c =
     c .tagged .ensures
     ∙ ap (λ (l : List ℕ). fieldOf l (f .0 .0) (f .0 .1 .0) (f .0 .1 .1 .0)) (take-length (a .s .now))
     ∙ sym (field-tagged (a .s .now) (a .at) _
-    (sym (c .before .before .before .before .before .read-tag .ensures ∙ ap (λ (l : List ℕ). tagAt l (a .at)) (take-length (a .s .now))) ∙ f .1))
+    (sym (c .before .before .before .before .before .read-tag .ensures ∙ ap (λ (l : List ℕ). tagAt l (a .at))
+    (take-length (a .s .now))) ∙ f .1))
 
 returns-2 : tie.Need-returns-2
 returns-2 c =

@@ -7,7 +7,9 @@ use lib.ListN.{length}
 use lib.Seq.{take-length}
 use Rattle.wire.specs.Group.{groupEnd}
 use native.Mathlib.Nat.{pos-of-ne-zero}
-use Rattle.wire.proofs.GroupLaws.{Skipping, shut, starts, unended, no-tag, ended, misended, inner-bad, inner-past, inner-on, value-bad, value-past, value-on, group-lent, value-lent}
+use Rattle.wire.proofs.GroupLaws.{Skipping, shut, starts, unended, no-tag, ended, misended, inner-bad}
+use Rattle.wire.proofs.GroupLaws.{inner-past, inner-on, value-bad, value-past, value-on, group-lent}
+use Rattle.wire.proofs.GroupLaws.{value-lent}
 use Prim.Native.Nat.{ℕ, _<_}
 use borrow.Fn.Kinds.{In}
 use borrow.Fn.PlainCycle.{Measures, is, falls, and}
@@ -59,43 +61,99 @@ pub +skip-group-spec : {M : Type 1} → statement M
     (sym (c .before .before .read-tag .ensures) ∙ c .enum-told .given .1))
     (λ c. ended (c .before .before .before .before .before .before .before .loop .inv) (c .before .before .before .before .before .before .loop-test .taken) (sym (c .before .before .before .before .before .read-tag .ensures) ∙ c .before .before .before .n .given .1) (c .before .if2 .taken) (c .if3 .taken))
     (λ c. misended (c .before .before .before .before .before .before .before .loop .inv) (c .before .before .before .before .before .before .loop-test .taken) (sym (c .before .before .before .before .before .read-tag .ensures) ∙ c .before .before .before .n .given .1) (c .before .if2 .taken) (c .if3 .left))
-    (λ c. sym (ap length (take-length (c .before .before .before .before .before .before .before .before .before .before .before .args .s .now))))
+    (λ c. sym (ap length (take-length
+    (c .before .before .before .before .before .before .before .before .before .before .before .args .s .now))))
     (λ c. (c .before .before .before .before .before .before .before .before .loop .inv) .deep)
-    (λ c κs. (omega (arith, c .before .before .before .before .before .before .before .before .before .before .before .pre .0, (c .before .before .before .before .before .before .before .before .loop .inv) .deep), tt))
+    (λ c κs. (
+      omega (
+        arith,
+        c .before .before .before .before .before .before .before .before .before .before .before
+            .pre .0,
+        (c .before .before .before .before .before .before .before .before .loop .inv) .deep,
+      ),
+      tt,
+    ))
     (λ c. search needs)
     (λ c. search needs)
-    (λ c. inner-bad (c .before .before .before .before .before .before .before .before .before .before .before .loop .inv) (c .before .before .before .before .before .before .before .before .before .before .loop-test .taken)
-    (sym (c .before .before .before .before .before .before .before .before .before .read-tag .ensures) ∙ c .before .before .before .before .before .before .before .n .given .1)
+    (λ c. inner-bad (c .before .before .before .before .before .before .before .before .before .before .before .loop
+    .inv) (c .before .before .before .before .before .before .before .before .before .before .loop-test .taken)
+    (sym (c .before .before .before .before .before .before .before .before .before .read-tag .ensures)
+    ∙ c .before .before .before .before .before .before .before .n .given .1)
     (c .before .before .before .before .before .if2 .left) (c .before .before .before .before .if4 .taken)
-    (group-lent (c .before .before .before .before .before .before .before .before .before .before .before .before .before .before .args .s .now) (c .before .before .before .before .before .before .before .before .before .before .before .before .before .before .args .depth - 1) (c .before .before .before .before .before .before .before .n .given .0 .1 .1 .0) (c .before .before .before .before .before .before .before .n .given .0 .0) (c .before .before .skip-group .ensures) ∙ c .enum-told2 .given .1))
+    (group-lent (c .before .before .before .before .before .before .before .before .before .before .before .before
+    .before .before .args .s .now)
+    (c .before .before .before .before .before .before .before .before .before .before .before .before .before
+    .before .args .depth - 1) (c .before .before .before .before .before .before .before .n .given .0 .1 .1 .0)
+    (c .before .before .before .before .before .before .before .n .given .0 .0)
+    (c .before .before .skip-group .ensures) ∙ c .enum-told2 .given .1))
     (λ c. omega (
       arith,
       c .before .before .before .before .before .before .before .before .before .before .before .loop-test .taken,
-      inner-past (c .before .before .before .before .before .before .before .before .before .before .before .before .loop .inv) (c .before .before .before .before .before .before .before .before .before .before .before .loop-test .taken)
-          (sym (c .before .before .before .before .before .before .before .before .before .before .read-tag .ensures) ∙ c .before .before .before .before .before .before .before .before .n .given .1)
-          (group-lent (c .before .before .before .before .before .before .before .before .before .before .before .before .before .before .before .args .s .now) (c .before .before .before .before .before .before .before .before .before .before .before .before .before .before .before .args .depth - 1) (c .before .before .before .before .before .before .before .before .n .given .0 .1 .1 .0) (c .before .before .before .before .before .before .before .before .n .given .0 .0) (c .before .before .before .skip-group .ensures) ∙ c .before .q .given .1),
+      inner-past (c .before .before .before .before .before .before .before .before .before .before .before .before
+          .loop .inv) (c .before .before .before .before .before .before .before .before .before .before .before
+          .loop-test .taken)
+          (sym (c .before .before .before .before .before .before .before .before .before .before .read-tag .ensures)
+          ∙ c .before .before .before .before .before .before .before .before .n .given .1)
+          (group-lent (c .before .before .before .before .before .before .before .before .before .before .before
+          .before .before .before .before .args .s .now)
+          (c .before .before .before .before .before .before .before .before .before .before .before .before .before
+          .before .before .args .depth - 1)
+          (c .before .before .before .before .before .before .before .before .n .given .0 .1 .1 .0)
+          (c .before .before .before .before .before .before .before .before .n .given .0 .0)
+          (c .before .before .before .skip-group .ensures) ∙ c .before .q .given .1),
     ))
-    (λ c. inner-on (c .before .before .before .before .before .before .before .before .before .before .before .before .loop .inv) (c .before .before .before .before .before .before .before .before .before .before .before .loop-test .taken)
-    (sym (c .before .before .before .before .before .before .before .before .before .before .read-tag .ensures) ∙ c .before .before .before .before .before .before .before .before .n .given .1)
-    (c .before .before .before .before .before .before .if2 .left) (c .before .before .before .before .before .if4 .taken)
-    (group-lent (c .before .before .before .before .before .before .before .before .before .before .before .before .before .before .before .args .s .now) (c .before .before .before .before .before .before .before .before .before .before .before .before .before .before .before .args .depth - 1) (c .before .before .before .before .before .before .before .before .n .given .0 .1 .1 .0) (c .before .before .before .before .before .before .before .before .n .given .0 .0) (c .before .before .before .skip-group .ensures) ∙ c .before .q .given .1))
-    (λ c. sym (ap length (take-length (c .before .before .before .before .before .before .before .before .before .before .before .args .s .now))))
+    (λ c. inner-on (c .before .before .before .before .before .before .before .before .before .before .before .before
+    .loop .inv) (c .before .before .before .before .before .before .before .before .before .before .before .loop-test
+    .taken)
+    (sym (c .before .before .before .before .before .before .before .before .before .before .read-tag .ensures)
+    ∙ c .before .before .before .before .before .before .before .before .n .given .1)
+    (c .before .before .before .before .before .before .if2 .left)
+    (c .before .before .before .before .before .if4 .taken)
+    (group-lent (c .before .before .before .before .before .before .before .before .before .before .before .before
+    .before .before .before .args .s .now)
+    (c .before .before .before .before .before .before .before .before .before .before .before .before .before
+    .before .before .args .depth - 1)
+    (c .before .before .before .before .before .before .before .before .n .given .0 .1 .1 .0)
+    (c .before .before .before .before .before .before .before .before .n .given .0 .0)
+    (c .before .before .before .skip-group .ensures) ∙ c .before .q .given .1))
+    (λ c. sym (ap length (take-length
+    (c .before .before .before .before .before .before .before .before .before .before .before .args .s .now))))
     (λ c κs. tt)
     (λ c. search needs)
     (λ c. search needs)
-    (λ c. value-bad (c .before .before .before .before .before .before .before .before .before .before .before .loop .inv) (c .before .before .before .before .before .before .before .before .before .before .loop-test .taken)
-    (sym (c .before .before .before .before .before .before .before .before .before .read-tag .ensures) ∙ c .before .before .before .before .before .before .before .n .given .1)
+    (λ c. value-bad (c .before .before .before .before .before .before .before .before .before .before .before .loop
+    .inv) (c .before .before .before .before .before .before .before .before .before .before .loop-test .taken)
+    (sym (c .before .before .before .before .before .before .before .before .before .read-tag .ensures)
+    ∙ c .before .before .before .before .before .before .before .n .given .1)
     (c .before .before .before .before .before .if2 .left) (c .before .before .before .before .if4 .left)
-    (value-lent (c .before .before .before .before .before .before .before .before .before .before .before .before .before .before .args .s .now) (c .before .before .before .before .before .before .before .n .given .0 .1 .0) (c .before .before .before .before .before .before .before .n .given .0 .1 .1 .0) (c .before .before .skip-value .ensures) ∙ c .enum-told3 .given .1))
+    (value-lent (c .before .before .before .before .before .before .before .before .before .before .before .before
+    .before .before .args .s .now) (c .before .before .before .before .before .before .before .n .given .0 .1 .0)
+    (c .before .before .before .before .before .before .before .n .given .0 .1 .1 .0)
+    (c .before .before .skip-value .ensures) ∙ c .enum-told3 .given .1))
     (λ c. omega (
       arith,
       c .before .before .before .before .before .before .before .before .before .before .before .loop-test .taken,
-      value-past (c .before .before .before .before .before .before .before .before .before .before .before .before .loop .inv) (c .before .before .before .before .before .before .before .before .before .before .before .loop-test .taken)
-          (sym (c .before .before .before .before .before .before .before .before .before .before .read-tag .ensures) ∙ c .before .before .before .before .before .before .before .before .n .given .1)
-          (value-lent (c .before .before .before .before .before .before .before .before .before .before .before .before .before .before .before .args .s .now) (c .before .before .before .before .before .before .before .before .n .given .0 .1 .0) (c .before .before .before .before .before .before .before .before .n .given .0 .1 .1 .0) (c .before .before .before .skip-value .ensures) ∙ c .before .q2 .given .1),
+      value-past (c .before .before .before .before .before .before .before .before .before .before .before .before
+          .loop .inv) (c .before .before .before .before .before .before .before .before .before .before .before
+          .loop-test .taken)
+          (sym (c .before .before .before .before .before .before .before .before .before .before .read-tag .ensures)
+          ∙ c .before .before .before .before .before .before .before .before .n .given .1)
+          (value-lent (c .before .before .before .before .before .before .before .before .before .before .before
+          .before .before .before .before .args .s .now)
+          (c .before .before .before .before .before .before .before .before .n .given .0 .1 .0)
+          (c .before .before .before .before .before .before .before .before .n .given .0 .1 .1 .0)
+          (c .before .before .before .skip-value .ensures) ∙ c .before .q2 .given .1),
     ))
-    (λ c. value-on (c .before .before .before .before .before .before .before .before .before .before .before .before .loop .inv) (c .before .before .before .before .before .before .before .before .before .before .before .loop-test .taken)
-    (sym (c .before .before .before .before .before .before .before .before .before .before .read-tag .ensures) ∙ c .before .before .before .before .before .before .before .before .n .given .1)
-    (c .before .before .before .before .before .before .if2 .left) (c .before .before .before .before .before .if4 .left)
-    (value-lent (c .before .before .before .before .before .before .before .before .before .before .before .before .before .before .before .args .s .now) (c .before .before .before .before .before .before .before .before .n .given .0 .1 .0) (c .before .before .before .before .before .before .before .before .n .given .0 .1 .1 .0) (c .before .before .before .skip-value .ensures) ∙ c .before .q2 .given .1))
+    (λ c. value-on (c .before .before .before .before .before .before .before .before .before .before .before .before
+    .loop .inv) (c .before .before .before .before .before .before .before .before .before .before .before .loop-test
+    .taken)
+    (sym (c .before .before .before .before .before .before .before .before .before .before .read-tag .ensures)
+    ∙ c .before .before .before .before .before .before .before .before .n .given .1)
+    (c .before .before .before .before .before .before .if2 .left)
+    (c .before .before .before .before .before .if4 .left)
+    (value-lent (c .before .before .before .before .before .before .before .before .before .before .before .before
+    .before .before .before .args .s .now)
+    (c .before .before .before .before .before .before .before .before .n .given .0 .1 .0)
+    (c .before .before .before .before .before .before .before .before .n .given .0 .1 .1 .0)
+    (c .before .before .before .skip-value .ensures) ∙ c .before .q2 .given .1))
     (λ c. unended (c .before .loop .inv) (c .loop-test .left))

@@ -7,21 +7,28 @@ use Rattle.wire.proofs.tag.long_tag.Statement.{statement}
 use Rattle.wire.proofs.tag.long_tag.Tie as tie
 
 returns : tie.Need-returns
-returns c = tag-high _ _ (c .if1 .taken) ∙ ap tagOf (sym (c .before .before .value .given .1) ∙ c .before .before .before .before .read-varint .ensures)
+returns c = tag-high _ _ (c .if1 .taken) ∙ ap tagOf
+    (sym (c .before .before .value .given .1) ∙ c .before .before .before .before .read-varint .ensures)
 
 returns-2 : tie.Need-returns-2
-returns-2 c = tag-low _ _ (c .before .if1 .left) (c .if2 .taken) ∙ ap tagOf (sym (c .before .before .before .value .given .1) ∙ c .before .before .before .before .before .read-varint .ensures)
+returns-2 c = tag-low _ _ (c .before .if1 .left) (c .if2 .taken) ∙ ap tagOf
+    (sym (c .before .before .before .value .given .1)
+    ∙ c .before .before .before .before .before .read-varint .ensures)
 
 returns-3 : tie.Need-returns-3
 returns-3 c =
-    tag-unlisted _ _ (c .before .before .if1 .left) (c .before .if2 .left) (c .if3 .taken) ∙ ap tagOf (sym (c .before .before .before .before .value .given .1) ∙ c .before .before .before .before .before .before .read-varint .ensures)
+    tag-unlisted _ _ (c .before .before .if1 .left) (c .before .if2 .left) (c .if3 .taken) ∙ ap tagOf
+    (sym (c .before .before .before .before .value .given .1)
+    ∙ c .before .before .before .before .before .before .read-varint .ensures)
 
 returns-4 : tie.Need-returns-4
 returns-4 c = ap tagOf (sym (c .enum-told .given .1) ∙ c .before .before .read-varint .ensures)
 
 returns-5 : tie.Need-returns-5
 returns-5 c =
-    tag-good _ _ (c .before .before .if1 .left) (c .before .if2 .left) (c .if3 .left) ∙ ap tagOf (sym (c .before .before .before .before .value .given .1) ∙ c .before .before .before .before .before .before .read-varint .ensures)
+    tag-good _ _ (c .before .before .if1 .left) (c .before .if2 .left) (c .if3 .left) ∙ ap tagOf
+    (sym (c .before .before .before .before .value .given .1)
+    ∙ c .before .before .before .before .before .before .read-varint .ensures)
 
 pub long-tag-spec : {M : Type 1} → statement M
 long-tag-spec =

@@ -14,13 +14,15 @@ returns : tie.Need-returns
 returns c =
     let a = c .before .before .before .before .before .before .args in
     let b = c .before .before .wide in
-    short-low (a .s .now) (a .at) (b .result) (c .before .before .before .before .if1 .taken) (b .ensures) (c .before .if2 .taken) (c .if3 .taken)
+    short-low (a .s .now) (a .at) (b .result) (c .before .before .before .before .if1 .taken) (b .ensures)
+    (c .before .if2 .taken) (c .if3 .taken)
 
 returns-2 : tie.Need-returns-2
 returns-2 c =
     let a = c .before .before .before .before .before .before .before .args in
     let b = c .before .before .before .wide in
-    short-unlisted (a .s .now) (a .at) (b .result) (c .before .before .before .before .before .if1 .taken) (b .ensures)
+    short-unlisted (a .s .now) (a .at) (b .result) (c .before .before .before .before .before .if1 .taken)
+    (b .ensures)
     (c .before .before .if2 .taken) (c .before .if3 .left) (c .if4 .taken)
 
 returns-3 : tie.Need-returns-3
@@ -35,7 +37,8 @@ slice-aggregate-long-tag c = sym (ap length (take-length (c .before .before .bef
 
 returns-4 : tie.Need-returns-4
 returns-4 c =
-    let a = c .before .before .before .before .args in c .long-tag .ensures ∙ ap (λ (l : List ℕ). tagAt l (a .at)) (take-length (a .s .now))
+    let a = c .before .before .before .before .args in c .long-tag .ensures ∙ ap (λ (l : List ℕ). tagAt l (a .at))
+    (take-length (a .s .now))
 
 pub read-tag-spec : {M : Type 1} → statement M
 read-tag-spec =

@@ -15,13 +15,15 @@ returns-2 c =
 returns-3 : tie.Need-returns-3
 returns-3 c =
     let a = c .before .before .before .args in
-    with-three (a .self) (a .own) (a .number) (a .wire) (a .value) (c .before .before .if1 .left) (c .before .if2 .left)
+    with-three (a .self) (a .own) (a .number) (a .wire) (a .value) (c .before .before .if1 .left)
+    (c .before .if2 .left)
     (c .if3 .taken)
 
 returns-4 : tie.Need-returns-4
 returns-4 c =
     let a = c .before .before .before .args in
-    with-none (a .self) (a .own) (a .number) (a .wire) (a .value) (c .before .before .if1 .left) (c .before .if2 .left)
+    with-none (a .self) (a .own) (a .number) (a .wire) (a .value) (c .before .before .if1 .left)
+    (c .before .if2 .left)
     (c .if3 .left)
 
 pub with-field-spec : {M : Type 1} → statement M
