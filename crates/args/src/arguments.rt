@@ -12,6 +12,8 @@ ghost use Rattle.args.specs.Arguments.{
   placeOf,
   withType,
 };
+use crate::keys;
+use protocol::reason;
 use scalar::argument::Argument;
 use wire::field::Field;
 use wire::value::Value;
@@ -46,6 +48,9 @@ pub struct Arguments {
     pub end: usize,
 }
 
+// The kind where there is no object and no array.
+const NONE: u64 = 0;
+
 impl Arguments {
     pub fn none(start: usize, end: usize) -> Arguments
         ensures { λ r. ⌜ r ≡ noArguments start end ⌝ }
@@ -78,15 +83,15 @@ impl Arguments {
         requires { ⌜ self .count < 2 ^ 63 ⌝ }
         ensures { λ r. ⌜ r ≡ withType self t ⌝ }
     {
-        if t == 0 {
+        if t == keys::BAD {
             return Arguments::bad();
         }
         let mut x = self;
         x.count += 1;
-        if t < 2 {
+        if t < keys::OBJECT {
             return x;
         }
-        if x.kind != 0 {
+        if x.kind != NONE {
             return x;
         }
         x.kind = t;
@@ -168,7 +173,7 @@ pub fn next_argument(s: &[u8], at: usize) -> NextArgument
         },
         ArgPlace::End => NextArgument::End,
         ArgPlace::Bad => NextArgument::Found {
-            value: Argument::Refused(6),
+            value: Argument::Refused(reason::BAD_PAYLOAD),
             next: s.len(),
         },
     }
@@ -179,19 +184,19 @@ pub fn any_type(a: Argument) -> u64
     ensures { λ r. ⌜ r ≡ anyTypeOf a ⌝ }
 {
     match a {
-        Argument::Signed(_) => 1,
-        Argument::Unsigned(_) => 1,
-        Argument::Null => 1,
-        Argument::Octets { start: _, len: _ } => 1,
-        Argument::Double(_) => 1,
-        Argument::DoubleNan(_) => 1,
-        Argument::Float(_) => 1,
-        Argument::FloatNan(_) => 1,
-        Argument::Bool(_) => 1,
-        Argument::String { start: _, len: _ } => 1,
-        Argument::Object => 2,
-        Argument::Array => 3,
-        Argument::Refused(_) => 0,
+        Argument::Signed(_) => keys::SCALAR,
+        Argument::Unsigned(_) => keys::SCALAR,
+        Argument::Null => keys::SCALAR,
+        Argument::Octets { start: _, len: _ } => keys::SCALAR,
+        Argument::Double(_) => keys::SCALAR,
+        Argument::DoubleNan(_) => keys::SCALAR,
+        Argument::Float(_) => keys::SCALAR,
+        Argument::FloatNan(_) => keys::SCALAR,
+        Argument::Bool(_) => keys::SCALAR,
+        Argument::String { start: _, len: _ } => keys::SCALAR,
+        Argument::Object => keys::OBJECT,
+        Argument::Array => keys::ARRAY,
+        Argument::Refused(_) => keys::BAD,
     }
 }
 
@@ -199,8 +204,8 @@ pub fn any_type(a: Argument) -> u64
 fn handed(a: Argument) -> Argument
     ensures { λ r. ⌜ r ≡ asked a ⌝ }
 {
-    if 1 < any_type(a) {
-        return Argument::Refused(8);
+    if keys::SCALAR < any_type(a) {
+        return Argument::Refused(reason::NOT_SCALAR);
     }
     a
 }
@@ -213,7 +218,7 @@ pub fn nth_argument(s: &[u8], from: usize, index: usize) -> Argument
     let mut left = index;
     while p < s.len() {
         let NextArgument::Found { value, next } = next_argument(s, p) else {
-            return Argument::Refused(9);
+            return Argument::Refused(reason::FEW_ARGUMENTS);
         };
         if left == 0 {
             return handed(value);
@@ -221,5 +226,5 @@ pub fn nth_argument(s: &[u8], from: usize, index: usize) -> Argument
         left -= 1;
         p = next;
     }
-    Argument::Refused(9)
+    Argument::Refused(reason::FEW_ARGUMENTS)
 }

@@ -24,18 +24,18 @@ fn scalar_type(s: &[u8], at: usize, n: usize) -> u64
     } = crate::pair::read_pair(s, at, n) {
         let named = first * 256 + tag;
         match named {
-            keys::SINT => return keys::SCALAR,
-            keys::UINT => return keys::SCALAR,
-            keys::OCTETS => return any_type(crate::value::read_bytes(
+            keys::SINT_KEY => return keys::SCALAR,
+            keys::UINT_KEY => return keys::SCALAR,
+            keys::OCTETS_KEY => return any_type(crate::value::read_bytes(
                 &s[..all],
                 start,
                 value as usize,
                 true,
             )),
-            keys::DOUBLE => return keys::SCALAR,
-            keys::FLOAT => return keys::SCALAR,
-            keys::BOOL => return keys::SCALAR,
-            keys::STRING => return any_type(crate::value::read_bytes(
+            keys::DOUBLE_KEY => return keys::SCALAR,
+            keys::FLOAT_KEY => return keys::SCALAR,
+            keys::BOOL_KEY => return keys::SCALAR,
+            keys::STRING_KEY => return any_type(crate::value::read_bytes(
                 &s[..all],
                 start,
                 value as usize,
@@ -65,7 +65,7 @@ pub fn argument_type(s: &[u8], at: usize, n: usize) -> u64
         value,
         start,
     } = crate::pair::read_pair(s, at, n) {
-        if first * 256 + tag == keys::ANY_SCALAR {
+        if first * 256 + tag == keys::SCALAR_KEY {
             return scalar_type(s, start, value as usize);
         }
     }

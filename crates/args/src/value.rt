@@ -6,13 +6,18 @@ ghost use Rattle.args.specs.Value.{anyOf, argumentIn, bad, bytesIn, scal
 use crate::keys;
 use crate::pair::Pair;
 use crate::pair::Text;
+use protocol::reason;
 use scalar::argument::Argument;
 
 // The named value must be present.
 fn needed(has: bool, a: Argument) -> Argument
     ensures { λ r. ⌜ r ≡ cond has a bad ⌝ }
 {
-    if has { a } else { Argument::Refused(6) }
+    if has {
+        a
+    } else {
+        Argument::Refused(reason::BAD_PAYLOAD)
+    }
 }
 
 // The bytes of an octets or a string message, the long way.
@@ -24,7 +29,7 @@ fn long_bytes(s: &[u8], at: usize, n: usize, octets: bool) -> Argument
     let mut values = [0; 10];
     let mut starts = [0; 10];
     if !crate::part::fill_part(&rows, s, at, n, &mut seen, &mut values, &mut starts) {
-        return Argument::Refused(6);
+        return Argument::Refused(reason::BAD_PAYLOAD);
     }
     let start = starts[1];
     let len = values[1] as usize;
@@ -57,18 +62,18 @@ fn scalar_value(s: &[u8], seen: &[bool; 10], values: &[u64; 10], starts: &[usize
 {
     let t = values[1] % 0x1_0000_0000;
     match t {
-        1 => needed(seen[2], scalar::argument::signed_argument(values[2])),
-        2 => needed(seen[3], Argument::Unsigned(values[3])),
-        3 => Argument::Null,
-        4 => needed(seen[5], long_bytes(s, starts[5], values[5] as usize, true)),
-        5 => needed(seen[6], scalar::argument::double_argument(values[6])),
-        6 => needed(
+        keys::SINT => needed(seen[2], scalar::argument::signed_argument(values[2])),
+        keys::UINT => needed(seen[3], Argument::Unsigned(values[3])),
+        keys::NULL => Argument::Null,
+        keys::OCTETS => needed(seen[5], long_bytes(s, starts[5], values[5] as usize, true)),
+        keys::DOUBLE => needed(seen[6], scalar::argument::double_argument(values[6])),
+        keys::FLOAT => needed(
             seen[7],
             scalar::argument::float_argument((values[7] % 0x1_0000_0000) as u32),
         ),
-        7 => needed(seen[8], Argument::Bool(values[8] != 0)),
-        8 => needed(seen[9], long_bytes(s, starts[9], values[9] as usize, false)),
-        _ => Argument::Refused(6),
+        keys::BOOL => needed(seen[8], Argument::Bool(values[8] != 0)),
+        keys::STRING => needed(seen[9], long_bytes(s, starts[9], values[9] as usize, false)),
+        _ => Argument::Refused(reason::BAD_PAYLOAD),
     }
 }
 
@@ -81,7 +86,7 @@ pub(crate) fn read_scalar(s: &[u8], at: usize, n: usize) -> Argument
     let mut values = [0; 10];
     let mut starts = [0; 10];
     if !crate::part::fill_part(&rows, s, at, n, &mut seen, &mut values, &mut starts) {
-        return Argument::Refused(6);
+        return Argument::Refused(reason::BAD_PAYLOAD);
     }
     scalar_value(s, &seen, &values, &starts)
 }
@@ -94,10 +99,10 @@ fn any_value(s: &[u8], seen: &[bool; 10], values: &[u64; 10], starts: &[usize; 1
 {
     let t = values[1] % 0x1_0000_0000;
     match t {
-        1 => needed(seen[2], read_scalar(s, starts[2], values[2] as usize)),
-        2 => Argument::Object,
-        3 => Argument::Array,
-        _ => Argument::Refused(6),
+        keys::SCALAR => needed(seen[2], read_scalar(s, starts[2], values[2] as usize)),
+        keys::OBJECT => Argument::Object,
+        keys::ARRAY => Argument::Array,
+        _ => Argument::Refused(reason::BAD_PAYLOAD),
     }
 }
 
@@ -110,7 +115,7 @@ pub fn read_argument(s: &[u8], at: usize, n: usize) -> Argument
     let mut values = [0; 10];
     let mut starts = [0; 10];
     if !crate::part::fill_part(&rows, s, at, n, &mut seen, &mut values, &mut starts) {
-        return Argument::Refused(6);
+        return Argument::Refused(reason::BAD_PAYLOAD);
     }
     any_value(s, &seen, &values, &starts)
 }
@@ -132,13 +137,15 @@ fn quick_scalar(s: &[u8], at: usize, n: usize) -> Argument
     } = crate::pair::read_pair(s, at, n) {
         let named = first * 256 + tag;
         match named {
-            keys::SINT => return scalar::argument::signed_argument(value),
-            keys::UINT => return Argument::Unsigned(value),
-            keys::OCTETS => return read_bytes(&s[..all], start, value as usize, true),
-            keys::DOUBLE => return scalar::argument::double_argument(value),
-            keys::FLOAT => return scalar::argument::float_argument((value % 0x1_0000_0000) as u32),
-            keys::BOOL => return Argument::Bool(value != 0),
-            keys::STRING => return read_bytes(&s[..all], start, value as usize, false),
+            keys::SINT_KEY => return scalar::argument::signed_argument(value),
+            keys::UINT_KEY => return Argument::Unsigned(value),
+            keys::OCTETS_KEY => return read_bytes(&s[..all], start, value as usize, true),
+            keys::DOUBLE_KEY => return scalar::argument::double_argument(value),
+            keys::FLOAT_KEY => return scalar::argument::float_argument(
+                (value % 0x1_0000_0000) as u32,
+            ),
+            keys::BOOL_KEY => return Argument::Bool(value != 0),
+            keys::STRING_KEY => return read_bytes(&s[..all], start, value as usize, false),
             _ => {}
         }
     }
@@ -164,7 +171,7 @@ pub fn quick_argument(s: &[u8], at: usize, n: usize) -> Argument
         value,
         start,
     } = crate::pair::read_pair(s, at, n) {
-        if first * 256 + tag == keys::ANY_SCALAR {
+        if first * 256 + tag == keys::SCALAR_KEY {
             return quick_scalar(s, start, value as usize);
         }
     }

@@ -13,21 +13,32 @@ pub const DELETE: u64 = 4;
 
 pub const STMT_EXECUTE: u64 = 5;
 
+// The fields of the statement that hold a body, one for each type.
+const FIND_FIELD: usize = 2;
+
+const INSERT_FIELD: usize = 3;
+
+const UPDATE_FIELD: usize = 4;
+
+const DELETE_FIELD: usize = 5;
+
+const STMT_EXECUTE_FIELD: usize = 6;
+
 // The field that a type chooses as the body.
 pub fn field_of(t: u64) -> usize
     ensures { λ r. ⌜ (r ≡ fieldOf t) × (r < 10) ⌝ }
 {
     if t == FIND {
-        return 2;
+        return FIND_FIELD;
     }
     if t == INSERT {
-        return 3;
+        return INSERT_FIELD;
     }
     if t == UPDATE {
-        return 4;
+        return UPDATE_FIELD;
     }
     if t == DELETE {
-        return 5;
+        return DELETE_FIELD;
     }
-    6
+    STMT_EXECUTE_FIELD
 }
