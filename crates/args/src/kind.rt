@@ -7,7 +7,7 @@ use crate::arguments::any_type;
 use crate::keys;
 use crate::pair::Pair;
 
-// The Any type of the Scalar in `n` bytes of s from `at` on: 1, or 0 for a bad one. As quick_scalar reads it, but its
+// The Any type of the Scalar in `n` bytes of s from `at` on: 1, or 0 for a bad one. As read_scalar reads it, but its
 // value is not put together.
 fn scalar_type(s: &[u8], at: usize, n: usize) -> u64
     ensures { λ r. ⌜ r ≡ anyTypeOf (scalarIn (now (s .entry)) at n) ⌝ }
@@ -44,7 +44,7 @@ fn scalar_type(s: &[u8], at: usize, n: usize) -> u64
             _ => {}
         }
     }
-    any_type(crate::value::read_scalar(&s[..all], at, n))
+    any_type(crate::value::long_scalar(&s[..all], at, n))
 }
 
 // The Any type of the argument whose Any stands in `n` bytes of s from `at` on; 0 for a bad one.

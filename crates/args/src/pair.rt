@@ -36,7 +36,7 @@ fn wide(b: u8) -> u64
 }
 
 // A value, with a short way for a number or a length of one byte.
-fn quick_value(s: &[u8], wire: u64, at: usize) -> Value
+fn value_at(s: &[u8], wire: u64, at: usize) -> Value
     ensures { λ r. ⌜ r ≡ valueAt (now (s .entry)) wire at ⌝ }
 {
     let n = s.len();
@@ -114,7 +114,7 @@ fn pair_at(s: &[u8], at: usize) -> Pair
     if 128 <= tag {
         return Pair::Other;
     }
-    paired(first, tag, quick_value(s, tag % 8, at + 3), end)
+    paired(first, tag, value_at(s, tag % 8, at + 3), end)
 }
 
 // The pair in `n` bytes of s from `at` on.

@@ -77,8 +77,8 @@ fn scalar_value(s: &[u8], seen: &[bool; 10], values: &[u64; 10], starts: &[usize
     }
 }
 
-// The Scalar in `n` bytes of s from `at` on.
-pub(crate) fn read_scalar(s: &[u8], at: usize, n: usize) -> Argument
+// The Scalar in `n` bytes of s from `at` on, the long way.
+pub(crate) fn long_scalar(s: &[u8], at: usize, n: usize) -> Argument
     ensures { λ r. ⌜ r ≡ scalarIn (now (s .entry)) at n ⌝ }
 {
     let rows = layout::rows::scalar_rows();
@@ -99,7 +99,7 @@ fn any_value(s: &[u8], seen: &[bool; 10], values: &[u64; 10], starts: &[usize; 1
 {
     let t = values[1] % 0x1_0000_0000;
     match t {
-        keys::SCALAR => needed(seen[2], read_scalar(s, starts[2], values[2] as usize)),
+        keys::SCALAR => needed(seen[2], long_scalar(s, starts[2], values[2] as usize)),
         keys::OBJECT => Argument::Object,
         keys::ARRAY => Argument::Array,
         _ => Argument::Refused(reason::BAD_PAYLOAD),
@@ -120,9 +120,9 @@ pub fn read_argument(s: &[u8], at: usize, n: usize) -> Argument
     any_value(s, &seen, &values, &starts)
 }
 
-// The same as read_scalar, with the short ways for a Scalar of one field and of two. The slice is lent anew to what is
+// The Scalar, with the short ways for a Scalar of one field and of two. The slice is lent anew to what is
 // not inlined, so that the short ways keep it in registers.
-fn quick_scalar(s: &[u8], at: usize, n: usize) -> Argument
+fn read_scalar(s: &[u8], at: usize, n: usize) -> Argument
     ensures { λ r. ⌜ r ≡ scalarIn (now (s .entry)) at n ⌝ }
 {
     let all = s.len();
@@ -149,7 +149,7 @@ fn quick_scalar(s: &[u8], at: usize, n: usize) -> Argument
             _ => {}
         }
     }
-    read_scalar(&s[..all], at, n)
+    long_scalar(&s[..all], at, n)
 }
 
 // The same as read_argument, with the short ways for an Any of one field, its type, and of two, its type and its
@@ -172,7 +172,7 @@ pub fn quick_argument(s: &[u8], at: usize, n: usize) -> Argument
         start,
     } = crate::pair::read_pair(s, at, n) {
         if first * 256 + tag == keys::SCALAR_KEY {
-            return quick_scalar(s, start, value as usize);
+            return read_scalar(s, start, value as usize);
         }
     }
     read_argument(&s[..all], at, n)

@@ -136,8 +136,8 @@ returns-8 c =
     (c .before .before .before .before .before .before .before .read-pair .ensures)
     (rowsOf scalar) 8 74 (c .before .before .before .match2 .keys7) (omega arith) refl refl refl))
 
-slice-aggregate-read-scalar : tie.Need-slice-aggregate-read-scalar
-slice-aggregate-read-scalar c = sym
+slice-aggregate-long-scalar : tie.Need-slice-aggregate-long-scalar
+slice-aggregate-long-scalar c = sym
     (ap length (take-length (c .before .before .before .before .before .before .args .s .now)))
 
 returns-9 : tie.Need-returns-9
@@ -145,7 +145,7 @@ returns-9 c =
     let a = c .before .before .before .before .before .before .before .before .args in
     c .any-type3 .ensures
     ∙ ap anyTypeOf
-    (c .before .read-scalar .ensures ∙ ap (λ (l : List ℕ). scalarIn l (a .at) (a .n)) (take-length (a .s .now)))
+    (c .before .long-scalar .ensures ∙ ap (λ (l : List ℕ). scalarIn l (a .at) (a .n)) (take-length (a .s .now)))
 
 pub scalar-type-spec : {M : Type 1} → statement M
 scalar-type-spec =
@@ -171,7 +171,7 @@ scalar-type-spec =
     (λ c κs. search needs)
     returns-8
     (λ c. search needs)
-    slice-aggregate-read-scalar
+    slice-aggregate-long-scalar
     (λ c κs. search needs)
     (λ c κs. search needs)
     returns-9)

@@ -17,7 +17,7 @@ returns c =
     let a = c .before .before .before .before .before .before .before .before .args in
     let x = fromArrays true (a .seen .now) (a .values .now) (a .starts .now) in
     c .needed .ensures
-    ∙ ap (λ (v : Argument). cond (getD (a .seen .now) 2 false) v bad) (c .before .read-scalar .ensures)
+    ∙ ap (λ (v : Argument). cond (getD (a .seen .now) 2 false) v bad) (c .before .long-scalar .ensures)
     ∙ present-seen (a .seen .now) 2 _
     ∙ ap (ofAnyType (a .s .now) x) (sym (c .before .before .before .before .before .match .keys1))
     ∙ any-good (a .s .now) x refl

@@ -44,7 +44,7 @@ returns-3 : tie.Need-returns-3
 unfolding rowsOf rowFor hasRequired anyOf ofAnyType
 returns-3 c =
     let a = c .before .before .before .before .before .before .before .before .before .before .args in
-    c .quick-scalar .ensures
+    c .read-scalar .ensures
     ∙ ap (anyOf (a .s .now))
     (pair-bytes (a .s .now) (a .at) (a .n) (c .before .before .before .first .given .1) (c .before .before .before .before .before .read-pair .ensures)
     (rowsOf any) 1 18 (c .before .if3 .taken) (omega arith) refl refl refl)

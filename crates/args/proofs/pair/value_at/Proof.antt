@@ -1,4 +1,4 @@
--- `args::pair::quick_value` meets its contract. Assumes nothing.
+-- `args::pair::value_at` meets its contract. Assumes nothing.
 use Prim.Native.Nat.{ℕ}
 use mathlib.Core.Path.{sym, ap, _∙_}
 use mathlib.Core.List.{List}
@@ -7,8 +7,8 @@ use lib.Seq.{take-length}
 use Rattle.wire.specs.Value.{valueAt}
 use Rattle.args.proofs.PairLaws.{quick-number, quick-length}
 use borrow.Author.Needs.{needs}
-use Rattle.args.proofs.pair.quick_value.Statement.{statement}
-use Rattle.args.proofs.pair.quick_value.Tie as tie
+use Rattle.args.proofs.pair.value_at.Statement.{statement}
+use Rattle.args.proofs.pair.value_at.Tie as tie
 
 returns : tie.Need-returns
 returns c =
@@ -32,8 +32,8 @@ returns-3 c =
     let a = c .before .before .before .before .args in
     c .read-value .ensures ∙ ap (λ (l : List ℕ). valueAt l (a .wire) (a .at)) (take-length (a .s .now))
 
-pub quick-value-spec : {M : Type 1} → statement M
-quick-value-spec =
+pub value-at-spec : {M : Type 1} → statement M
+value-at-spec =
     tie.close
     (tie.spec
     (λ c. search needs)
