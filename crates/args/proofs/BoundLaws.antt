@@ -208,7 +208,8 @@ module _ (text : Bool) (x : Slots) (number wire v start len : ℕ) (counts : len
           apart : (w : Bool) → eqb wire own ≡ w → withField (ownOf x) own number wire v ≡ ownOf x
           apart true d =
               sym
-              (with-none (ownOf x) own number wire v (eqb-true wire own d) (eqb-false number 1 f) (eqb-false number 3 g))
+              (with-none (ownOf x) own number wire v (eqb-true wire own d) (eqb-false number 1 f)
+              (eqb-false number 3 g))
           apart false d = sym (with-other (ownOf x) own number wire v (eqb-false wire own d))
       go false e true f b g =
           let h = eqb-false wire own e in

@@ -3,6 +3,7 @@ pub mod ValueLaws
 pub mod PairLaws
 pub mod TextLaws
 pub mod KindLaws
+pub mod ScalarLaws
 pub mod PlaceLaws
 pub mod ArgumentsLaws
 pub mod TypedLaws

@@ -32,7 +32,8 @@ returns-6 c =
     let first = c .before .before .before .before .before .before .wide in
     let tag = c .before .before .before .wide2 in
     c .paired .ensures
-    ∙ at-pair (a .s .now) (a .at) (omega arith) (omega arith) (first .result) (first .ensures) (omega arith) (tag .result) (tag .ensures) (omega arith) _ (c .before .value-at .ensures)
+    ∙ at-pair (a .s .now) (a .at) (omega arith) (omega arith) (first .result) (first .ensures) (omega arith)
+    (tag .result) (tag .ensures) (omega arith) _ (c .before .value-at .ensures)
 
 pub pair-at-spec : {M : Type 1} → statement M
 pair-at-spec =

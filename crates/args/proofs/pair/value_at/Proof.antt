@@ -14,14 +14,16 @@ returns : tie.Need-returns
 returns c =
     let a = c .before .before .before .before .before .before .args in
     let b = c .before .before .wide in
-    quick-number (a .s .now) (a .wire) (a .at) (b .result) (c .before .before .before .before .if1 .taken) (b .ensures) (c .before .if2 .taken)
+    quick-number (a .s .now) (a .wire) (a .at) (b .result) (c .before .before .before .before .if1 .taken)
+    (b .ensures) (c .before .if2 .taken)
     (c .if3 .taken)
 
 returns-2 : tie.Need-returns-2
 returns-2 c =
     let a = c .before .before .before .before .before .before .before .before .args in
     let b = c .before .before .before .before .wide in
-    quick-length (a .s .now) (a .wire) (a .at) (b .result) (c .before .before .before .before .before .before .if1 .taken) (b .ensures)
+    quick-length (a .s .now) (a .wire) (a .at) (b .result)
+    (c .before .before .before .before .before .before .if1 .taken) (b .ensures)
     (c .before .before .before .if2 .taken) (c .before .if4 .taken) (c .if5 .taken)
 
 slice-aggregate-read-value : tie.Need-slice-aggregate-read-value
