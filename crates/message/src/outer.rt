@@ -1,7 +1,8 @@
 // The short way for an Open's own fields in their order, as they mostly come: cursor_id, the statement, and fetch_rows
 // where it is there. Like args `Pair` it fills no arrays and looks up no rows.
 ghost use mathlib.Core.Path.{_≡_};
-ghost use Rattle.message.specs.private.Outer.{Says};
+ghost use Rattle.message.specs.declared.outer.Outer.the-variants.{Fields};
+ghost use Rattle.message.specs.private.Outer.{Begins, Says};
 use crate::payload::PAYLOAD;
 use wire::value::Value;
 
@@ -32,20 +33,43 @@ fn wide(b: u8) -> u64
     b as u64
 }
 
+// What no cursor id of one byte is.
+const NO_ID: u64 = 128;
+
+// The cursor id, where a varint of one byte and the statement's tag stand first; NO_ID or more where not.
+fn cursor_id(s: &[u8]) -> u64
+    ensures { λ r. ⌜ Begins (now (s .entry)) r ⌝ }
+{
+    if s.len() < PAYLOAD + 3 {
+        return NO_ID;
+    }
+    if s[PAYLOAD] != CURSOR_TAG {
+        return NO_ID;
+    }
+    if s[PAYLOAD + 2] != STMT_TAG {
+        return NO_ID;
+    }
+    wide(s[PAYLOAD + 1])
+}
+
+// The fields that were found.
+fn fields(id: u64, start: usize, len: usize, has: bool, rows: u64) -> Outer
+    ensures { λ r. ⌜ r ≡ Fields id start len has rows ⌝ }
+{
+    Outer::Fields {
+        id,
+        start,
+        len,
+        has,
+        rows,
+    }
+}
+
 pub fn read_outer(s: &[u8]) -> Outer
     ensures { λ r. ⌜ Says (now (s .entry)) r ⌝ }
 {
-    if s.len() < PAYLOAD + 3 {
-        return Outer::Other;
-    }
-    if s[PAYLOAD] != CURSOR_TAG {
-        return Outer::Other;
-    }
-    let id = wide(s[PAYLOAD + 1]);
-    if 128 <= id {
-        return Outer::Other;
-    }
-    if s[PAYLOAD + 2] != STMT_TAG {
+    let id = cursor_id(s);
+    if NO_ID <= id {
         return Outer::Other;
     }
     let Value::Good {
@@ -58,13 +82,7 @@ pub fn read_outer(s: &[u8]) -> Outer
         return Outer::Other;
     };
     if s.len() <= next {
-        return Outer::Fields {
-            id,
-            start,
-            len,
-            has: false,
-            rows: 0,
-        };
+        return fields(id, start, len, false, 0);
     }
     if s[next] != ROWS_TAG {
         return Outer::Other;
@@ -81,11 +99,5 @@ pub fn read_outer(s: &[u8]) -> Outer
     if end != s.len() {
         return Outer::Other;
     }
-    Outer::Fields {
-        id,
-        start,
-        len,
-        has: true,
-        rows,
-    }
+    fields(id, start, len, true, rows)
 }
