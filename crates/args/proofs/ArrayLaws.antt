@@ -7,7 +7,7 @@ use lib.ListN.{getD}
 use Rattle.scalar.specs.declared.argument.Argument.{Argument}
 use Rattle.layout.specs.Row.{rowFor}
 use Rattle.layout.specs.Table.{rowsOf, any, scalar, bytes}
-use Rattle.layout.specs.Arrays.{once, Holds, fromArrays, inArrays}
+use Rattle.layout.specs.private.Arrays.{once, Holds, fromArrays, inArrays}
 use Rattle.layout.specs.declared.slots.Slots.{Slots}
 use Rattle.layout.proofs.ArrayLaws.{holds-arrays, same-absent, bytes-long-to}
 use Rattle.args.specs.Part.{embedded, valueOf, lenOf, low32}

@@ -24,8 +24,8 @@ use Rattle.args.specs.Part.{embedded, valueOf}
 use Rattle.args.specs.Value.{argumentIn}
 use Rattle.args.specs.Arguments.{nextArgument, argumentsAt, anyTypeOf, noArguments, badArguments, withType}
 use Rattle.args.specs.Arguments.{argumentsIn}
-use Rattle.args.specs.Bound.{rowsBy, wireBy, isArgs, nothing, withField, ownOf, found, badBound, boundOf}
-use Rattle.args.specs.Bound.{boundAt, boundIn, argsOf}
+use Rattle.args.specs.private.Bound.{rowsBy, wireBy, testsArgs, nothing, withField, ownOf, found, badBound, boundOf}
+use Rattle.args.specs.private.Bound.{boundAt, boundIn, argsOf}
 use Rattle.args.specs.declared.arguments.Arguments.{Arguments}
 use Rattle.args.specs.declared.arguments.NextArgument.{NextArgument}
 use Rattle.args.specs.declared.bound.Own.{Own}
@@ -38,10 +38,10 @@ use Rattle.args.proofs.ArgumentsLaws as Walk
 
 -- ---- the tests
 
-pub args-not : (number wire : ℕ) → (number ≡ 2 → ⊥) → false ≡ isArgs number wire
+pub args-not : (number wire : ℕ) → (number ≡ 2 → ⊥) → false ≡ testsArgs number wire
 args-not number wire h = simp (ne-eqb number 2 h)
 
-pub args-by-wire : (number wire : ℕ) → number ≡ 2 → eqb wire 2 ≡ isArgs number wire
+pub args-by-wire : (number wire : ℕ) → number ≡ 2 → eqb wire 2 ≡ testsArgs number wire
 args-by-wire number wire h = simp (eq-eqb number 2 h)
 
 module _ (k : Own) (own number wire value : ℕ) where
@@ -222,16 +222,16 @@ module _ (text : Bool) (x : Slots) (number wire v start len : ℕ) (counts : len
 
 -- ---- the loop
 
-args-are : (number wire : ℕ) → isArgs number wire ≡ true → (number ≡ 2) × (wire ≡ 2)
+args-are : (number wire : ℕ) → testsArgs number wire ≡ true → (number ≡ 2) × (wire ≡ 2)
 args-are number wire = go (eqb number 2) refl
   where
     go : (b : Bool) → eqb number 2 ≡ b → cond b (eqb wire 2) false ≡ true → (number ≡ 2) × (wire ≡ 2)
     go true e h = (eqb-true number 2 e, eqb-true wire 2 h)
     go false e h = absurd (let z : _≡_ {A = ℕ} 0 1 = cc in omega arith)
 
-args-no : (number wire : ℕ) → isArgs number wire ≡ false → number ≡ 2 → wire ≡ 2 → ⊥
+args-no : (number wire : ℕ) → testsArgs number wire ≡ false → number ≡ 2 → wire ≡ 2 → ⊥
 args-no number wire h a b =
-    let e : isArgs number wire ≡ true = simp (eq-eqb number 2 a, eq-eqb wire 2 b) in
+    let e : testsArgs number wire ≡ true = simp (eq-eqb number 2 a, eq-eqb wire 2 b) in
     let z : _≡_ {A = ℕ} 0 1 = cc in omega arith
 
 -- where it stands: what is kept is of slots that answer for the whole field list, and so are the arguments of theirs
@@ -303,7 +303,7 @@ module _ {text : Bool} {s : List ℕ} {from p : ℕ} {x : Arguments} {k : Own} (
           sound-on Use.Counted = b .holding .sound
           sound-on Use.Kept = b .holding .sound
 
-      pub passes : isArgs number wire ≡ false → Binding text s from next x (withField k (wireBy text) number wire v)
+      pub passes : testsArgs number wire ≡ false → Binding text s from next x (withField k (wireBy text) number wire v)
       passes h =
           record {
             slots = noted use-here (b .slots) number v start len;
@@ -315,7 +315,7 @@ module _ {text : Bool} {s : List ℕ} {from p : ℕ} {x : Arguments} {k : Own} (
             walking = Walk.passes (b .walking) (omega (arith, ahead)) (next-skips s p inside e (args-no number wire h));
           }
 
-      module _ (h : isArgs number wire ≡ true) (t : ℕ) (u : t ≡ anyTypeOf (argumentIn s start len)) where
+      module _ (h : testsArgs number wire ≡ true) (t : ℕ) (u : t ≡ anyTypeOf (argumentIn s start len)) where
         here : nextArgument s p ≡ NextArgument.Found (argumentIn s start len) next
         here =
             let a = args-are number wire h in

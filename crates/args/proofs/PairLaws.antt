@@ -23,7 +23,7 @@ use Rattle.layout.specs.declared.slots.Slots.{Slots}
 use Rattle.layout.specs.declared.fields.Use.{Use}
 use Rattle.layout.proofs.FieldsLaws.{kept-slot, starts, goes-on, ends}
 use Rattle.args.specs.Part.{embedded}
-use Rattle.args.specs.Pair.{pairOf, pairAt, pairIn, loneIn}
+use Rattle.args.specs.private.Pair.{pairOf, pairAt, pairIn, loneIn}
 use Rattle.args.specs.declared.pair.Pair.{Pair}
 use Rattle.args.proofs.PartLaws.{part-within}
 

@@ -8,7 +8,7 @@ use lib.ListN.{length, take}
 use borrow.Author.Tests.{le-leb, lt-leb}
 use Rattle.layout.specs.Slots.{badSlots}
 use Rattle.layout.specs.Fields.{fieldsAt}
-use Rattle.layout.specs.Arrays.{Noted, Holds}
+use Rattle.layout.specs.private.Arrays.{Noted, Holds}
 use Rattle.layout.specs.declared.slots.Slots.{Slots}
 use Rattle.args.specs.Part.{embedded}
 

@@ -11,7 +11,7 @@ use Rattle.scalar.specs.declared.argument.Argument.the-variants as Va
 use Rattle.layout.specs.Table.{rowsOf, scalar}
 use Rattle.layout.specs.Row.{rowFor}
 use Rattle.layout.specs.Fields.{hasRequired}
-use Rattle.args.specs.Pair.{loneIn, pairIn}
+use Rattle.args.specs.private.Pair.{loneIn, pairIn}
 use Rattle.args.specs.Part.{low32}
 use Rattle.args.specs.Value.{bytesIn, ofType, scalarOf, scalarIn}
 use Rattle.args.specs.declared.pair.Pair.{Pair}

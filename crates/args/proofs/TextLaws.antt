@@ -20,7 +20,7 @@ use Rattle.layout.specs.declared.fields.Use.{Use}
 use Rattle.layout.proofs.FieldsLaws.{starts, goes-on, ends}
 use Rattle.args.specs.Part.{embedded}
 use Rattle.args.specs.Arguments.{noArguments, argumentsIn}
-use Rattle.args.specs.Pair.{textOf, textAt, textIn}
+use Rattle.args.specs.private.Pair.{textOf, textAt, textIn}
 use Rattle.args.specs.declared.pair.Text.{Text}
 use Rattle.args.proofs.PartLaws.{part-within}
 use Rattle.args.proofs.PlaceLaws as Place

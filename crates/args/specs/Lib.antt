@@ -1,10 +1,9 @@
 pub mod Part
 pub mod Value
-pub mod Pair
 pub mod Arguments
-pub mod Bound
 pub mod Typed
 pub mod ArgumentsRules
 pub mod WithinRules
 pub mod Moved
 pub mod UnreadRules
+pub mod private

@@ -2,7 +2,7 @@
 ghost use mathlib.Core.Path.{_≡_};
 ghost use Prim.Native.Nat.{_^_, _<_};
 ghost use Rattle.wire.specs.Field.{fieldAt};
-ghost use Rattle.args.specs.Bound.{argsOf, badBound, boundAt, boundIn, found, isArgs, wireBy, withField};
+ghost use Rattle.args.specs.private.Bound.{argsOf, badBound, boundAt, boundIn, found, testsArgs, wireBy, withField};
 use crate::arguments::Arguments;
 use wire::field::Field;
 
@@ -58,7 +58,7 @@ const ARGS: u64 = 2;
 const ARGS_TAG: u8 = 18;
 
 fn is_args(number: u64, wire: u64) -> bool
-    ensures { λ r. ⌜ r ≡ isArgs number wire ⌝ }
+    ensures { λ r. ⌜ r ≡ testsArgs number wire ⌝ }
 {
     if number != ARGS {
         return false;

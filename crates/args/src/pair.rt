@@ -4,7 +4,7 @@
 // one field or two that fill it, and the callers answer by those laws.
 ghost use mathlib.Core.Path.{_≡_};
 ghost use Rattle.wire.specs.Value.{valueAt};
-ghost use Rattle.args.specs.Pair.{loneIn, pairAt, pairIn, pairOf, textAt, textIn, textOf};
+ghost use Rattle.args.specs.private.Pair.{loneIn, pairAt, pairIn, pairOf, textAt, textIn, textOf};
 use wire::value::Value;
 
 // Two fields that fill the message: number 1, a varint of one byte with the value `first`; and one whose tag is the

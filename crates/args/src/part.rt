@@ -1,6 +1,6 @@
 // A message embedded in another, and the places of its fields.
 ghost use mathlib.Core.Path.{_≡_};
-ghost use Rattle.layout.specs.Arrays.{Holds};
+ghost use Rattle.layout.specs.private.Arrays.{Holds};
 ghost use Rattle.args.specs.Part.{embedded};
 
 // The place and length of some bytes of a frame.

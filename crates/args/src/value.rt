@@ -1,7 +1,7 @@
 // The value of one argument: an Any, and the Scalar in it.
 ghost use mathlib.Core.Path.{_≡_};
 ghost use mathlib.Core.Bool.{cond, true};
-ghost use Rattle.layout.specs.Arrays.{fromArrays};
+ghost use Rattle.layout.specs.private.Arrays.{fromArrays};
 ghost use Rattle.args.specs.Value.{anyOf, argumentIn, bad, bytesIn, scalarIn, scalarOf};
 use crate::keys;
 use crate::pair::Pair;

@@ -3,11 +3,12 @@ use Prim.Native.Nat.{ℕ, suc, _+_, _-_, _≤_, _<_, min, max}
 use mathlib.Core.Path.{_≡_, refl, sym, ap, subst, _∙_}
 use mathlib.Core.List.{List, [], _∷_, _++_, append-assoc, append-nil}
 use native.Mathlib.Omega.{arith}
-use native.Mathlib.Nat.{add-zero}
+use native.Mathlib.Nat.{add-zero, zero-add}
 use native.Mathlib.Numerals.{add-one}
 use borrow.Author.Tests.{le-leb, lt-leb}
 use lib.ListN.{length, getD, take, drop, set, length-append, length-set, length-drop, drop-of-length-le}
-use lib.Seq.{sets, sets-eq, length-sets, drop-cons, set-out, take-at, take-all}
+use lib.Seq.{sets, sets-eq, length-sets, drop-cons, drop-drop, set-out, take-at, take-all}
+use borrow.Rule.Slice.PartMut.{midOf, putMid}
 use lib.Dec.{leb}
 use Rattle.prelude.proofs.Cases.{less-or-not}
 use Rattle.encode.specs.declared.put.Put.{Put}
@@ -137,6 +138,33 @@ module _ {b bs b₁ : List ℕ} {r : ℕ} (h : length bs ≤ length b) (f : Puts
       let room : 0 + length bs ≤ length b = omega arith in
       let e : length bs ≡ r = omega (arith, f .behind) in
       ap (λ (l : List ℕ). take r l) (f .stored ∙ sets-eq bs b 0 room) ∙ take-at bs (drop (0 + length bs) b) r e
+
+-- bytes put at the front of the rest of a buffer, from p on, are put at p
+pub puts-rest : {b ys part : List ℕ} {p m k : ℕ} → p + length ys ≤ length b → k ≡ length b - p →
+    Puts (midOf p k b) 0 ys m part → Puts b p ys (p + m) (putMid p k b part)
+puts-rest {b} {ys} {part} {p} {m} {k} h e f =
+    record {
+      behind = omega (arith, f .behind, ap length all, length-drop p b);
+      stored =
+          ap (λ (l : List ℕ). take p b ++ l)
+          (ap (λ (l : List ℕ). part ++ l) (drop-of-length-le (drop p b) none) ∙ append-nil part ∙ stored-part)
+          ∙ sym (append-assoc (take p b) ys (drop (p + length ys) b))
+          ∙ sym (sets-eq ys b p h);
+    }
+  where
+    none : length (drop p b) ≤ k
+    none = rw length-drop (omega arith)
+
+    all : midOf p k b ≡ drop p b
+    all = take-all k (drop p b) none
+
+    stored-part : part ≡ ys ++ drop (p + length ys) b
+    stored-part =
+        f .stored
+        ∙ ap (λ (l : List ℕ). sets l 0 ys) all
+        ∙ sets-eq ys (drop p b) 0 (rw length-drop (omega arith))
+        ∙ ap (λ (l : List ℕ). ys ++ l) (drop-drop (0 + length ys) p b)
+        ∙ ap (λ (i : ℕ). ys ++ drop (p + i) b) (zero-add (length ys))
 
 -- ---- the copying loop: what is left of `src`, stored from here on, gives the buffer that is to be
 

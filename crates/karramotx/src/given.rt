@@ -1,6 +1,8 @@
 // A scalar that a host gives as numbers, as the argument it stands for.
 ghost use mathlib.Core.Path.{_≡_};
 ghost use Rattle.karramotx.specs.Given.{floatOfBits, givenArgument, signedOfBits};
+use protocol::reason;
+use protocol::scalars;
 use scalar::argument::Argument;
 
 // `kind` is the Scalar type, 1 to 8. `value` is as `Value` tells it.
@@ -22,7 +24,7 @@ fn float_of_bits(bits: u64) -> Argument
     ensures { λ r. ⌜ r ≡ floatOfBits bits ⌝ }
 {
     if 0x1_0000_0000 <= bits {
-        return Argument::Refused(6);
+        return Argument::Refused(reason::BAD_PAYLOAD);
     }
     scalar::argument::float_argument(bits as u32)
 }
@@ -34,14 +36,14 @@ pub fn argument_of(scalar: Scalar, n: usize) -> Argument
     let kind = scalar.kind;
     let value = scalar.value;
     match kind {
-        1 => signed_of_bits(value),
-        2 => Argument::Unsigned(value),
-        3 => Argument::Null,
-        4 => Argument::Octets { start: 0, len: n },
-        5 => scalar::argument::double_argument(value),
-        6 => float_of_bits(value),
-        7 => Argument::Bool(value != 0),
-        8 => Argument::String { start: 0, len: n },
-        _ => Argument::Refused(6),
+        scalars::SINT => signed_of_bits(value),
+        scalars::UINT => Argument::Unsigned(value),
+        scalars::NULL => Argument::Null,
+        scalars::OCTETS => Argument::Octets { start: 0, len: n },
+        scalars::DOUBLE => scalar::argument::double_argument(value),
+        scalars::FLOAT => float_of_bits(value),
+        scalars::BOOL => Argument::Bool(value != 0),
+        scalars::STRING => Argument::String { start: 0, len: n },
+        _ => Argument::Refused(reason::BAD_PAYLOAD),
     }
 }

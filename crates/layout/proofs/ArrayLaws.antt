@@ -16,7 +16,7 @@ use Rattle.wire.proofs.LongLaws.{LongField, field-long}
 use Rattle.layout.specs.Row.{numberOf, wireOf, isRepeated, listedOf, listed, rowFor, takes, slotCount}
 use Rattle.layout.specs.Slots.{noSlots, badSlots}
 use Rattle.layout.specs.Fields.{useOf, noted, onField, fieldsFrom, fieldList, hasRequired, checked, fieldsAt, fieldsTo}
-use Rattle.layout.specs.Arrays.{occurs, once, Holds, fromArrays, inArrays}
+use Rattle.layout.specs.private.Arrays.{occurs, once, Holds, fromArrays, inArrays}
 use Rattle.layout.proofs.FieldsLaws.{getD-seen}
 use Rattle.layout.specs.declared.slots.Slots.{Slots}
 use Rattle.layout.specs.declared.fields.Use.{Use}

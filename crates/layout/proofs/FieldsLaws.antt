@@ -18,7 +18,7 @@ use Rattle.layout.specs.Row.{numberOf, noRow, rowFor, takes, slotCount}
 use Rattle.layout.specs.Slots.{noSlots, badSlots}
 use Rattle.layout.specs.Fields.{useBy, useOf, noted, onField, fieldsFrom, fieldList, hasRequired, checked}
 use Rattle.layout.specs.Fields.{fieldsTo}
-use Rattle.layout.specs.Arrays.{occurs, metBy, hasSeen, Noted, Listed, Holds}
+use Rattle.layout.specs.private.Arrays.{occurs, metBy, hasSeen, Noted, Listed, Holds}
 use Rattle.layout.specs.declared.slots.Slots.{Slots}
 use Rattle.layout.specs.declared.fields.Use.{Use}
 

@@ -2,8 +2,8 @@ pub mod Table
 pub mod Row
 pub mod Slots
 pub mod Fields
-pub mod Arrays
 pub mod TableRules
 pub mod FieldsRules
 pub mod SameBut
 pub mod Reaches
+pub mod private

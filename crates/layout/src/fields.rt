@@ -3,7 +3,7 @@ ghost use mathlib.Core.Path.{_≡_};
 ghost use Prim.Native.Nat.{_<_};
 ghost use Rattle.layout.specs.Slots.{badSlots, noSlots};
 ghost use Rattle.layout.specs.Fields.{fieldList, fieldsTo, useBy, useOf};
-ghost use Rattle.layout.specs.Arrays.{Holds, Listed, Noted, hasSeen, metBy};
+ghost use Rattle.layout.specs.private.Arrays.{Holds, Listed, Noted, hasSeen, metBy};
 use wire::field::Field;
 
 // What a message makes of a field: it is skipped, only counted (a repeated field, whose occurrences are

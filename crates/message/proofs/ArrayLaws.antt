@@ -11,7 +11,7 @@ use Rattle.protocol.specs.Client as Client
 use Rattle.layout.specs.Row.{wireOf, rowFor}
 use Rattle.layout.specs.Table.{rowsOf, prepareStmt, openStmt}
 use Rattle.layout.specs.Fields.{fieldsAt}
-use Rattle.layout.specs.Arrays.{Holds}
+use Rattle.layout.specs.private.Arrays.{Holds}
 use Rattle.layout.specs.declared.slots.Slots.{Slots}
 use Rattle.layout.proofs.ArrayLaws.{held-good, held-value, held-start, held-seen, held-absent, held-present}
 use Rattle.layout.proofs.ArrayLaws.{bytes-long, bytes-long-to}

@@ -10,9 +10,9 @@ use Rattle.layout.specs.Fields.{hasRequired}
 use Rattle.layout.specs.declared.slots.Slots.{Slots}
 use Rattle.layout.proofs.CountLaws.{good-list}
 use Rattle.args.specs.Part.{embedded, valueOf, low32}
-use Rattle.args.specs.Pair.{textIn}
+use Rattle.args.specs.private.Pair.{textIn}
 use Rattle.args.specs.Arguments.{noArguments, badArguments, argumentsIn}
-use Rattle.args.specs.Bound.{rowsBy, boundIn, argsOf}
+use Rattle.args.specs.private.Bound.{rowsBy, boundIn, argsOf}
 use Rattle.args.specs.declared.arguments.Arguments.{Arguments}
 use Rattle.args.specs.declared.bound.Bound.{Bound}
 use Rattle.args.specs.declared.pair.Text.{Text}

@@ -14,7 +14,7 @@ use Rattle.layout.specs.Fields.{useOf, noted, checked, hasRequired, fieldsAt, f
 use Rattle.layout.specs.declared.fields.Use.{Use}
 use Rattle.layout.proofs.ArrayLaws.{fields-whole}
 use Rattle.args.specs.Part.{embedded, low32}
-use Rattle.args.specs.Pair.{pairIn}
+use Rattle.args.specs.private.Pair.{pairIn}
 use Rattle.args.specs.declared.pair.Pair.{Pair}
 use Rattle.args.proofs.PairLaws.{told, pair-kept, pair-bytes}
 use Rattle.message.specs.Payload.{payload, optionalBy}

@@ -39,15 +39,16 @@ pub(crate) fn write_empty(buf: &mut [u8], kind: u8) -> Put
     Put::Next(put_head(buf, 0, TYPE_BYTE, kind))
 }
 
-// The frame that ends a stretch of rows, and StmtExecuteOk behind it.
+// The frame that ends a stretch of rows, and StmtExecuteOk in the part of the buffer behind it.
 pub(crate) fn write_end(buf: &mut [u8], kind: u8) -> Put
     ensures { λ r. ⌜ PutsIfRoom (now (buf .entry)) 0 (frame kind [] ++ stmtExecuteOk) r (now (buf .exit)) ⌝ }
 {
     if buf.len() < 2 * EMPTY {
         return Put::Full;
     }
-    let next = put_head(buf, 0, TYPE_BYTE, kind);
-    Put::Next(put_head(buf, next, TYPE_BYTE, server::STMT_EXECUTE_OK))
+    let n = put_head(buf, 0, TYPE_BYTE, kind);
+    let m = put_head(&mut buf[n..], 0, TYPE_BYTE, server::STMT_EXECUTE_OK);
+    Put::Next(n + m)
 }
 
 // The payload of an Error: severity 0, code, message and SQL state.

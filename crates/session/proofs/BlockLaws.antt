@@ -9,7 +9,7 @@ use borrow.Author.Tests.{ne-eqb, eq-eqb}
 use Rattle.session.specs.Entry.{isStmt, isLiveStmt}
 use Rattle.session.specs.Tables.{maxStmts}
 use Rattle.session.specs.Words.{stmtIn}
-use Rattle.session.specs.Search.{blockIds, anyIn}
+use Rattle.session.specs.private.Search.{blockIds, anyIn}
 use Rattle.session.proofs.LoopLaws.{Looking, looks, looks-on}
 
 or-false : (b : Bool) → b || false ≡ b

@@ -4,4 +4,4 @@ pub mod Entry
 pub mod Tables
 pub mod Words
 pub mod Sound
-pub mod Search
+pub mod private

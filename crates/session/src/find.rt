@@ -9,7 +9,7 @@ ghost use Rattle.session.specs.Entry.{isStmt, freeStmt, freeCursor, pass
 ghost use Rattle.session.specs.Tables.{maxStmts, maxCursors};
 ghost use Rattle.session.specs.Tables.{stmtAt, cursorAt, cursorOn, stmtPlace, cursorPlace, placeOf};
 ghost use Rattle.session.specs.Words.{cursorIn, stmtsIn, sessionOf};
-ghost use Rattle.session.specs.Search.{blockIds, anyIn};
+ghost use Rattle.session.specs.private.Search.{blockIds, anyIn};
 use crate::MAX_CURSORS;
 use crate::MAX_STMTS;
 use crate::Place;

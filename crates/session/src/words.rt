@@ -6,7 +6,7 @@ ghost use Rattle.session.specs.Session.{withStmts, withCursors, withClos
 ghost use Rattle.session.specs.Lists.{entryAt};
 ghost use Rattle.session.specs.Entry.{noStmt, noCursor, withSent};
 ghost use Rattle.session.specs.Tables.{maxStmts, maxCursors, storedStmt, storedCursor, reset, closedNow};
-ghost use Rattle.session.specs.Search.{indexOf};
+ghost use Rattle.session.specs.private.Search.{indexOf};
 ghost use Rattle.session.specs.Words.{wordCount, stmtIn, cursorIn, stmtsIn, cursorsIn, sessionOf};
 use crate::Cursor;
 use crate::MAX_CURSORS;

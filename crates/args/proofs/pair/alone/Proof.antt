@@ -1,7 +1,7 @@
 -- The bytes end with the message or they do not.
 use native.Mathlib.Omega.{arith}
 use mathlib.Core.Path.{sym, ap}
-use Rattle.args.specs.Pair.{textOf}
+use Rattle.args.specs.private.Pair.{textOf}
 use Rattle.args.proofs.TextLaws.{text-ends, text-goes-on}
 use borrow.Author.Needs.{needs}
 use Rattle.args.proofs.pair.alone.Statement.{statement}

@@ -1,7 +1,7 @@
 -- `args::pair::paired` meets its contract. Assumes nothing.
 use native.Mathlib.Omega.{arith}
 use mathlib.Core.Path.{sym, ap}
-use Rattle.args.specs.Pair.{pairOf}
+use Rattle.args.specs.private.Pair.{pairOf}
 use Rattle.args.proofs.PairLaws.{pair-ends, pair-goes-on}
 use borrow.Author.Needs.{needs}
 use Rattle.args.proofs.pair.paired.Statement.{statement}

@@ -3,7 +3,7 @@ use mathlib.Core.Bool.{true, false, cond}
 use mathlib.Core.Path.{refl, sym, ap, _∙_}
 use lib.ListN.{getD}
 use Rattle.scalar.specs.declared.argument.Argument.{Argument}
-use Rattle.layout.specs.Arrays.{fromArrays}
+use Rattle.layout.specs.private.Arrays.{fromArrays}
 use Rattle.args.specs.Value.{bad, ofType}
 use Rattle.args.proofs.ValueLaws.{scalar-good, type-none}
 use Rattle.args.proofs.ArrayLaws.{present-seen}

@@ -3,7 +3,7 @@ use borrow.Author.Needs.{needs}
 use borrow.Author.Tests.{not-true, not-false}
 use Prim.Native.Nat.{_-_, _≤_}
 use lib.ListN.{length, drop}
-use Rattle.layout.specs.Arrays.{hasSeen}
+use Rattle.layout.specs.private.Arrays.{hasSeen}
 use Rattle.layout.proofs.FieldsLaws.{need-end, need-met, need-missing}
 use mathlib.Core.Path.{_≡_, sym, _∙_}
 use Rattle.layout.proofs.fields.has_required.Statement.{statement}

@@ -2,7 +2,7 @@
 use mathlib.Core.Path.{_∙_}
 use borrow.Author.Tests.{not-true, not-false}
 use Rattle.layout.specs.Table.{rowsOf, openStmt}
-use Rattle.layout.specs.Arrays.{Holds}
+use Rattle.layout.specs.private.Arrays.{Holds}
 use Rattle.args.specs.Part.{embedded}
 use Rattle.message.proofs.ArrayLaws.{open-spoiled, open-without, open-held}
 use Rattle.message.specs.Payload.{optionalBy}

@@ -2,7 +2,7 @@
 use mathlib.Core.Path.{_∙_}
 use borrow.Author.Tests.{not-true, not-false}
 use Rattle.layout.specs.Table.{rowsOf, prepareStmt}
-use Rattle.layout.specs.Arrays.{Holds}
+use Rattle.layout.specs.private.Arrays.{Holds}
 use Rattle.args.specs.Part.{embedded}
 use Rattle.message.proofs.ArrayLaws.{prepare-spoiled, prepare-without, prepare-held}
 use borrow.Author.Needs.{needs}

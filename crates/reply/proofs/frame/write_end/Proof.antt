@@ -1,10 +1,11 @@
 -- `reply::frame::write_end` meets its contract: one empty frame behind the other. Assumes nothing.
 use borrow.Author.Needs.{needs}
 use native.Mathlib.Omega.{arith}
+use mathlib.Core.Path.{refl}
 use mathlib.Core.List.{[], _++_}
 use Rattle.encode.specs.Frame.{frame}
+use Rattle.encode.proofs.PutsLaws.{puts-none, puts-room, puts-then, puts-rest}
 use Rattle.reply.specs.Frame.{stmtExecuteOk}
-use Rattle.encode.proofs.PutsLaws.{puts-none, puts-room, puts-then}
 use Rattle.reply.proofs.frame.write_end.Statement.{statement}
 use Rattle.reply.proofs.frame.write_end.Tie as tie
 
@@ -14,7 +15,10 @@ returns c = puts-none (frame (c .before .before .args .kind) [] ++ stmtExecuteOk
 returns-2 : tie.Need-returns-2
 returns-2 c =
     let g = c .before .before in
-    puts-room (omega arith) (puts-then (g .before .before .before .before .put-head .ensures) (g .put-head2 .ensures))
+    let f = g .before .before .before .before in
+    let n = f .put-head .ensures .behind in
+    puts-room (omega arith)
+    (puts-then (f .put-head .ensures) (puts-rest (omega (arith, n)) refl (g .put-head2 .ensures)))
 
 pub write-end-spec : {M : Type 1} → statement M
 write-end-spec =
@@ -22,7 +26,11 @@ write-end-spec =
     (tie.spec
     (λ c. search needs)
     returns
+    (λ c κs. search needs)
     (λ c. search needs)
+    (λ c. search needs)
+    (λ c. search needs)
+    (λ c κs. search needs)
     (λ c. search needs)
     (λ c. search needs)
     returns-2)

@@ -3,7 +3,7 @@ use Prim.Native.Nat.{_-_}
 use native.Mathlib.Omega.{arith}
 use mathlib.Core.Logic.{⊎-elim}
 use mathlib.Core.Path.{sym, _∙_}
-use Rattle.session.specs.Search.{blockIds}
+use Rattle.session.specs.private.Search.{blockIds}
 use Rattle.session.proofs.BlockLaws.{Testing, tests, tested, hits, misses}
 use Rattle.session.proofs.find.has.Statement.{statement}
 use Rattle.session.proofs.find.has.Tie as tie

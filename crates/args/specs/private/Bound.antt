@@ -23,8 +23,8 @@ rowsBy false = rowsOf Client.execute
 abbrev pub wireBy : Bool → ℕ
 wireBy text = cond text 2 0
 
-abbrev pub isArgs : ℕ → ℕ → Bool
-isArgs number wire = cond (eqb number 2) (eqb wire 2) false
+abbrev pub testsArgs : ℕ → ℕ → Bool
+testsArgs number wire = cond (eqb number 2) (eqb wire 2) false
 
 -- nothing found yet, and one field more
 abbrev pub nothing : Own
