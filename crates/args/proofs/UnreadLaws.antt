@@ -36,6 +36,7 @@ use Rattle.args.specs.Value.{bad, present, bytesOf, bytesIn, ofType, sca
 use Rattle.args.specs.Moved.{moved}
 use Rattle.args.specs.Arguments.{isArgs, argPlace, nextArgument, andMore, argumentsFrom, argumentsAt}
 use Rattle.args.specs.UnreadRules.{typeIn, OnlyField, AnyUnread, ScalarUnread, OneField, ListUnread}
+use Rattle.args.specs.UnreadRules.{ObjectUnread}
 use Rattle.args.specs.declared.arguments.ArgPlace.{ArgPlace}
 use Rattle.args.proofs.PartLaws.{part-within}
 use Rattle.args.proofs.MovedArgLaws.{argument-moved, field-inside, args-moved}
@@ -387,3 +388,23 @@ module _ (s t : List ℕ) (at n : ℕ) (o : OneField s t at (at + n)) where
   one-list =
       list-unread (take (at + n) s) (take (at + n) t) at (o .place) (o .number) (o .value) (o .start) (o .n) (o .next)
       (o .reached) (o .field) (same-take (o .same) (at + n)) (o .alike)
+
+pub object-unread : ObjectUnread
+object-unread s t from to o =
+    let f = take to s in
+    let a = o .only in
+    let i = field-in (rowsOf any) f (o .start) (o .n) 2 (any-scalar .0) (any-scalar .1) (a .good) (a .there) in
+    record {
+      place = o .place;
+      number = o .number;
+      value = o .value;
+      start = o .start;
+      n = o .n;
+      next = o .next;
+      reached = o .reached;
+      field = o .field;
+      same = same-wider (a .same) (o .start) (o .start + o .n) (omega (arith, i .0)) (i .1);
+      alike = λ _.
+          any-unread f (take to t) (o .start) (o .n) (o .composite)
+          (record { good = a .good; there = a .there; same = same-take (a .same) to });
+    }

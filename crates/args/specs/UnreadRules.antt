@@ -61,3 +61,19 @@ ListUnread =
     SameBut s t start (start + n) →
     (isArgs number len value ≡ true → argumentIn t start n ≡ argumentIn s start n) →
     argumentsAt t from ≡ argumentsAt s from
+
+-- such are the bytes of the scalar of an args field that is an object or an array
+pub record ObjectField (s t : List ℕ) (from to : ℕ) : Type 0 where
+  pub place : ℕ
+  pub number : ℕ
+  pub value : ℕ
+  pub start : ℕ
+  pub n : ℕ
+  pub next : ℕ
+  pub reached : Reaches (take to s) from place
+  pub field : fieldAt (take to s) place ≡ Field.Good number len value start n next
+  pub composite : typeIn (embedded (rowsOf any) (take to s) start n) ≡ 1 → ⊥
+  pub only : OnlyField (embedded (rowsOf any) (take to s) start n) 2 s t
+
+abbrev pub ObjectUnread : Type 0
+ObjectUnread = (s t : List ℕ) (from to : ℕ) → ObjectField s t from to → OneField s t from to
