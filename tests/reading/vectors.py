@@ -1,7 +1,7 @@
 #!/usr/bin/env python3
 """Writes the input and the expected output of the program samples.
 
-The input: the published examples of the Protocol Buffers encoding guide, document 01's samples of
+The input: the published examples of the Protocol Buffers encoding guide, the rules' samples of
 frames, varints, groups and scalars, and frames on both sides of each rule of reading. The expected
 output comes from the reader below, which shares no code with the library (its authors wrote both, so a
 misreading that both share would not show), and from the values that the guide publishes, which are asserted here.
@@ -331,7 +331,7 @@ VECTORS = [
     ("V", H("01")), ("V", H("9601")), ("V", H("feffffffffffffffff01")), ("F", H("089601")), ("F", H("120774657374696e67")),
     ("F", H("1a03089601")), ("F", H("3206038e029ea705")), ("F", H("220568656c6c6f280128022803")),
 ] + [("Z", vi(z)) for z in (0, 1, 2, 3, 0xFFFFFFFE, 0xFFFFFFFF, 2**64 - 2, 2**64 - 1)] + [
-    # varints: document 01's P7 to P9, bits past 64, an eleventh byte, cut ones, padded ones
+    # varints: V7 to V9, bits past 64, an eleventh byte, cut ones, padded ones
     ("V", H("8001")), ("V", b"\xff" * 10), ("V", b"\xff" * 9 + b"\x01"), ("V", b"\xff" * 9 + b"\x7f"), ("V", b"\x80" * 9 + b"\x02"),
     ("V", b"\x80" * 10 + b"\x00"), ("V", b"\x80" * 9 + b"\x00"), ("V", b""), ("V", b"\x80"), ("V", H("8180808000")),
     # tags: number 0, wire types 6 and 7, 2^32, a padded one; lengths and fixed values past the end

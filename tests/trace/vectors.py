@@ -2,7 +2,7 @@
 """Writes the input and the expected output of the program trace_samples.
 
 The input is a list of runs, each four bytes of length, least first, and the bytes of a trace. The
-expected output comes from the keeper below, which is written from document 01 alone and shares no code
+expected output comes from the keeper below, which is written from the rules alone and shares no code
 with the library. The runs reach each refusal that a record can reach (all but 3: the reply buffer has
 128 bytes) and each mark; they cut a record at each place, and stand on both sides of each limit.
 

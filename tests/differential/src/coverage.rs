@@ -5,7 +5,7 @@ use std::fmt;
 
 const NAMES: [&str; 9] =
     ["Reset", "SessClose", "Prepare", "Execute", "Dealloc", "Open", "Close", "Fetch", "other"];
-/// Document 01's marks, and the order they are printed in.
+/// The marks of X3, and the order they are printed in.
 const MARKS: [char; 6] = ['O', 'S', 'D', 'X', 'E', 'N'];
 const TYPES: [&str; 10] =
     ["sint", "uint", "null", "octets", "double", "float", "bool", "string", "object", "array"];
@@ -93,7 +93,7 @@ impl Coverage {
     }
 }
 
-/// Document 01's mark of a reply, told by the type of its first frame.
+/// The mark of a reply (X3), told by the type of its first frame.
 pub fn mark(reply: &[u8]) -> char {
     match reply.get(4) {
         Some(0) => 'O',

@@ -1,6 +1,6 @@
 //! The vocabulary both sides speak, and the trait an implementation offers.
 //!
-//! Numbers are document 01's own: a `kind` is a client message type, a
+//! Numbers are those of the rules: a `kind` is a client message type, a
 //! `reason` a refusal number with 0 for none.
 
 pub const SESS_RESET: u8 = 6;
@@ -49,7 +49,7 @@ impl Place {
         &frame[self.start..self.end()]
     }
 
-    /// Document 01 says where a part lies only if there are bytes in it.
+    /// The rules say where a part lies only if there are bytes in it.
     fn or_nowhere(self) -> Place {
         if self.len == 0 {
             Place::default()
@@ -104,7 +104,7 @@ impl Message {
         Message { reason, used, ..Message::default() }
     }
 
-    /// The message without what document 01 leaves open.
+    /// The message without what the rules leave open.
     pub fn comparable(mut self) -> Message {
         self.body = self.body.or_nowhere();
         self.args_place = self.args_place.or_nowhere();

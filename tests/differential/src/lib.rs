@@ -27,5 +27,5 @@ pub fn under_test() -> library::Library {
 
 #[cfg(not(feature = "library"))]
 pub fn under_test() -> model::Model {
-    model::Model::honest()
+    model::Model::reference()
 }

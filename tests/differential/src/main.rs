@@ -65,7 +65,7 @@ fn main() {
 fn compare(options: &Options) {
     let mut coverage = Coverage::default();
     let start = Instant::now();
-    let (model, other) = (Model::honest(), under_test());
+    let (model, other) = (Model::reference(), under_test());
     let mut swept = Coverage::default();
     let found = sweep(&model, &other, &mut swept)
         .or_else(|| search(&model, &other, options.seed, options.steps, &mut coverage));
@@ -86,7 +86,7 @@ fn compare(options: &Options) {
 }
 
 fn compare_arrivals(options: &Options, coverage: &mut Coverage) -> Option<Found> {
-    let (model, other) = (Model::honest(), under_test());
+    let (model, other) = (Model::reference(), under_test());
     sweep_arrivals(&model, &other, coverage).or_else(|| {
         let operations = coverage.operations() + options.steps / STEPS_PER_OPERATION;
         search_arrivals(&model, &other, options.seed, operations, coverage)

@@ -19,8 +19,8 @@ pub struct Caught {
     pub found: Option<Found>,
 }
 
-/// Runs an honest implementation against one mutant.
-pub fn hunt<I: Implementation>(honest: &I, mistake: Mistake, seed: u64) -> Caught {
+/// Runs the reference against one mutant.
+pub fn hunt<I: Implementation>(reference: &I, mistake: Mistake, seed: u64) -> Caught {
     let wrong = Model::wrong(mistake);
     let mut random = Random::new(seed);
     let mut coverage = Coverage::default();
@@ -29,18 +29,18 @@ pub fn hunt<I: Implementation>(honest: &I, mistake: Mistake, seed: u64) -> Caugh
     let done = |met: &Coverage| if arrive { met.operations() } else { met.steps };
     while done(&coverage) < WITHIN {
         let events = next(&mut random);
-        if run(honest, &wrong, &events, &mut coverage).is_some() {
+        if run(reference, &wrong, &events, &mut coverage).is_some() {
             // The one that shows the difference is not counted by coverage.
             let steps = Some(done(&coverage) + 1);
-            return Caught { mistake, steps, found: Some(shrink(honest, &wrong, events)) };
+            return Caught { mistake, steps, found: Some(shrink(reference, &wrong, events)) };
         }
     }
     Caught { mistake, steps: None, found: None }
 }
 
 /// Every mutant, in the order of their declaration.
-pub fn hunt_all<I: Implementation>(honest: &I, seed: u64) -> Vec<Caught> {
-    MISTAKES.iter().map(|mistake| hunt(honest, *mistake, seed)).collect()
+pub fn hunt_all<I: Implementation>(reference: &I, seed: u64) -> Vec<Caught> {
+    MISTAKES.iter().map(|mistake| hunt(reference, *mistake, seed)).collect()
 }
 
 impl std::fmt::Display for Caught {

@@ -65,7 +65,7 @@ fn bad_length<I: Implementation>(who: I) {
 
 #[test]
 fn frames_before_a_bad_length_go_first() {
-    bad_length(Model::honest());
+    bad_length(Model::reference());
     bad_length(under_test());
 }
 
@@ -81,7 +81,7 @@ fn dropped<I: Implementation>(who: I) {
 
 #[test]
 fn bytes_behind_a_bad_length_are_dropped() {
-    dropped(Model::honest());
+    dropped(Model::reference());
     dropped(under_test());
 }
 
@@ -98,7 +98,7 @@ fn lengths<I: Implementation>(who: I) {
 
 #[test]
 fn lengths_on_both_sides_of_a_limit() {
-    lengths(Model::honest());
+    lengths(Model::reference());
     lengths(under_test());
 }
 
@@ -117,7 +117,7 @@ fn full<I: Implementation>(who: I) {
 
 #[test]
 fn a_store_full_to_the_last_byte() {
-    full(Model::honest());
+    full(Model::reference());
     full(under_test());
 }
 
@@ -126,9 +126,9 @@ fn a_store_full_to_the_last_byte() {
 fn divisions_are_compared() {
     let (one, other) = ([prepare(1), prepare(2)].concat(), [prepare(1), prepare(3)].concat());
     let mixed = divisions(&one).take(40).chain(divisions(&other).take(1));
-    let found = all_alike(&Model::honest(), &under_test(), mixed, &mut Coverage::default());
+    let found = all_alike(&Model::reference(), &under_test(), mixed, &mut Coverage::default());
     assert!(found.is_some_and(|found| found.difference.what == "frame of another division"));
     let cut_off = divisions(&one).take(1).chain(divisions(&one[..one.len() - 1]).take(1));
-    let found = all_alike(&Model::honest(), &under_test(), cut_off, &mut Coverage::default());
+    let found = all_alike(&Model::reference(), &under_test(), cut_off, &mut Coverage::default());
     assert!(found.is_some_and(|found| found.difference.what == "frames of another division"));
 }

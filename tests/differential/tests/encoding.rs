@@ -1,5 +1,5 @@
 //! The encoding guide's published vectors, the eight error texts, and the
-//! writer on frames that document 01 spells out.
+//! writer on frames that the rules spell out.
 
 mod common;
 use common::*;
@@ -11,26 +11,26 @@ fn argument(scalar: &str) -> Argument {
     let scalar = unhex(scalar);
     let any = [&[8, 1, 18, scalar.len() as u8][..], &scalar].concat();
     let payload = [&[8, 1, 18, any.len() as u8][..], &any].concat();
-    Model::honest().argument(&differential::generate::framed(EXECUTE, &payload), 0)
+    Model::reference().argument(&differential::generate::framed(EXECUTE, &payload), 0)
 }
 
 #[test]
 fn guide_varint_150() {
-    let message = Model::honest().read(&frame(CURSOR_CLOSE, "08 9601"));
+    let message = Model::reference().read(&frame(CURSOR_CLOSE, "08 9601"));
     assert_eq!((message.reason, message.cursor), (0, 150));
 }
 
 #[test]
 fn guide_string_testing() {
     let bytes = frame(PREPARE, "0801 120D 0805 3209 0A07 74657374696E67");
-    let body = Model::honest().body(&bytes);
+    let body = Model::reference().body(&bytes);
     assert_eq!(body, unhex("0A07 74657374696E67"));
 }
 
 #[test]
 fn guide_minus_two() {
     // -2 takes ten bytes, and a uint32 keeps the low 32 bits.
-    let message = Model::honest().read(&frame(CURSOR_CLOSE, "08 FEFFFFFFFFFFFFFFFF01"));
+    let message = Model::reference().read(&frame(CURSOR_CLOSE, "08 FEFFFFFFFFFFFFFFFF01"));
     assert_eq!((message.reason, message.cursor), (0, u32::MAX - 1));
 }
 
@@ -69,9 +69,9 @@ fn arguments_of_every_type() {
 #[test]
 fn objects_are_8_and_past_the_last_9() {
     let execute = frame(EXECUTE, "0801 1202 0802");
-    assert_eq!(Model::honest().argument(&execute, 0), Err(8));
-    assert_eq!(Model::honest().pass(&execute), [Err(8), Err(9)]);
-    assert_eq!(Model::honest().argument(&frame(SESS_RESET, ""), 0), Err(9));
+    assert_eq!(Model::reference().argument(&execute, 0), Err(8));
+    assert_eq!(Model::reference().pass(&execute), [Err(8), Err(9)]);
+    assert_eq!(Model::reference().argument(&frame(SESS_RESET, ""), 0), Err(9));
 }
 
 /// Code and text of the Error frame a step gives.
@@ -110,23 +110,23 @@ fn texts_of_refusals() {
 fn the_trace_frames_written() {
     let mut out = [0x77; 20];
     let draft = Draft { kind: PREPARE, stmt: 1, operation: 5, ..Draft::default() };
-    let written = Model::honest().write(&draft, &unhex("0A0153"), &[], &mut out);
+    let written = Model::reference().write(&draft, &unhex("0A0153"), &[], &mut out);
     assert_eq!(written, Written { reason: 0, length: 16 });
     assert_eq!(out[..16], unhex("0C000000 28 0801 1207 0805 3203 0A0153"));
     assert_eq!(out[16..], [0x77; 4]);
     let draft = Draft { kind: CURSOR_OPEN, stmt: 1, cursor: 1, has_rows: true, rows: 1, ..Draft::default() };
-    let written = Model::honest().write(&draft, &[], &[], &mut out);
+    let written = Model::reference().write(&draft, &[], &[], &mut out);
     assert_eq!(out[..written.length], unhex("0D000000 2B 0801 2206 0800 1202 0801 2801"));
-    assert_eq!(Model::honest().write(&draft, &[], &[], &mut out[..16]).reason, 3);
+    assert_eq!(Model::reference().write(&draft, &[], &[], &mut out[..16]).reason, 3);
 }
 
 #[test]
 fn an_appended_argument() {
     let mut out = [0x77; 14];
     let scalar = Scalar { kind: 1, bits: i64::MIN as u64, bytes: Vec::new() };
-    assert_eq!(Model::honest().append(&mut out, 1, &scalar), Written { reason: 3, length: 0 });
+    assert_eq!(Model::reference().append(&mut out, 1, &scalar), Written { reason: 3, length: 0 });
     let scalar = Scalar { kind: 8, bits: 0, bytes: b"a".to_vec() };
-    let written = Model::honest().append(&mut out, 1, &scalar);
+    let written = Model::reference().append(&mut out, 1, &scalar);
     assert_eq!(written, Written { reason: 0, length: 14 });
     assert_eq!(out[..], unhex("77 120B 0801 1207 0808 4A03 0A0161"));
 }

@@ -1,4 +1,4 @@
-//! Every deliberate mistake is found, and the honest model is not accused.
+//! Every deliberate mistake is found, and the reference model is not accused.
 
 use differential::compare::{search, search_arrivals, sweep, sweep_arrivals};
 use differential::coverage::Coverage;
@@ -85,19 +85,19 @@ fn differ<A: Implementation, B: Implementation>(a: &A, b: &B, events: &[Event]) 
 fn comparison_alone_finds_all_on_arrivals() {
     const SEQUENCES: usize = 2_000;
     for mistake in MISTAKES.iter().filter(|mistake| mistake.is_on_arrivals()) {
-        let (honest, mutant) = (under_test(), Model::wrong(*mistake));
+        let (reference, mutant) = (under_test(), Model::wrong(*mistake));
         let mut random = Random::new(SEED);
-        let found = (0..SEQUENCES).any(|_| differ(&honest, &mutant, &arrivals(&mut random)));
+        let found = (0..SEQUENCES).any(|_| differ(&reference, &mutant, &arrivals(&mut random)));
         assert!(found, "{mistake:?} answers as the library does");
     }
 }
 
 #[test]
-fn the_honest_model_is_not_accused() {
-    let (honest, other) = (Model::honest(), under_test());
+fn the_reference_is_not_accused() {
+    let (reference, other) = (Model::reference(), under_test());
     let mut coverage = Coverage::default();
-    let found = sweep(&honest, &other, &mut coverage)
-        .or_else(|| search(&honest, &other, SEED, 60_000, &mut coverage));
+    let found = sweep(&reference, &other, &mut coverage)
+        .or_else(|| search(&reference, &other, SEED, 60_000, &mut coverage));
     if let Some(found) = found {
         panic!("{}", found.print);
     }
@@ -110,12 +110,12 @@ fn the_honest_model_is_not_accused() {
 }
 
 #[test]
-fn no_arrival_accuses_the_honest_model() {
-    let (honest, other) = (Model::honest(), under_test());
+fn no_arrival_accuses_the_reference() {
+    let (reference, other) = (Model::reference(), under_test());
     let mut coverage = Coverage::default();
-    let found = sweep_arrivals(&honest, &other, &mut coverage).or_else(|| {
+    let found = sweep_arrivals(&reference, &other, &mut coverage).or_else(|| {
         let operations = coverage.operations() + 20_000;
-        search_arrivals(&honest, &other, SEED, operations, &mut coverage)
+        search_arrivals(&reference, &other, SEED, operations, &mut coverage)
     });
     if let Some(found) = found {
         panic!("{}", found.print);

@@ -1,4 +1,4 @@
-//! Document 01's samples, run on the model.
+//! The samples V1 to V16, run on the model.
 
 mod common;
 use common::*;
@@ -11,7 +11,7 @@ const SUSPENDED_THEN_OK: &str = "010000000F 0100000011";
 
 /// What a Fetch reads as fetch_rows, or its reason.
 fn varint(bytes: &str) -> Result<Option<u64>, u8> {
-    let message = Model::honest().read(&frame(CURSOR_FETCH, &format!("0801 10 {bytes}")));
+    let message = Model::reference().read(&frame(CURSOR_FETCH, &format!("0801 10 {bytes}")));
     if message.reason == 0 {
         Ok(message.fetch_rows)
     } else {

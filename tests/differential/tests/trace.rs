@@ -1,4 +1,4 @@
-//! Document 01's trace, printed from the model.
+//! The trace of X1 to X9, printed from the model.
 
 mod common;
 use common::*;

@@ -16,7 +16,7 @@ pub enum Operation {
     StartOver,
 }
 
-/// A host at work. It takes the honest model's reader along, to know how far
+/// A host at work. It takes the reference's reader along, to know how far
 /// an arrival was taken and what there is to hand out.
 #[derive(Default)]
 pub struct Host {
@@ -27,17 +27,17 @@ pub struct Host {
 impl Host {
     pub fn push(&mut self, bytes: &[u8]) -> Pushed {
         self.events.push(Event::Reader(Operation::Push(bytes.to_vec())));
-        Model::honest().push(&mut self.reader, bytes)
+        Model::reference().push(&mut self.reader, bytes)
     }
 
     pub fn next_frame(&mut self, room: usize) -> NextFrame {
         self.events.push(Event::Reader(Operation::NextFrame { room }));
-        Model::honest().next_frame(&mut self.reader)
+        Model::reference().next_frame(&mut self.reader)
     }
 
     pub fn start_over(&mut self) {
         self.events.push(Event::Reader(Operation::StartOver));
-        Model::honest().start_over(&mut self.reader);
+        Model::reference().start_over(&mut self.reader);
     }
 
     /// Hands out all whole frames, and once more: that says why there is no other.

@@ -94,7 +94,7 @@ impl Encoder<'_> {
         });
     }
 
-    /// A field no message of document 01 knows, or one with another wire type.
+    /// A field no message of the rules knows, or one with another wire type.
     pub fn unknown(&mut self) -> Vec<u8> {
         let other_type = self.random.permille(300);
         let number = match self.random.below(8) {

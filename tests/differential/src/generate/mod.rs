@@ -75,7 +75,7 @@ fn probes(random: &mut Random, events: &mut Vec<Event>) {
     }
 }
 
-/// Takes the honest model along, to know which ids are live.
+/// Takes the reference model along, to know which ids are live.
 struct Guide {
     session: Session,
     mode: Mode,
@@ -85,7 +85,7 @@ impl Guide {
     fn step(&mut self, random: &mut Random) -> Step {
         let intent = intent::next(random, self.mode, &self.session.tables);
         let frame = self.frame(random, &intent);
-        let model = Model::honest();
+        let model = Model::reference();
         let look = model.look(&self.session, &frame);
         let report = reports::report(random, look.work);
         let room = if random.permille(970) { 200 } else { random.pick(&[0, 127, 128, 129, 4096]) };
@@ -101,7 +101,7 @@ impl Guide {
         let frame = Encoder { random, noise }.frame(&intent);
         let Step { frame, report, .. } = step_on(frame, SMALLEST_REPLY);
         let mut reply = [0; SMALLEST_REPLY];
-        self.session = Model::honest().step(self.session.clone(), &frame, report, &mut reply).0;
+        self.session = Model::reference().step(self.session.clone(), &frame, report, &mut reply).0;
         frame
     }
 

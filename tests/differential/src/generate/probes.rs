@@ -51,13 +51,13 @@ fn fill_up(random: &mut Random, draft: &Draft, body: &mut Vec<u8>, args: &mut Ve
         let scalar = Scalar { kind: 8, bits: 0, bytes: vec![b'x'; size] };
         let mut stretch = args.to_vec();
         stretch.resize(args.len() + size + 40, 0);
-        let end = Model::honest().append(&mut stretch, args.len(), &scalar).length;
+        let end = Model::reference().append(&mut stretch, args.len(), &scalar).length;
         // Field 2 of a StmtExecute is an argument, and of the others anything.
         ([body, &stretch[args.len()..end]].concat(), stretch[..end].to_vec())
     };
     let (long_body, long_args) = filled(body, args, GUESS);
     let mut large = vec![0; 70_000];
-    let length = Model::honest().write(draft, &long_body, &long_args, &mut large).length;
+    let length = Model::reference().write(draft, &long_body, &long_args, &mut large).length;
     let target = 4 + random.range(LONGEST - 1, LONGEST + 1);
     // A refused draft has length 0, and one without room for both stays short.
     let size = if length > GUESS { (GUESS + target).saturating_sub(length) } else { GUESS };
@@ -88,7 +88,7 @@ fn draft(random: &mut Random) -> Draft {
 /// large.
 fn room(random: &mut Random, draft: &Draft, body: &[u8], args: &[u8]) -> usize {
     let mut large = vec![0; 66_000];
-    let needed = Model::honest().write(draft, body, args, &mut large).length;
+    let needed = Model::reference().write(draft, body, args, &mut large).length;
     match random.below(8) {
         0 => needed.saturating_sub(1),
         1 => random.below(needed + 1),
@@ -105,7 +105,7 @@ pub fn stretch_probe(random: &mut Random) -> StretchProbe {
     let mut large = vec![0; 2000];
     let mut end = at;
     for scalar in &scalars {
-        end = Model::honest().append(&mut large, end, scalar).length.max(end);
+        end = Model::reference().append(&mut large, end, scalar).length.max(end);
     }
     let room = match random.below(6) {
         0 => end.saturating_sub(1),

@@ -132,7 +132,7 @@ mod tests {
             let mut session = Session::fresh();
             for step in setup().into_iter().chain([step(base)]) {
                 let answer;
-                (session, answer) = Model::honest().step(session, &step.frame, step.report, &mut [0; 128]);
+                (session, answer) = Model::reference().step(session, &step.frame, step.report, &mut [0; 128]);
                 assert_eq!(answer.reason, 0, "{step:?}");
             }
         }

@@ -22,14 +22,14 @@ pub use wire::shortest;
 
 use crate::implementation::*;
 
-/// The model, honest unless told to make one mistake.
+/// The model; told to, it makes one mistake.
 #[derive(Clone, Copy, Debug, Default)]
 pub struct Model {
     pub mistake: Option<Mistake>,
 }
 
 impl Model {
-    pub fn honest() -> Model {
+    pub fn reference() -> Model {
         Model { mistake: None }
     }
 

@@ -1,4 +1,4 @@
-//! A session of the honest model to speak to in hex, and the trace that it prints.
+//! A session of the reference model to speak to in hex, and the trace that it prints.
 
 // Each test file takes what it needs of this.
 #![allow(dead_code)]
@@ -49,7 +49,7 @@ impl Talk {
     pub fn step(&mut self, frame: &[u8], report: Report) -> (Answer, Vec<u8>) {
         let mut reply = [0; 128];
         let session = self.session.clone();
-        let (session, answer) = Model::honest().step(session, frame, report, &mut reply);
+        let (session, answer) = Model::reference().step(session, frame, report, &mut reply);
         self.session = session;
         (answer, reply[..answer.reply].to_vec())
     }
