@@ -11,7 +11,8 @@ use Rattle.prelude.proofs.Cases.{both, before-suc}
 use Rattle.scalar.specs.Argument.{reasonOf}
 use Rattle.scalar.specs.declared.argument.Argument.{Argument}
 use Rattle.scalar.specs.declared.argument.Argument.the-variants as Va
-use Rattle.args.specs.Arguments.{nextArgument, andMore, argumentsFrom, argumentsAt, anyTypeOf, noArguments, badArguments, counted, withType, together, argumentsIn, asked}
+use Rattle.args.specs.Arguments.{nextArgument, andMore, argumentsFrom, argumentsAt, anyTypeOf, noArguments}
+use Rattle.args.specs.Arguments.{badArguments, counted, withType, together, argumentsIn, asked}
 use Rattle.args.specs.declared.arguments.NextArgument.{NextArgument}
 use Rattle.args.specs.declared.arguments.Arguments.{Arguments}
 use Rattle.args.specs.WithinRules.{EndsBy, GoesOn, FewArguments, NthWithin}
@@ -32,12 +33,14 @@ module _ (x : Arguments) (t : ℕ) where
   pub type-first : (t ≡ 0 → ⊥) → 2 ≤ t → x .kind ≡ 0 → counted x t (x .count) ≡ withType x t
   type-first h g k = simp (ne-eqb t 0 h, le-ltb t 2 g, eq-eqb (x .kind) 0 k)
 
-  count-up : (b c : Bool) → (cond b (counted x (x .kind) (x .index)) (cond c (counted x t (x .count)) (counted x (x .kind) (x .index)))) .count ≡ x .count + 1
+  count-up : (b c : Bool) → (cond b (counted x (x .kind) (x .index))
+      (cond c (counted x t (x .count)) (counted x (x .kind) (x .index)))) .count ≡ x .count + 1
   count-up true c = refl
   count-up false true = refl
   count-up false false = refl
 
-  good-kept : (b c : Bool) → (cond b (counted x (x .kind) (x .index)) (cond c (counted x t (x .count)) (counted x (x .kind) (x .index)))) .good ≡ x .good
+  good-kept : (b c : Bool) → (cond b (counted x (x .kind) (x .index))
+      (cond c (counted x t (x .count)) (counted x (x .kind) (x .index)))) .good ≡ x .good
   good-kept true c = refl
   good-kept false true = refl
   good-kept false false = refl
@@ -73,7 +76,8 @@ from-found zero s p g e = absurd (omega arith)
 from-found (suc m) s p {a} {next} g e =
     ap (andMore (λ q. argumentsFrom m s q)) e ∙ ap (λ (k : ℕ). a ∷ argumentsFrom k s next) (before-suc m)
 
-pub advances : (s : List ℕ) (p : ℕ) {a : Argument} {next : ℕ} → nextArgument s p ≡ NextArgument.Found a next → (p < next) × (next ≤ length s)
+pub advances : (s : List ℕ) (p : ℕ) {a : Argument} {next : ℕ} → nextArgument s p ≡ NextArgument.Found a next →
+    (p < next) × (next ≤ length s)
 advances s p {a} {next} e = go (next-goes-on s p)
   where
     go : GoesOn p (length s) (nextArgument s p) → (p < next) × (next ≤ length s)
@@ -124,7 +128,8 @@ together-none : (x : Arguments) → together x [] ≡ x
 unfolding together
 together-none x = refl
 
-together-bad : (x : Arguments) (a : Argument) (rest : List Argument) → anyTypeOf a ≡ 0 → together x (a ∷ rest) ≡ badArguments
+together-bad : (x : Arguments) (a : Argument) (rest : List Argument) → anyTypeOf a ≡ 0 →
+    together x (a ∷ rest) ≡ badArguments
 unfolding together
 together-bad x a rest h = simp (eq-eqb (anyTypeOf a) 0 h)
 
@@ -319,9 +324,11 @@ module _ {s : List ℕ} {from index p left : ℕ} (k : Counting s from index p l
   count-end h = count-none (next-end s p h)
 
   module _ (inside : p < length s) {a : Argument} {next : ℕ} (e : nextArgument s p ≡ NextArgument.Found a next) where
-    turn-at : getD (a ∷ argumentsFrom (k .most - 1) s next) left (Va.Refused 9) ≡ getD (argumentsAt s from) index (Va.Refused 9)
+    turn-at : getD (a ∷ argumentsFrom (k .most - 1) s next) left (Va.Refused 9) ≡ getD (argumentsAt s from) index
+        (Va.Refused 9)
     turn-at =
-        ap (λ (l : List Argument). getD l left (Va.Refused 9)) (sym (from-found (k .most) s p (omega (arith, k .enough)) e))
+        ap (λ (l : List Argument). getD l left (Va.Refused 9))
+        (sym (from-found (k .most) s p (omega (arith, k .enough)) e))
         ∙ k .whole
 
     pub count-hit : left ≡ 0 → a ≡ getD (argumentsAt s from) index (Va.Refused 9)
@@ -337,6 +344,8 @@ module _ {s : List ℕ} {from index p left : ℕ} (k : Counting s from index p l
         }
       where
         passed : (n : ℕ) → (n ≡ 0 → ⊥) →
-            getD (argumentsFrom (k .most - 1) s next) (n - 1) (Va.Refused 9) ≡ getD (a ∷ argumentsFrom (k .most - 1) s next) n (Va.Refused 9)
+            getD (argumentsFrom (k .most - 1) s next) (n - 1) (Va.Refused 9) ≡ getD
+            (a ∷ argumentsFrom (k .most - 1) s next) n (Va.Refused 9)
         passed zero z = absurd (z refl)
-        passed (suc m) z = ap (λ (j : ℕ). getD (argumentsFrom (k .most - 1) s next) j (Va.Refused 9)) (sym (before-suc m))
+        passed (suc m) z = ap (λ (j : ℕ). getD (argumentsFrom (k .most - 1) s next) j (Va.Refused 9))
+            (sym (before-suc m))

@@ -11,18 +11,21 @@ use Rattle.layout.specs.private.Arrays.{once, Holds, fromArrays, inArrays}
 use Rattle.layout.specs.declared.slots.Slots.{Slots}
 use Rattle.layout.proofs.ArrayLaws.{holds-arrays, same-absent, bytes-long-to}
 use Rattle.args.specs.Part.{embedded, valueOf, lenOf, low32}
-use Rattle.args.specs.Value.{bad, present, bytesOf, bytesIn, ofType, scalarOf, scalarIn, ofAnyType, anyOf, argumentIn}
+use Rattle.args.specs.Value.{bad, present, bytesOf, bytesIn, ofType, scalarOf, scalarIn, ofAnyType, anyOf}
+use Rattle.args.specs.Value.{argumentIn}
 use Rattle.args.proofs.ValueLaws.{bytes-bad, scalar-bad, any-bad}
 
 -- a value that is present by its array
-pub present-seen : (seen : List Bool) (k : ℕ) (a : Argument) → cond (getD seen k false) a bad ≡ present (getD (map once seen) k 0) a
+pub present-seen : (seen : List Bool) (k : ℕ) (a : Argument) →
+    cond (getD seen k false) a bad ≡ present (getD (map once seen) k 0) a
 present-seen [] k a = refl
 present-seen (true ∷ l) zero a = refl
 present-seen (false ∷ l) zero a = refl
 present-seen (b ∷ l) (suc k) a = present-seen l k a
 
 -- arrays that hold a good message
-pub arrays-good : {x : Slots} {g : Bool} {v : List Bool} {w u : List ℕ} → Holds x g v w u → g ≡ true → fromArrays true v w u ≡ inArrays x
+pub arrays-good : {x : Slots} {g : Bool} {v : List Bool} {w u : List ℕ} → Holds x g v w u → g ≡ true →
+    fromArrays true v w u ≡ inArrays x
 arrays-good {v = v} {w = w} {u = u} h e = ap (λ (b : Bool). fromArrays b v w u) (sym e) ∙ holds-arrays h
 
 -- the length of bytes by their row
@@ -67,21 +70,26 @@ bytes-arrays : (b : Bool) (x : Slots) → lenOf x 1 ≡ valueOf x 1 → bytesOf 
 bytes-arrays b x e = rw e
 
 module _ (s : List ℕ) (at n : ℕ) {g : Bool} {v : List Bool} {w u : List ℕ} where
-  pub scalar-held : Holds (embedded (rowsOf scalar) s at n) g v w u → g ≡ true → scalarOf s (fromArrays true v w u) ≡ scalarIn s at n
+  pub scalar-held : Holds (embedded (rowsOf scalar) s at n) g v w u → g ≡ true →
+      scalarOf s (fromArrays true v w u) ≡ scalarIn s at n
   scalar-held h e =
-      ap (scalarOf s) (arrays-good h e) ∙ scalar-arrays s (embedded (rowsOf scalar) s at n) (octets-long s at n) (string-long s at n)
+      ap (scalarOf s) (arrays-good h e) ∙ scalar-arrays s (embedded (rowsOf scalar) s at n) (octets-long s at n)
+      (string-long s at n)
 
   pub scalar-refused : Holds (embedded (rowsOf scalar) s at n) g v w u → g ≡ false → bad ≡ scalarIn s at n
   scalar-refused h e = scalar-bad s (embedded (rowsOf scalar) s at n) (sym (h .answer) ∙ e)
 
-  pub any-held : Holds (embedded (rowsOf any) s at n) g v w u → g ≡ true → anyOf s (fromArrays true v w u) ≡ argumentIn s at n
+  pub any-held : Holds (embedded (rowsOf any) s at n) g v w u → g ≡ true →
+      anyOf s (fromArrays true v w u) ≡ argumentIn s at n
   any-held h e = ap (anyOf s) (arrays-good h e) ∙ any-arrays s (embedded (rowsOf any) s at n) (scalar-long s at n)
 
   pub any-refused : Holds (embedded (rowsOf any) s at n) g v w u → g ≡ false → bad ≡ argumentIn s at n
   any-refused h e = any-bad s (embedded (rowsOf any) s at n) (sym (h .answer) ∙ e)
 
-  pub bytes-held : (b : Bool) → Holds (embedded (rowsOf bytes) s at n) g v w u → g ≡ true → bytesOf b (fromArrays true v w u) ≡ bytesIn b s at n
-  bytes-held b h e = ap (bytesOf b) (arrays-good h e) ∙ bytes-arrays b (embedded (rowsOf bytes) s at n) (within-long s at n)
+  pub bytes-held : (b : Bool) → Holds (embedded (rowsOf bytes) s at n) g v w u → g ≡ true →
+      bytesOf b (fromArrays true v w u) ≡ bytesIn b s at n
+  bytes-held b h e = ap (bytesOf b) (arrays-good h e)
+      ∙ bytes-arrays b (embedded (rowsOf bytes) s at n) (within-long s at n)
 
   pub bytes-refused : (b : Bool) → Holds (embedded (rowsOf bytes) s at n) g v w u → g ≡ false → bad ≡ bytesIn b s at n
   bytes-refused b h e = bytes-bad b (embedded (rowsOf bytes) s at n) (sym (h .answer) ∙ e)

@@ -24,7 +24,8 @@ use Rattle.args.specs.Part.{embedded, valueOf}
 use Rattle.args.specs.Value.{argumentIn}
 use Rattle.args.specs.Arguments.{nextArgument, argumentsAt, anyTypeOf, noArguments, badArguments, withType}
 use Rattle.args.specs.Arguments.{argumentsIn}
-use Rattle.args.specs.private.Bound.{rowsBy, wireBy, testsArgs, nothing, withField, ownOf, found, badBound, boundOf}
+use Rattle.args.specs.private.Bound.{rowsBy, wireBy, testsArgs, nothing, withField, ownOf, found, badBound}
+use Rattle.args.specs.private.Bound.{boundOf}
 use Rattle.args.specs.private.Bound.{boundAt, boundIn, argsOf}
 use Rattle.args.specs.declared.arguments.Arguments.{Arguments}
 use Rattle.args.specs.declared.arguments.NextArgument.{NextArgument}

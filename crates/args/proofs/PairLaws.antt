@@ -33,7 +33,8 @@ module _ (s : List ℕ) (wire at v : ℕ) (inside : at < length s) (is : v ≡ g
   pub quick-number : wire ≡ 0 → Value.Good v at 1 (at + 1) ≡ valueAt s wire at
   quick-number e =
       let long : 1 ≡ at + 1 - at = omega arith in
-      ap (λ (k : ℕ). Value.Good v at k (at + 1)) long ∙ ap (ofVarint at) (one-byte s at v inside is short) ∙ value-number s wire at e
+      ap (λ (k : ℕ). Value.Good v at k (at + 1)) long ∙ ap (ofVarint at) (one-byte s at v inside is short)
+      ∙ value-number s wire at e
 
   pub quick-length : wire ≡ 2 → v ≤ length s - (at + 1) → Value.Good v (at + 1) v (at + 1 + v) ≡ valueAt s wire at
   quick-length e h =
@@ -70,12 +71,14 @@ at-says s at =
     (λ l. both (Says s at) (eqb (getD s at 0) 8) _ _
     (λ o. both (Says s at) (ltb (getD s (at + 1) 0) 128) _ _
     (λ f. both (Says s at) (ltb (getD s (at + 2) 0) 128) _ _
-    (λ t. go (valueAt s (getD s (at + 2) 0 % 8) (at + 3)) refl (ltb-false (length s) (at + 3) l) (eqb-true (getD s at 0) 8 o) (ltb-true (getD s (at + 1) 0) 128 f) (ltb-true (getD s (at + 2) 0) 128 t))
+    (λ t. go (valueAt s (getD s (at + 2) 0 % 8) (at + 3)) refl (ltb-false (length s) (at + 3) l)
+    (eqb-true (getD s at 0) 8 o) (ltb-true (getD s (at + 1) 0) 128 f) (ltb-true (getD s (at + 2) 0) 128 t))
     (λ _. tt))
     (λ _. tt))
     (λ _. tt))
   where
-    go : (v : Value) → v ≡ valueAt s (getD s (at + 2) 0 % 8) (at + 3) → at + 3 ≤ length s → getD s at 0 ≡ 8 → getD s (at + 1) 0 < 128 →
+    go : (v : Value) → v ≡ valueAt s (getD s (at + 2) 0 % 8) (at + 3) → at + 3 ≤ length s → getD s at 0 ≡ 8 →
+        getD s (at + 1) 0 < 128 →
         getD s (at + 2) 0 < 128 → Says s at (pairOf (getD s (at + 1) 0) (getD s (at + 2) 0) (length s) v)
     go (Value.Good value start len next) e l o f t =
         both (Says s at) (eqb next (length s)) (Pair.Two (getD s (at + 1) 0) (getD s (at + 2) 0) value start) Pair.Other
@@ -92,7 +95,8 @@ at-says s at =
     go Value.Bad e l o f t = tt
 
 abbrev SaysIn : List ℕ → ℕ → ℕ → Pair → Type 0
-SaysIn s at n (Pair.Two first tag value start) = (at + n ≤ length s) × TwoFields (take (at + n) s) at first tag value start
+SaysIn s at n (Pair.Two first tag value start) = (at + n ≤ length s) × TwoFields (take (at + n) s) at first tag value
+    start
 SaysIn s at n Pair.Other = Unit {0}
 
 in-says : (s : List ℕ) (at n : ℕ) → SaysIn s at n (pairIn s at n)
@@ -137,7 +141,8 @@ module _ {s : List ℕ} {at first : ℕ} (t : FieldOne s at first) where
       let next : at + 1 + 1 ≡ at + 2 = omega arith in
       sym
       (ap (λ (p : ℕ). Field.Good 1 0 first (at + 1) 1 p) (sym next)
-      ∙ ap (ofValue 1 0) (quick-number s 0 (at + 1) first (omega (arith, t .inside)) (t .first-is) (t .first-short) refl)
+      ∙ ap (ofValue 1 0) (quick-number s 0 (at + 1) first (omega (arith, t .inside)) (t .first-is) (t .first-short)
+      refl)
       ∙ quick-wire s at 8 (omega (arith, t .inside)) (sym (t .one-is)) (omega arith) 0 (omega arith) refl (omega arith))
 
   -- the field in the bytes cut off behind it
@@ -165,14 +170,16 @@ module _ {s : List ℕ} {at first tag value start : ℕ} (t : TwoFields s at fir
       go : (b : Bool) → ltb (tag % 8) 6 ≡ b → tag % 8 < 6
       go true e = ltb-true (tag % 8) 6 e
       go false e =
-          let high = ltb-false (tag % 8) 6 e in absurd (never (λ h. omega arith) (λ h. omega arith) (λ h. omega arith) (λ h. omega arith))
+          let high = ltb-false (tag % 8) 6 e in absurd
+          (never (λ h. omega arith) (λ h. omega arith) (λ h. omega arith) (λ h. omega arith))
 
   field-two : 8 ≤ tag → fieldAt s (at + 2) ≡ Field.Good (tag / 8) (tag % 8) value start (t .len) (length s)
   field-two h =
       let next : at + 3 ≡ at + 2 + 1 = omega arith in
       sym
       (ap (ofValue (tag / 8) (tag % 8)) (t .value-is)
-      ∙ field-value s (tag / 8) (tag % 8) (at + 3) (λ e. never (λ h. omega arith) (λ h. omega arith) (λ h. omega arith) (λ h. omega arith))
+      ∙ field-value s (tag / 8) (tag % 8) (at + 3) (λ e. never (λ h. omega arith) (λ h. omega arith)
+      (λ h. omega arith) (λ h. omega arith))
       ∙ ap (fieldOf s (tag / 8) (tag % 8)) next
       ∙ quick-wire s (at + 2) tag (omega (arith, t .inside)) (t .tag-is) (t .tag-short) (tag % 8) h refl wire-low)
 
@@ -183,7 +190,8 @@ module _ {s : List ℕ} {at first tag value start : ℕ} (t : TwoFields s at fir
       go : LongField (fieldAt s (at + 2)) → tag % 8 ≡ 2 → value ≡ t .len
       go = rw (field-two h) (λ f. f)
 
-  two-listed : (rows : List (List ℕ)) (u v : Use) → 8 ≤ tag → u ≡ useOf rows 1 0 first → v ≡ useOf rows (tag / 8) (tag % 8) value →
+  two-listed : (rows : List (List ℕ)) (u v : Use) → 8 ≤ tag → u ≡ useOf rows 1 0 first →
+      v ≡ useOf rows (tag / 8) (tag % 8) value →
       noted v (noted u noSlots 1 first (at + 1) 1) (tag / 8) value start (t .len) ≡ fieldList rows s at
   two-listed rows u v h e f =
       let one = goes-on (starts rows s at) (omega (arith, t .inside)) (field-one (t .one)) u e in
@@ -191,12 +199,15 @@ module _ {s : List ℕ} {at first tag value start : ℕ} (t : TwoFields s at fir
 
 -- ---- the steps of the short ways
 
-module _ (first tag end : ℕ) {value start len next : ℕ} {read : Value} (e : read ≡ Value.Good value start len next) where
-  pub pair-ends : next ≡ end → Pair.Two first tag value start ≡ pairOf first tag end read
-  pair-ends h = yes (Pair.Two first tag value start) Pair.Other (eq-eqb next end h) ∙ ap (pairOf first tag end) (sym e)
+module _ (first tag end : ℕ) {value start len next : ℕ} {read : Value} (e : read ≡ Value.Good value start len next)
+  where
+    pub pair-ends : next ≡ end → Pair.Two first tag value start ≡ pairOf first tag end read
+    pair-ends h = yes (Pair.Two first tag value start) Pair.Other (eq-eqb next end h) ∙ ap (pairOf first tag end)
+        (sym e)
 
-  pub pair-goes-on : (next ≡ end → ⊥) → Pair.Other ≡ pairOf first tag end read
-  pair-goes-on h = no (Pair.Two first tag value start) Pair.Other (ne-eqb next end h) ∙ ap (pairOf first tag end) (sym e)
+    pub pair-goes-on : (next ≡ end → ⊥) → Pair.Other ≡ pairOf first tag end read
+    pair-goes-on h = no (Pair.Two first tag value start) Pair.Other (ne-eqb next end h)
+        ∙ ap (pairOf first tag end) (sym e)
 
 module _ (s : List ℕ) (at : ℕ) where
   pub at-short : length s < at + 3 → Pair.Other ≡ pairAt s at
@@ -211,7 +222,12 @@ module _ (s : List ℕ) (at : ℕ) where
     module _ (o : getD s at 0 ≡ 8) (first : ℕ) (f : first ≡ getD s (at + 1) 0) where
       pub at-long-first : 128 ≤ first → Pair.Other ≡ pairAt s at
       unfolding pairAt
-      at-long-first h = simp (le-ltb (length s) (at + 3) inside, eq-eqb (getD s at 0) 8 o, le-ltb (getD s (at + 1) 0) 128 (omega arith))
+      at-long-first h = simp (
+        le-ltb (length s) (at + 3) inside,
+        eq-eqb (getD s at 0) 8 o,
+        le-ltb (getD s (at + 1) 0)
+            128 (omega arith),
+      )
 
       module _ (h : first < 128) (tag : ℕ) (g : tag ≡ getD s (at + 2) 0) where
         pub at-long-tag : 128 ≤ tag → Pair.Other ≡ pairAt s at
@@ -224,7 +240,8 @@ module _ (s : List ℕ) (at : ℕ) where
               le-ltb (getD s (at + 2) 0) 128 (omega arith),
             )
 
-        pub at-pair : tag < 128 → (read : Value) → read ≡ valueAt s (tag % 8) (at + 3) → pairOf first tag (length s) read ≡ pairAt s at
+        pub at-pair : tag < 128 → (read : Value) → read ≡ valueAt s (tag % 8) (at + 3) →
+            pairOf first tag (length s) read ≡ pairAt s at
         unfolding pairAt
         at-pair k read v =
             ap (pairOf first tag (length s)) v
@@ -295,7 +312,8 @@ lone-kept s at n {r} p rows kind e some kept = go (subst (SaysLone s at n) (sym 
 
 -- ---- what they make of a pair
 
-module _ (s : List ℕ) (at n : ℕ) {r : Pair} {first tag value start : ℕ} (e : r ≡ Pair.Two first tag value start) (p : r ≡ pairIn s at n) where
+module _ (s : List ℕ) (at n : ℕ) {r : Pair} {first tag value start : ℕ} (e : r ≡ Pair.Two first tag value start)
+    (p : r ≡ pairIn s at n) where
   pub told : SaysIn s at n (Pair.Two first tag value start)
   told = subst (SaysIn s at n) (sym p ∙ e) (in-says s at n)
 
@@ -318,7 +336,8 @@ module _ (s : List ℕ) (at n : ℕ) {r : Pair} {first tag value start : ℕ} (e
     pub pair-kept : slots (told .1 .len) ≡ embedded rows s at n
     pair-kept =
         rw (kind-is, key-is)
-        (ap (checked rows) (two-listed (told .1) rows Use.Kept Use.Kept (omega (arith, key-is)) (rw kind-is at kept-kind) (rw key-is at kept-value))
+        (ap (checked rows) (two-listed (told .1) rows Use.Kept Use.Kept (omega (arith, key-is))
+        (rw kind-is at kept-kind) (rw key-is at kept-value))
         ∙ part-within rows s at n (told .0))
 
     -- of a field with bytes the length is the value

@@ -19,7 +19,8 @@ module _ (rows : List (List ℕ)) (s : List ℕ) (start len : ℕ) where
   pub part-within : start + len ≤ length s → fieldsAt rows (take (start + len) s) start ≡ embedded rows s start len
   part-within h = simp (le-leb (start + len) (length s) h)
 
-  pub holds-past : {seen : List Bool} {values starts : List ℕ} → length s < start + len → Noted badSlots seen values starts →
+  pub holds-past : {seen : List Bool} {values starts : List ℕ} → length s < start + len →
+      Noted badSlots seen values starts →
       Holds (embedded rows s start len) false seen values starts
   holds-past {seen} {values} {starts} h n =
       subst (λ (y : Slots). Holds y false seen values starts) (part-past h) (record { answer = refl; held = n })

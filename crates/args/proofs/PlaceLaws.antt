@@ -91,7 +91,8 @@ pub args-here : (s : List ℕ) (at : ℕ) → at < length s → getD s at 0 ≡ 
     (asLength s (at + 1)) ≡ fieldAt s at
 args-here s at h e = quick-wire s at 18 h (sym e) (omega arith) 2 (omega arith) refl (omega arith)
 
-pub place-here : (s : List ℕ) (at : ℕ) → at < length s → getD s at 0 ≡ 18 → placeOf (asLength s (at + 1)) ≡ argPlace s at
+pub place-here : (s : List ℕ) (at : ℕ) → at < length s → getD s at 0 ≡ 18 →
+    placeOf (asLength s (at + 1)) ≡ argPlace s at
 place-here s at h e = go (asLength s (at + 1)) refl
   where
     here : (v : Value) → asLength s (at + 1) ≡ v → fieldAt s at ≡ ofValue 2 2 v
@@ -125,7 +126,8 @@ place-past zero s at = tt
 place-past (suc most) s at =
     both (PastPlace at (length s)) (ltb at (length s)) _ _
     (λ e.
-    ofField-past at (length s) (ltb-true at (length s) e) (fieldAt s at) (field-past s at) (λ next. placeFrom most s next)
+    ofField-past at (length s) (ltb-true at (length s) e) (fieldAt s at) (field-past s at)
+    (λ next. placeFrom most s next)
     (place-past most s))
     (λ _. tt)
 

@@ -27,7 +27,8 @@ bad-of t h = absurd (omega arith)
 present-of : (t count : ℕ) (a : Argument) → Of t a → Of t (present count a)
 present-of t count a h = both (Of t) (eqb count 0) bad a (λ _. bad-of t) (λ _. h)
 
-bytes-of : (t : ℕ) (octets : Bool) (x : Slots) → typeOf (cond octets (Va.Octets (startOf x 1) (lenOf x 1)) (Va.String (startOf x 1) (lenOf x 1))) ≡ t →
+bytes-of : (t : ℕ) (octets : Bool) (x : Slots) → typeOf
+    (cond octets (Va.Octets (startOf x 1) (lenOf x 1)) (Va.String (startOf x 1) (lenOf x 1))) ≡ t →
     Of t (bytesOf octets x)
 bytes-of t octets x e = both (Of t) (x .good) _ bad (λ _ _. e) (λ _. bad-of t)
 
@@ -67,5 +68,6 @@ type-of s x t =
 pub read-as-typed : ReadAsTyped
 unfolding scalarOf
 read-as-typed s x =
-    both (Of (low32 (valueOf x 1))) (x .good) (ofType s x (low32 (valueOf x 1))) bad (λ _. type-of s x (low32 (valueOf x 1)))
+    both (Of (low32 (valueOf x 1))) (x .good) (ofType s x (low32 (valueOf x 1))) bad
+    (λ _. type-of s x (low32 (valueOf x 1)))
     (λ _. bad-of (low32 (valueOf x 1)))

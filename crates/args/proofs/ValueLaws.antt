@@ -36,11 +36,22 @@ module _ (s : List ℕ) (x : Slots) where
   any-good g = yes (ofAnyType s x (low32 (valueOf x 1))) bad g
 
   -- an unlisted type
-  pub type-none : (t : ℕ) → (t ≡ 1 → ⊥) → (t ≡ 2 → ⊥) → (t ≡ 3 → ⊥) → (t ≡ 4 → ⊥) → (t ≡ 5 → ⊥) → (t ≡ 6 → ⊥) → (t ≡ 7 → ⊥) →
+  pub type-none : (t : ℕ) → (t ≡ 1 → ⊥) → (t ≡ 2 → ⊥) → (t ≡ 3 → ⊥) → (t ≡ 4 → ⊥) → (t ≡ 5 → ⊥) → (t ≡ 6 → ⊥) →
+      (t ≡ 7 → ⊥) →
       (t ≡ 8 → ⊥) → bad ≡ ofType s x t
   unfolding ofType
   type-none t a b c d e f g h =
-      simp (ne-eqb t 1 a, ne-eqb t 2 b, ne-eqb t 3 c, ne-eqb t 4 d, ne-eqb t 5 e, ne-eqb t 6 f, ne-eqb t 7 g, ne-eqb t 8 h)
+      simp (
+        ne-eqb t 1 a,
+        ne-eqb t 2 b,
+        ne-eqb t 3 c,
+        ne-eqb t 4 d,
+        ne-eqb t 5 e,
+        ne-eqb t 6 f,
+        ne-eqb t 7 g,
+        ne-eqb t
+            8 h,
+      )
 
   pub any-type-none : (t : ℕ) → (t ≡ 1 → ⊥) → (t ≡ 2 → ⊥) → (t ≡ 3 → ⊥) → bad ≡ ofAnyType s x t
   unfolding ofAnyType

@@ -2,7 +2,8 @@
 ghost use mathlib.Core.Path.{_≡_};
 ghost use Prim.Native.Nat.{_^_, _<_};
 ghost use Rattle.wire.specs.Field.{fieldAt};
-ghost use Rattle.args.specs.private.Bound.{argsOf, badBound, boundAt, boundIn, found, testsArgs, wireBy, withField};
+ghost use Rattle.args.specs.private.Bound.{argsOf, badBound, boundAt, boundIn, found, testsArgs, wireBy};
+ghost use Rattle.args.specs.private.Bound.{withField};
 use crate::arguments::Arguments;
 use wire::field::Field;
 

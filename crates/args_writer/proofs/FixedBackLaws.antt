@@ -31,7 +31,8 @@ little-back zero v at s q h k = omega arith
 little-back (suc n) v at s q h k =
     let first : getD s (at + 0) 0 ≡ v % 256 = tail-byte (record { within = k .within; is = k .there }) 0 in
     let place : at + 0 ≡ at = omega arith in
-    let rest = little-back n (v / 256) (at + 1) s q (below n h) (stands-next (v % 256 ∷ []) (fixedBytes n (v / 256)) k) in
+    let rest = little-back n (v / 256) (at + 1) s q (below n h)
+    (stands-next (v % 256 ∷ []) (fixedBytes n (v / 256)) k) in
     omega (arith, first, ap (λ (p : ℕ). getD s p 0) place, rest)
   where
     below : (n : ℕ) → v < 256 ^ suc n → v / 256 < 256 ^ n
@@ -39,17 +40,20 @@ little-back (suc n) v at s q h k =
 
 -- of wire type 1 or 5, by the width
 module _ (num wire k v at : ℕ) (s q : List ℕ) (by-wire : (p : ℕ) → asFixed k s p ≡ valueAt s wire p) where
-  pub fixed-reads : 0 < num → num < 10 → wire < 6 → (wire ≡ 3 → ⊥) → v < 256 ^ k → Stands s at (fixedField num wire k v) q →
+  pub fixed-reads : 0 < num → num < 10 → wire < 6 → (wire ≡ 3 → ⊥) → v < 256 ^ k →
+      Stands s at (fixedField num wire k v) q →
       fieldAt s at ≡ Field.Good num wire v (behindTag at (num * 8 + wire)) k (at + length (fixedField num wire k v))
   unfolding fixedField
   fixed-reads some few low no-group h st =
       let g = num * 8 + wire in
       let here = behindTag at g in
       let n = fixed-length k v in
-      let next : here + k ≡ at + length (varintBytes g ++ fixedBytes k v) = omega (arith, length-append (varintBytes g) (fixedBytes k v)) in
+      let next : here + k ≡ at + length (varintBytes g ++ fixedBytes k v) = omega
+      (arith, length-append (varintBytes g) (fixedBytes k v)) in
       let behind = stands-next (varintBytes g) (fixedBytes k v) st in
       field-tagged s at (Tag.Field num wire here)
-      (tag-reads g num wire at s (fixedBytes k v ++ q) refl some few low (stands-first (varintBytes g) (fixedBytes k v) st))
+      (tag-reads g num wire at s (fixedBytes k v ++ q) refl some few low
+      (stands-first (varintBytes g) (fixedBytes k v) st))
       ∙ sym (field-value s num wire here no-group)
       ∙ ap (ofValue num wire) (sym (by-wire here))
       ∙ ap (λ (x : Fixed). ofValue num wire (ofFixed k here x))
@@ -64,11 +68,13 @@ unfolding fixedField
 fixed-some num wire k v =
     omega (arith, length-append (varintBytes (num * 8 + wire)) (fixedBytes k v), varint-length (num * 8 + wire))
 
-pub reads-fixed : (rows : List (List ℕ)) (num wire k v : ℕ) → ((s : List ℕ) (p : ℕ) → asFixed k s p ≡ valueAt s wire p) →
+pub reads-fixed : (rows : List (List ℕ)) (num wire k v : ℕ) →
+    ((s : List ℕ) (p : ℕ) → asFixed k s p ≡ valueAt s wire p) →
     Use.Kept ≡ useOf rows num wire v → 0 < num → num < 10 → wire < 6 → (wire ≡ 3 → ⊥) → v < 256 ^ k →
     Reads rows (fixedField num wire k v) (withFixed num wire k v)
 reads-fixed rows num wire k v by-wire u some few low no-group h =
     record {
       on = λ s from at q x st l.
-          goes-on l (omega (arith, stands-length st, fixed-some num wire k v)) (fixed-reads num wire k v at s q (by-wire s) some few low no-group h st) Use.Kept u;
+          goes-on l (omega (arith, stands-length st, fixed-some num wire k v))
+          (fixed-reads num wire k v at s q (by-wire s) some few low no-group h st) Use.Kept u;
     }

@@ -57,13 +57,17 @@ pub form-good : (a : Argument) (src : List ℕ) → formOf a (length src) .good 
 form-good (Va.Signed z) src = refl
 form-good (Va.Unsigned n) src = refl
 form-good Va.Null src = refl
-form-good (Va.Octets start len) src = good-if (leb (start + len) (length src)) (form true Scalars.octets Scalars.octetsField 2 0 start len) refl
-form-good (Va.Double d) src = good-unless (isNan d) (valueForm Scalars.double Scalars.doubleField 1 (toBits binary64 d)) refl
+form-good (Va.Octets start len) src = good-if (leb (start + len) (length src))
+    (form true Scalars.octets Scalars.octetsField 2 0 start len) refl
+form-good (Va.Double d) src = good-unless (isNan d)
+    (valueForm Scalars.double Scalars.doubleField 1 (toBits binary64 d)) refl
 form-good (Va.DoubleNan n) src = good-if (nanBits binary64 n) (valueForm Scalars.double Scalars.doubleField 1 n) refl
-form-good (Va.Float d) src = good-unless (isNan d) (valueForm Scalars.float Scalars.floatField 5 (toBits binary32 d)) refl
+form-good (Va.Float d) src = good-unless (isNan d) (valueForm Scalars.float Scalars.floatField 5 (toBits binary32 d))
+    refl
 form-good (Va.FloatNan n) src = good-if (nanBits binary32 n) (valueForm Scalars.float Scalars.floatField 5 n) refl
 form-good (Va.Bool b) src = refl
-form-good (Va.String start len) src = good-if (leb (start + len) (length src)) (form true Scalars.string Scalars.stringField 2 0 start len) refl
+form-good (Va.String start len) src = good-if (leb (start + len) (length src))
+    (form true Scalars.string Scalars.stringField 2 0 start len) refl
 form-good Va.Object src = refl
 form-good Va.Array src = refl
 form-good (Va.Refused n) src = refl
@@ -75,10 +79,12 @@ pub record Formed (a : Argument) (src : List ℕ) (f : Form) : Type 0 where
   pub within : f .start + f .len ≤ length src
   pub value : valueIn f (take (f .len) (drop (f .start) src)) ≡ valueField a src
 
-formed-if : (a : Argument) (src : List ℕ) (f : Form) (b : Bool) → b ≡ true → Formed a src f → Formed a src (cond b f noForm)
+formed-if : (a : Argument) (src : List ℕ) (f : Form) (b : Bool) → b ≡ true → Formed a src f →
+    Formed a src (cond b f noForm)
 formed-if a src f b e w = subst (Formed a src) (yes f noForm e) w
 
-formed-unless : (a : Argument) (src : List ℕ) (f : Form) (b : Bool) → not b ≡ true → Formed a src f → Formed a src (cond b noForm f)
+formed-unless : (a : Argument) (src : List ℕ) (f : Form) (b : Bool) → not b ≡ true → Formed a src f →
+    Formed a src (cond b noForm f)
 formed-unless a src f false e w = w
 formed-unless a src f true e w = absurd (let z : _≡_ {A = ℕ} 0 1 = cc in omega arith)
 
@@ -88,7 +94,8 @@ formed (Va.Signed z) src e = record { kind = refl; within = omega arith; value =
 formed (Va.Unsigned n) src e = record { kind = refl; within = omega arith; value = refl }
 formed Va.Null src e = record { kind = refl; within = omega arith; value = refl }
 formed (Va.Octets start len) src e =
-    formed-if (Va.Octets start len) src (form true Scalars.octets Scalars.octetsField 2 0 start len) (leb (start + len) (length src)) e
+    formed-if (Va.Octets start len) src (form true Scalars.octets Scalars.octetsField 2 0 start len)
+    (leb (start + len) (length src)) e
     (record { kind = refl; within = leb-true (start + len) (length src) e; value = refl })
 formed (Va.Double d) src e =
     formed-unless (Va.Double d) src (valueForm Scalars.double Scalars.doubleField 1 (toBits binary64 d)) (isNan d) e
@@ -104,7 +111,8 @@ formed (Va.FloatNan n) src e =
     (record { kind = refl; within = omega arith; value = refl })
 formed (Va.Bool b) src e = record { kind = refl; within = omega arith; value = refl }
 formed (Va.String start len) src e =
-    formed-if (Va.String start len) src (form true Scalars.string Scalars.stringField 2 0 start len) (leb (start + len) (length src)) e
+    formed-if (Va.String start len) src (form true Scalars.string Scalars.stringField 2 0 start len)
+    (leb (start + len) (length src)) e
     (record { kind = refl; within = leb-true (start + len) (length src) e; value = refl })
 formed Va.Object src e = absurd (let z : _≡_ {A = ℕ} 0 1 = cc in omega arith)
 formed Va.Array src e = absurd (let z : _≡_ {A = ℕ} 0 1 = cc in omega arith)

@@ -38,12 +38,14 @@ use Rattle.args_writer.proofs.ScalarBackLaws.{scalar-stands, any-back, 
 -- ---- good stretches one behind the other
 
 -- a stretch that stands in bytes with one behind it
-stretch-then : {s : List ℕ} {at : ℕ} {a q : List ℕ} → Stands s at a q → Stretch s (at + length a) → {i : ℕ} → Stretch a i → Stretch s (at + i)
+stretch-then : {s : List ℕ} {at : ℕ} {a q : List ℕ} → Stands s at a q → Stretch s (at + length a) → {i : ℕ} →
+    Stretch a i → Stretch s (at + i)
 stretch-then {s} {at} k r (done e) = subst (λ (p : ℕ). Stretch s (at + p)) (sym e) r
 stretch-then {s} {at} {a} k r {i} (more {st = st} {ln = ln} e b g) =
     let inside = field-inside a i e in
     more (there k i e)
-    (λ z. b (sym (ap anyTypeOf (argument-moved k st ln (inside .0)) ∙ type-moved at (argumentIn a st ln)) ∙ z)) (stretch-then k r g)
+    (λ z. b (sym (ap anyTypeOf (argument-moved k st ln (inside .0)) ∙ type-moved at (argumentIn a st ln)) ∙ z))
+    (stretch-then k r g)
 
 -- a stretch is judged good
 judged : (a : List ℕ) (m i : ℕ) → length a ≤ i + m → Stretch a i → argsFrom m a i ≡ true
@@ -52,7 +54,8 @@ judged a zero i h g = refl
 judged a (suc m) i h (done e) = rw (le-ltb i (length a) (omega arith)) refl
 judged a (suc m) i h (more {st = st} {ln = ln} {next = next} e b g) =
     let inside = field-inside a i e in
-    rw (lt-ltb i (length a) (omega arith), e, ne-eqb (anyTypeOf (argumentIn a st ln)) 0 b) (judged a m next (omega arith) g)
+    rw (lt-ltb i (length a) (omega arith), e, ne-eqb (anyTypeOf (argumentIn a st ln)) 0 b)
+    (judged a m next (omega arith) g)
 
 module _ (s f : List ℕ) where
   front : Stands (s ++ f) 0 s f
@@ -93,7 +96,8 @@ all-moved-none : (l : List Argument) → map (moved 0) l ≡ l
 all-moved-none [] = refl
 all-moved-none (a ∷ l) = rw (moved-none a, all-moved-none l)
 
-both-listed : (s f : List ℕ) → Stretch s 0 → Stretch f 0 → argumentsAt (s ++ f) 0 ≡ argumentsAt s 0 ++ map (moved (length s)) (argumentsAt f 0)
+both-listed : (s f : List ℕ) → Stretch s 0 → Stretch f 0 →
+    argumentsAt (s ++ f) 0 ≡ argumentsAt s 0 ++ map (moved (length s)) (argumentsAt f 0)
 both-listed s f g h =
     lists-whole (lists-then (lists-stretch s g) (lists-stretch f h)) (record { within = omega arith; is = refl })
     ∙ ap (λ (l : List Argument). l ++ map (moved (0 + length s)) (argumentsAt f 0)) (all-moved-none (argumentsAt s 0))
@@ -110,7 +114,8 @@ module _ (f : List ℕ) {v st ln next : ℕ} (e : fieldAt f 0 ≡ Field.Good 2 2
       let n : length f ≡ suc (length f - 1) = omega arith in
       ap (λ (m : ℕ). argumentsFrom m f 0) n
       ∙ args-found (length f - 1) f 0 (next-finds f 0 e)
-      ∙ ap (λ (l : List Argument). argumentIn f st ln ∷ l) (args-none (length f - 1) f next (next-end f next (omega arith)))
+      ∙ ap (λ (l : List Argument). argumentIn f st ln ∷ l)
+      (args-none (length f - 1) f next (next-end f next (omega arith)))
 
 -- ---- a scalar behind a good stretch
 
@@ -185,7 +190,8 @@ append-reads a src s sized good short stretch =
       place = length s + r .place;
       arguments =
           both-listed s f g h
-          ∙ ap (λ (l : List Argument). argumentsAt s 0 ++ map (moved (length s)) l) (one-listed f field end ∙ ap (λ (x : Argument). x ∷ []) is)
+          ∙ ap (λ (l : List Argument). argumentsAt s 0 ++ map (moved (length s)) l)
+          (one-listed f field end ∙ ap (λ (x : Argument). x ∷ []) is)
           ∙ ap (λ (x : Argument). argumentsAt s 0 ++ (x ∷ [])) (moved-placed (length s) (r .place) a);
       bytes = bytes-moved s f (r .place) a ∙ r .bytes;
     }
@@ -200,18 +206,21 @@ module _ (a : Argument) (src buf : List ℕ) (at : ℕ) where
   unfolding appendReason
   not-refused = go (writable a src) (leb (at + length f) (length buf)) refl
     where
-      go : (w b : Bool) → leb (at + length f) (length buf) ≡ b → _≡_ {A = ℕ} (cond w (cond b 0 3) 6) 0 → (w ≡ true) × (at + length f ≤ length buf)
+      go : (w b : Bool) → leb (at + length f) (length buf) ≡ b → _≡_ {A = ℕ} (cond w (cond b 0 3) 6) 0 →
+          (w ≡ true) × (at + length f ≤ length buf)
       go true true e h = (refl, leb-true (at + length f) (length buf) e)
       go true false e h = absurd (omega arith)
       go false b e h = absurd (omega arith)
 
   -- cut off behind the stretch: what stood there, and the field
-  cut-is : appendReason a src (length buf) at ≡ 0 → take (appendedOf a src (length buf) at .len) (leftBy a src buf at) ≡ take at buf ++ f
+  cut-is : appendReason a src (length buf) at ≡ 0 →
+      take (appendedOf a src (length buf) at .len) (leftBy a src buf at) ≡ take at buf ++ f
   unfolding appendedOf leftBy
   cut-is e =
       let w = not-refused e in
       let room = w .1 in
-      let n : length (take at buf ++ f) ≡ at + length f = omega (arith, length-append (take at buf) f, length-take-le at buf (omega arith)) in
+      let n : length (take at buf ++ f) ≡ at + length f = omega
+      (arith, length-append (take at buf) f, length-take-le at buf (omega arith)) in
       rw (e, w .0, le-leb (at + length f) (length buf) room)
       (take-at (take at buf ++ f) (drop (at + length f) buf) (at + length f) n)
 

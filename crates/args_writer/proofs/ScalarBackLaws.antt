@@ -28,7 +28,8 @@ use Rattle.encode.specs.Field.{numberField, bytesField}
 use Rattle.args.specs.Part.{embedded, low32}
 use Rattle.args.specs.Value.{bytesOf as bytesTaken, bytesIn, ofType, scalarOf, ofAnyType, anyOf, argumentIn}
 use Rattle.varint.proofs.TailLaws.{Stands, stands-length, stands-bytes, stands-next}
-use Rattle.writer.proofs.FieldLaws.{Reads, withNumber, withBytes, reads-number, reads-bytes, reads-then, embedded-good, stands-inside}
+use Rattle.writer.proofs.FieldLaws.{Reads, withNumber, withBytes, reads-number, reads-bytes, reads-then, embedded-good}
+use Rattle.writer.proofs.FieldLaws.{stands-inside}
 use Rattle.writer.proofs.ExecuteBackLaws.{partStart}
 use Rattle.encode.specs.Field.{fixedField}
 use Rattle.args_writer.specs.Scalar.{bytesOf, writable, valueField, scalarBytes, anyBytes}
@@ -89,7 +90,8 @@ module _ {s q : List ℕ} {at : ℕ} (t : ℕ) (value : List ℕ) (k : Stands s 
   scalar-stands = stands-inside 2 content (stands-next (numberField 1 1) (bytesField 2 content) k)
 
   pub any-back : length content < 2 ^ 64 →
-      argumentIn s at (length (anyBytes t value)) ≡ scalarOf s (embedded (rowsOf scalar) s (scalarPlace at content) (length content))
+      argumentIn s at (length (anyBytes t value)) ≡ scalarOf s
+      (embedded (rowsOf scalar) s (scalarPlace at content) (length content))
   unfolding anyBytes
   any-back short =
       ap (anyOf s)
@@ -102,12 +104,16 @@ module _ {s q : List ℕ} {at : ℕ} (t : ℕ) (value : List ℕ) (k : Stands s 
 -- ---- the value in the Scalar
 
 -- behind the type the value is read
-scalar-in : {s q : List ℕ} {at t : ℕ} {value : List ℕ} {g : ℕ → Slots → Slots} → Listed t → t < 10 → Reads (rowsOf scalar) value g →
-    true ≡ hasRequired (rowsOf scalar) (g (at + length (numberField 1 t)) (withNumber 1 t at noSlots) .count) → Stands s at (scalarBytes t value) q →
-    embedded (rowsOf scalar) s at (length (scalarBytes t value)) ≡ g (at + length (numberField 1 t)) (withNumber 1 t at noSlots)
+scalar-in : {s q : List ℕ} {at t : ℕ} {value : List ℕ} {g : ℕ → Slots → Slots} → Listed t → t < 10 →
+    Reads (rowsOf scalar) value g →
+    true ≡ hasRequired (rowsOf scalar) (g (at + length (numberField 1 t)) (withNumber 1 t at noSlots) .count) →
+    Stands s at (scalarBytes t value) q →
+    embedded (rowsOf scalar) s at (length (scalarBytes t value)) ≡ g (at + length (numberField 1 t))
+    (withNumber 1 t at noSlots)
 unfolding scalarBytes
 scalar-in {t = t} u few r h k =
-    embedded-good (reads-then (reads-number (rowsOf scalar) 1 t u (omega arith) (omega arith) (omega arith)) r) k (sym h)
+    embedded-good (reads-then (reads-number (rowsOf scalar) 1 t u (omega arith) (omega arith) (omega arith)) r) k
+    (sym h)
 
 -- only the type is required
 scalar-needed : (count : List ℕ) → getD count 1 0 ≡ 1 → true ≡ hasRequired (rowsOf scalar) count
@@ -154,7 +160,8 @@ module _ (f : Format) (raw : ℕ → Argument) (number : Float → Argument) whe
   number-kept : (d : Float) → T (fits f d) → not (isNan d) ≡ true → carried f raw number (toBits f d) ≡ number d
   number-kept d h e =
       let back = ofBits-toBits f d h in
-      sym (without (raw (toBits f d)) (number (ofBits f (toBits f d))) (nanBits-is f (toBits f d) ∙ ap isNan back ∙ not-true _ e))
+      sym (without (raw (toBits f d)) (number (ofBits f (toBits f d)))
+      (nanBits-is f (toBits f d) ∙ ap isNan back ∙ not-true _ e))
       ∙ ap number back
 
   raw-kept : (n : ℕ) → nanBits f n ≡ true → carried f raw number n ≡ raw n
@@ -169,7 +176,8 @@ bytes-needed at n = refl
 abbrev bytesCase : Bool → ℕ → ℕ → Argument
 bytesCase octets p n = cond octets (Va.Octets p n) (Va.String p n)
 
-bytes-back : {s q : List ℕ} {at : ℕ} (octets : Bool) (bs : List ℕ) → length bs < 2 ^ 64 → Stands s at (bytesField 1 bs) q →
+bytes-back : {s q : List ℕ} {at : ℕ} (octets : Bool) (bs : List ℕ) → length bs < 2 ^ 64 →
+    Stands s at (bytesField 1 bs) q →
     bytesIn octets s at (length (bytesField 1 bs)) ≡ bytesCase octets (partStart 1 at (length bs)) (length bs)
 bytes-back {s} {q} {at} octets bs short k =
     ap (bytesTaken octets)
@@ -195,23 +203,29 @@ innerPlace at t num bs = partStart num (at + length (numberField 1 t)) (length (
 abbrev bytesPlace : ℕ → ℕ → ℕ → List ℕ → ℕ
 bytesPlace at t num bs = partStart 1 (innerPlace at t num bs) (length bs)
 
-module _ {s q : List ℕ} {at : ℕ} (t num : ℕ) (bs : List ℕ) (k : Stands s at (scalarBytes t (bytesField num (bytesField 1 bs))) q) where
+module _ {s q : List ℕ} {at : ℕ} (t num : ℕ) (bs : List ℕ)
+    (k : Stands s at (scalarBytes t (bytesField num (bytesField 1 bs))) q) where
   inner-stands : Stands s (innerPlace at t num bs) (bytesField 1 bs) q
   unfolding scalarBytes
-  inner-stands = stands-inside num (bytesField 1 bs) (stands-next (numberField 1 t) (bytesField num (bytesField 1 bs)) k)
+  inner-stands = stands-inside num (bytesField 1 bs)
+      (stands-next (numberField 1 t) (bytesField num (bytesField 1 bs)) k)
 
   bytes-stand : Stands s (bytesPlace at t num bs) bs q
   bytes-stand = stands-inside 1 bs inner-stands
 
-  part-back : length s < 2 ^ 64 → Listed t → t < 10 → Use.Kept ≡ useOf (rowsOf scalar) num 2 (length (bytesField 1 bs)) → 0 < num → num < 10 →
+  part-back : length s < 2 ^ 64 → Listed t → t < 10 →
+      Use.Kept ≡ useOf (rowsOf scalar) num 2 (length (bytesField 1 bs)) → 0 < num → num < 10 →
       (octets : Bool) →
-      getD (withBytes num (length (bytesField 1 bs)) (at + length (numberField 1 t)) (withNumber 1 t at noSlots) .count) 1 0 ≡ 1 →
+      getD (withBytes num (length (bytesField 1 bs)) (at + length (numberField 1 t))
+      (withNumber 1 t at noSlots) .count) 1 0 ≡ 1 →
       bytesIn octets s (innerPlace at t num bs) (length (bytesField 1 bs))
-      ≡ scalarOf s (withBytes num (length (bytesField 1 bs)) (at + length (numberField 1 t)) (withNumber 1 t at noSlots)) →
+      ≡ scalarOf s (withBytes num (length (bytesField 1 bs)) (at + length (numberField 1 t))
+      (withNumber 1 t at noSlots)) →
       Taken s at t (bytesField num (bytesField 1 bs)) ≡ bytesCase octets (bytesPlace at t num bs) (length bs)
   part-back small u low kept some few octets one taken =
       ap (scalarOf s)
-      (scalar-in u low (reads-bytes (rowsOf scalar) num (bytesField 1 bs) kept some few (omega (arith, stands-length inner-stands)))
+      (scalar-in u low (reads-bytes (rowsOf scalar) num (bytesField 1 bs) kept some few
+      (omega (arith, stands-length inner-stands)))
       (scalar-needed _ one) k)
       ∙ sym taken
       ∙ bytes-back octets bs (omega (arith, stands-length bytes-stand)) inner-stands
@@ -225,7 +239,8 @@ bit-kept : (b : Bool) → not (eqb (cond b 1 0) 0) ≡ b
 bit-kept true = refl
 bit-kept false = refl
 
-named-long : (start len : ℕ) (src : List ℕ) → leb (start + len) (length src) ≡ true → length (take len (drop start src)) ≡ len
+named-long : (start len : ℕ) (src : List ℕ) → leb (start + len) (length src) ≡ true →
+    length (take len (drop start src)) ≡ len
 named-long start len src e =
     let h = leb-true (start + len) (length src) e in
     length-take-le len (drop start src) (omega (arith, length-drop start src))
@@ -244,31 +259,38 @@ plain {a} {r} {src} {s} e f g = record { place = 0; is = g ∙ sym e; bytes = ap
 
 module _ {s q : List ℕ} {at : ℕ} (small : length s < 2 ^ 64) (src : List ℕ) where
   -- a number, and a fixed value, behind the type
-  number-back : {t num v : ℕ} {r : Argument} → Listed t → t < 10 → Use.Kept ≡ useOf (rowsOf scalar) num 0 v → 0 < num → num < 10 → v < 2 ^ 64 →
+  number-back : {t num v : ℕ} {r : Argument} → Listed t → t < 10 → Use.Kept ≡ useOf (rowsOf scalar) num 0 v →
+      0 < num → num < 10 → v < 2 ^ 64 →
       getD (withNumber num v (at + length (numberField 1 t)) (withNumber 1 t at noSlots) .count) 1 0 ≡ 1 →
       r ≡ scalarOf s (withNumber num v (at + length (numberField 1 t)) (withNumber 1 t at noSlots)) →
       Stands s at (scalarBytes t (numberField num v)) q → Taken s at t (numberField num v) ≡ r
   number-back {num = num} {v = v} u low kept some few h one taken k =
-      ap (scalarOf s) (scalar-in u low (reads-number (rowsOf scalar) num v kept some few h) (scalar-needed _ one) k) ∙ sym taken
+      ap (scalarOf s) (scalar-in u low (reads-number (rowsOf scalar) num v kept some few h) (scalar-needed _ one) k)
+      ∙ sym taken
 
-  double-back : (n : ℕ) → n < 2 ^ 64 → Stands s at (scalarBytes 5 (fixedField 6 1 8 n)) q → Taken s at 5 (fixedField 6 1 8 n) ≡ doubleOf n
+  double-back : (n : ℕ) → n < 2 ^ 64 → Stands s at (scalarBytes 5 (fixedField 6 1 8 n)) q →
+      Taken s at 5 (fixedField 6 1 8 n) ≡ doubleOf n
   double-back n h k =
       ap (scalarOf s)
       (scalar-in (listed .4) (omega arith)
-      (reads-fixed (rowsOf scalar) 6 1 8 n (λ s p. refl) (kept-value n .3) (omega arith) (omega arith) (omega arith) (λ e. omega arith) h)
+      (reads-fixed (rowsOf scalar) 6 1 8 n (λ s p. refl) (kept-value n .3) (omega arith) (omega arith) (omega arith)
+      (λ e. omega arith) h)
       (scalar-needed _ refl) k)
       ∙ sym (double-taken s at (at + length (numberField 1 5)) n)
 
-  float-back : (n : ℕ) → n < 2 ^ 32 → Stands s at (scalarBytes 6 (fixedField 7 5 4 n)) q → Taken s at 6 (fixedField 7 5 4 n) ≡ floatOf n
+  float-back : (n : ℕ) → n < 2 ^ 32 → Stands s at (scalarBytes 6 (fixedField 7 5 4 n)) q →
+      Taken s at 6 (fixedField 7 5 4 n) ≡ floatOf n
   float-back n h k =
       ap (scalarOf s)
       (scalar-in (listed .5) (omega arith)
-      (reads-fixed (rowsOf scalar) 7 5 4 n (λ s p. refl) (kept-value n .4) (omega arith) (omega arith) (omega arith) (λ e. omega arith) h)
+      (reads-fixed (rowsOf scalar) 7 5 4 n (λ s p. refl) (kept-value n .4) (omega arith) (omega arith) (omega arith)
+      (λ e. omega arith) h)
       (scalar-needed _ refl) k)
       ∙ sym (float-taken s at (at + length (numberField 1 6)) n)
       ∙ ap floatOf (mod-eq-of-lt h)
 
-  pub scalar-back : (a : Argument) → Sized a → writable a src ≡ true → Stands s at (scalarBytes (typeOf a) (valueField a src)) q →
+  pub scalar-back : (a : Argument) → Sized a → writable a src ≡ true →
+      Stands s at (scalarBytes (typeOf a) (valueField a src)) q →
       Back a src s (Taken s at (typeOf a) (valueField a src))
   scalar-back (Va.Signed z) h e k =
       plain refl refl
@@ -280,7 +302,8 @@ module _ {s q : List ℕ} {at : ℕ} (small : length s < 2 ^ 64) (src : List ℕ
       (number-back (listed .1) (omega arith) (kept-value n .1) (omega arith) (omega arith) h refl
       (uint-taken s at (at + length (numberField 1 2)) n) k)
   scalar-back Va.Null h e k =
-      plain refl refl (ap (scalarOf s) (scalar-in (listed .2) (omega arith) no-value (scalar-needed _ refl) k) ∙ sym (null-taken s at 0 0))
+      plain refl refl (ap (scalarOf s) (scalar-in (listed .2) (omega arith) no-value (scalar-needed _ refl) k)
+      ∙ sym (null-taken s at 0 0))
   scalar-back (Va.Octets start len) h e k =
       let bs = take len (drop start src) in
       let n = named-long start len src e in
@@ -288,17 +311,20 @@ module _ {s q : List ℕ} {at : ℕ} (small : length s < 2 ^ 64) (src : List ℕ
       record {
         place = p;
         is =
-            part-back 4 5 bs k small (listed .3) (omega arith) (kept-value (length (bytesField 1 bs)) .2) (omega arith) (omega arith) true refl
+            part-back 4 5 bs k small (listed .3) (omega arith) (kept-value (length (bytesField 1 bs)) .2)
+            (omega arith) (omega arith) true refl
             (octets-taken s at (at + length (numberField 1 4)) (length (bytesField 1 bs)))
             ∙ ap (Va.Octets p) n;
         bytes = ap (λ (m : ℕ). take m (drop p s)) (sym n) ∙ stands-bytes (bytes-stand 4 5 bs k);
       }
   scalar-back (Va.Double d) h e k =
-      plain refl refl (double-back (toBits binary64 d) (toBits-lt binary64 d h) k ∙ number-kept binary64 Va.DoubleNan Va.Double d h e)
+      plain refl refl (double-back (toBits binary64 d) (toBits-lt binary64 d h) k
+      ∙ number-kept binary64 Va.DoubleNan Va.Double d h e)
   scalar-back (Va.DoubleNan n) h e k =
       plain refl refl (double-back n h k ∙ raw-kept binary64 Va.DoubleNan Va.Double n e)
   scalar-back (Va.Float d) h e k =
-      plain refl refl (float-back (toBits binary32 d) (toBits-lt binary32 d h) k ∙ number-kept binary32 Va.FloatNan Va.Float d h e)
+      plain refl refl (float-back (toBits binary32 d) (toBits-lt binary32 d h) k
+      ∙ number-kept binary32 Va.FloatNan Va.Float d h e)
   scalar-back (Va.FloatNan n) h e k = plain refl refl (float-back n h k ∙ raw-kept binary32 Va.FloatNan Va.Float n e)
   scalar-back (Va.Bool b) h e k =
       plain refl refl
@@ -312,7 +338,8 @@ module _ {s q : List ℕ} {at : ℕ} (small : length s < 2 ^ 64) (src : List ℕ
       record {
         place = p;
         is =
-            part-back 8 9 bs k small (listed .7) (omega arith) (kept-value (length (bytesField 1 bs)) .6) (omega arith) (omega arith) false refl
+            part-back 8 9 bs k small (listed .7) (omega arith) (kept-value (length (bytesField 1 bs)) .6)
+            (omega arith) (omega arith) false refl
             (string-taken s at (at + length (numberField 1 8)) (length (bytesField 1 bs)))
             ∙ ap (Va.String p) n;
         bytes = ap (λ (m : ℕ). take m (drop p s)) (sym n) ∙ stands-bytes (bytes-stand 8 9 bs k);

@@ -47,7 +47,8 @@ writable Va.Object src = false
 writable Va.Array src = false
 writable (Va.Refused n) src = false
 
--- the field of a Scalar with the value. Octets and string are messages that hold the bytes in field 1; null has no value (L8, L9)
+-- the field of a Scalar with the value. Octets and string are messages that hold the bytes in field 1; null has no
+-- value (L8, L9)
 abbrev pub valueField : Argument → List ℕ → List ℕ
 valueField (Va.Signed z) src = numberField Scalars.sintField (zigzag z)
 valueField (Va.Unsigned n) src = numberField Scalars.uintField n

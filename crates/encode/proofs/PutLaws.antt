@@ -11,7 +11,8 @@ use Rattle.encode.specs.declared.put.Put.the-variants.{Next, Full}
 use Rattle.encode.specs.Put.{fitsAt, putAt, written}
 
 -- no room: nothing is written
-pub put-full : (b : List ℕ) (at : ℕ) (bs : List ℕ) → length b < at + length bs → (Full ≡ putAt b at bs) × (b ≡ written b at bs)
+pub put-full : (b : List ℕ) (at : ℕ) (bs : List ℕ) → length b < at + length bs →
+    (Full ≡ putAt b at bs) × (b ≡ written b at bs)
 put-full b at bs h = rw (lt-leb (at + length bs) (length b) h) (refl, refl)
 
 -- room: the bytes stored one after the other are the bytes written

@@ -27,7 +27,8 @@ sets-append (x ∷ xs) ys b at =
 
 sets-out : (xs b : List ℕ) (at : ℕ) → length b ≤ at → sets b at xs ≡ b
 sets-out [] b at h = refl
-sets-out (x ∷ xs) b at h = ap (λ (l : List ℕ). sets l (suc at) xs) (set-out b at x h) ∙ sets-out xs b (suc at) (omega arith)
+sets-out (x ∷ xs) b at h = ap (λ (l : List ℕ). sets l (suc at) xs) (set-out b at x h)
+    ∙ sets-out xs b (suc at) (omega arith)
 
 pub room-left : (size at n : ℕ) → at ≤ size → leb n (size - at) ≡ leb (at + n) size
 room-left size at n h =
@@ -100,13 +101,15 @@ pub putting-ends : {b₀ whole b b₁ rest : List ℕ} {at p q x : ℕ} → Putt
     Puts b p (x ∷ []) q b₁ → Puts b₀ at whole q b₁
 putting-ends r e f = puts-as (ap (λ (l : List ℕ). r .done ++ l) (sym e) ∙ r .left) (puts-then (r .put) f)
 
-pub putting-ended : {b₀ whole b rest : List ℕ} {at p : ℕ} → Putting b₀ at whole b p rest → rest ≡ [] → Puts b₀ at whole p b
+pub putting-ended : {b₀ whole b rest : List ℕ} {at p : ℕ} → Putting b₀ at whole b p rest → rest ≡ [] →
+    Puts b₀ at whole p b
 putting-ended r e =
     puts-as (sym (append-nil (r .done)) ∙ ap (λ (l : List ℕ). r .done ++ l) (sym e) ∙ r .left) (r .put)
 
 -- ---- with room, and without
 
-pub puts-room : {b bs b₁ : List ℕ} {at r : ℕ} → at + length bs ≤ length b → Puts b at bs r b₁ → PutsIfRoom b at bs (Next r) b₁
+pub puts-room : {b bs b₁ : List ℕ} {at r : ℕ} → at + length bs ≤ length b → Puts b at bs r b₁ →
+    PutsIfRoom b at bs (Next r) b₁
 puts-room {b} {bs} {b₁} {at} {r} h f =
     let w = put-fits b at bs h in
     let e : r ≡ at + length bs = omega (arith, f .behind) in

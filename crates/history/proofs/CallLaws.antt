@@ -50,4 +50,5 @@ pub demand-3-exported : Demand3Exported
 demand-3-exported words e calls h =
     let r = runs words calls fresh e h in
     subst (λ y. Kept (record { session = y; told = toldBy calls })) (sym (r .last))
-    (subst (λ t. Kept (record { session = leaves fresh (run fresh (inputs calls)); told = t })) (sym (r .same)) (demand-3 (inputs calls)))
+    (subst (λ t. Kept (record { session = leaves fresh (run fresh (inputs calls)); told = t })) (sym (r .same))
+    (demand-3 (inputs calls)))

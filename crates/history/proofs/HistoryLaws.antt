@@ -18,7 +18,8 @@ use Rattle.message.specs.Frame.{frameOf}
 use Rattle.message.specs.declared.request.Fetch.{Fetch as Asked}
 use Rattle.message.specs.declared.request.Open.{Open as Opens}
 use Rattle.message.specs.declared.request.Request.{Request}
-use Rattle.message.specs.declared.request.Request.the-variants.{Reset, SessionClose, Prepare, Execute, Deallocate, Open, Close, Fetch}
+use Rattle.message.specs.declared.request.Request.the-variants.{Reset, SessionClose, Prepare, Execute, Deallocate, Open}
+use Rattle.message.specs.declared.request.Request.the-variants.{Close, Fetch}
 use Rattle.message.specs.declared.request.Frame.{Frame}
 use Rattle.message.specs.declared.request.Frame.the-variants.{Good}
 use Rattle.session.specs.declared.Cursor.{Cursor}
@@ -51,12 +52,16 @@ use Rattle.rules.proofs.ReadLaws.{frames-are-read}
 use Rattle.rules.proofs.RefusalLaws.{Looked, Took}
 use Rattle.rules.proofs.StepLaws.{refusedStep, step-has, reply-front}
 use Rattle.rules.proofs.SoundLaws.{after-sound}
-use Rattle.history.specs.Tally.{Segment, Opening, Tally, empty, sent, kept, endings, isOf, longer, withOpening, withRows, adds, fedOn, fed}
+use Rattle.history.specs.Tally.{Segment, Opening, Tally, empty, sent, kept, endings, isOf, longer, withOpening}
+use Rattle.history.specs.Tally.{withRows, adds, fedOn, fed}
 use Rattle.history.specs.Run.{Input, run, leaves, Told, toldBy, told, fedBy, tallied}
-use Rattle.history.specs.History.{State, tallyOf, reached, Proper, allSent, isFor, TellsDone, TellDone, Kept, Demand3, ReachesSound}
-use Rattle.history.proofs.ListLaws.{sum-kept, sum-all, sum-only, all-kept, kept-pass, all-append, all-map, all-imp, all-both, all-zero}
+use Rattle.history.specs.History.{State, tallyOf, reached, Proper, allSent, isFor, TellsDone, TellDone, Kept}
+use Rattle.history.specs.History.{Demand3, ReachesSound}
+use Rattle.history.proofs.ListLaws.{sum-kept, sum-all, sum-only, all-kept, kept-pass, all-append, all-map}
+use Rattle.history.proofs.ListLaws.{all-imp, all-both, all-zero}
 use Rattle.history.proofs.OpeningLaws.{sent-longer, goes-on, begins, sent-or-not}
-use Rattle.history.proofs.TableLaws.{Weight, weigh, table, off, plus, unless-own, ends-weigh, open-weigh, fetch-weigh}
+use Rattle.history.proofs.TableLaws.{Weight, weigh, table, off, plus, unless-own, ends-weigh, open-weigh}
+use Rattle.history.proofs.TableLaws.{fetch-weigh}
 
 -- ---- the invariant
 
@@ -107,7 +112,8 @@ held s id h = go (cursorAt s id) refl
           passes = found (isCursor id) noCursor (s .cursors) i e;
           it = ap (λ x. entryAt (s .cursors) x noCursor) e;
         }
-    go Place.Nothing e = absurd (true≢false (sym (ap (λ x. not (isLiveCursor (entryAt (s .cursors) x noCursor))) e) ∙ h))
+    go Place.Nothing e = absurd (true≢false (sym (ap (λ x. not (isLiveCursor (entryAt (s .cursors) x noCursor))) e)
+        ∙ h))
 
 -- an opening with a cursor id has these rows reported and sent
 abbrev Has : ℕ → Cursor → Opening → Type 0
@@ -121,7 +127,8 @@ has-of : (k : ℕ) (c : Cursor) (o : Opening) → others k c (asCursor o) ≡ 0 
 has-of k c o e h =
     go (eqb (o .first + o .rows) (c .rows)) refl (eqb (o .first + sent o) (c .sent)) refl (rw h at e)
   where
-    go : (a : Bool) → eqb (o .first + o .rows) (c .rows) ≡ a → (b : Bool) → eqb (o .first + sent o) (c .sent) ≡ b → one (not (a && b)) ≡ 0 →
+    go : (a : Bool) → eqb (o .first + o .rows) (c .rows) ≡ a → (b : Bool) → eqb (o .first + sent o) (c .sent) ≡ b →
+        one (not (a && b)) ≡ 0 →
         (o .first + o .rows ≡ c .rows) × (o .first + sent o ≡ c .sent)
     go true f true g z = (eqb-true (o .first + o .rows) (c .rows) f, eqb-true (o .first + sent o) (c .sent) g)
     go true f false g z = absurd (omega arith)
@@ -170,8 +177,10 @@ module _ (s : Session) (t : Tally) (h : Inv s t) where
     Says k d os = All (λ o. isOf k o ≡ true → d ≡ allSent o) os
 
     -- a request that only ends openings
-    ends-only : (q : Request) → sessionAfter s q r .cursors ≡ ends (endsCursor q) (s .cursors) → (w : Weight) → openings w (endings q t .live) ≡ table w (sessionAfter s q r .cursors)
-    ends-only q e w = left q w ∙ sym (ends-weigh (endsCursor q) (endsIt q) w (λ c f. rw f) (s .cursors)) ∙ ap (table w) (sym e)
+    ends-only : (q : Request) → sessionAfter s q r .cursors ≡ ends (endsCursor q) (s .cursors) → (w : Weight) →
+        openings w (endings q t .live) ≡ table w (sessionAfter s q r .cursors)
+    ends-only q e w = left q w ∙ sym (ends-weigh (endsCursor q) (endsIt q) w (λ c f. rw f) (s .cursors))
+        ∙ ap (table w) (sym e)
 
     -- ---- an Open
 
@@ -196,7 +205,10 @@ module _ (s : Session) (t : Tally) (h : Inv s t) where
 
       opening-proper : All Proper (added (Open o) .live)
       unfolding All rowCount firstRow
-      opening-proper = (begins (o .cursor) (o .execute .stmt) (r .rows) (part (Open o)) refl (omega arith), left-proper (Open o))
+      opening-proper = (
+        begins (o .cursor) (o .execute .stmt) (r .rows) (part (Open o)) refl (omega arith),
+        left-proper (Open o),
+      )
 
       -- no other opening has its cursor id any more
       gone : (x : Opening) → not (endsIt (Open o) (x .cursor) (x .stmt)) ≡ true → isOf (o .cursor) x ≡ true → ⊥
@@ -207,7 +219,14 @@ module _ (s : Session) (t : Tally) (h : Inv s t) where
       -- all rows of the new opening are sent exactly when its Open sent as many as were reported
       opening-all : eqb (openCount (o .rows) (r .rows) + 0) (r .rows)
           ≡ allSent
-          (record { cursor = o .cursor; stmt = o .execute .stmt; first = 0; rows = r .rows; segments = part (Open o) ∷ [] })
+          (record {
+            cursor = o .cursor;
+            stmt = o .execute .stmt;
+            first = 0;
+            rows = r .rows;
+            segments = part (Open o) ∷
+                [];
+          })
       unfolding rowCount sumBy
       opening-all = refl
 
@@ -222,7 +241,8 @@ module _ (s : Session) (t : Tally) (h : Inv s t) where
                 ∙ ap (λ (k : ℕ). eqb k (r .rows)) z
                 ∙ opening-all,
             all-imp (λ x. not (endsIt (Open o) (x .cursor) (x .stmt)) ≡ true)
-                (λ x. isOf (o .cursor) x ≡ true → isDone (replyTo s (Open o) r) ≡ allSent x) (λ x e f. absurd (gone x e f))
+                (λ x. isOf (o .cursor) x ≡ true → isDone (replyTo s (Open o) r) ≡ allSent x)
+                (λ x e f. absurd (gone x e f))
                 (endings (Open o) t .live) (kept-pass (λ x. not (endsIt (Open o) (x .cursor) (x .stmt))) (t .live)),
           )
 
@@ -241,7 +261,8 @@ module _ (s : Session) (t : Tally) (h : Inv s t) where
       at-held : Held s (f .cursor) → table strange (s .cursors) ≡ 0
       at-held g =
           sum-only (isCursor (f .cursor)) (weigh strange)
-          (unless-own (λ id stmt. eqb id (f .cursor)) (f .cursor) (λ id stmt. refl) (λ c. one (not (eqb (c .rows) (it .rows) && eqb (c .sent) (it .sent)))))
+          (unless-own (λ id stmt. eqb id (f .cursor)) (f .cursor) (λ id stmt. refl)
+          (λ c. one (not (eqb (c .rows) (it .rows) && eqb (c .sent) (it .sent)))))
           noCursor refl (s .cursors) (g .place) (h .sound .cursorOnce (f .cursor)) (g .passes)
           ∙ ap (weigh strange) (sym (g .it))
           ∙ none (isLiveCursor it) (eqb (it .id) (f .cursor)) (eqb (it .rows) (it .rows) && eqb (it .sent) (it .sent))
@@ -269,7 +290,8 @@ module _ (s : Session) (t : Tally) (h : Inv s t) where
       abbrev g : Segment
       g = record { first = it .sent; count = n }
 
-      raised : (o : Opening) → (o .first + o .rows ≡ it .rows) × (o .first + sent o ≡ it .sent) → asCursor (longer g o) ≡ raise n (asCursor o)
+      raised : (o : Opening) → (o .first + o .rows ≡ it .rows) × (o .first + sent o ≡ it .sent) →
+          asCursor (longer g o) ≡ raise n (asCursor o)
       raised o e =
           let m : o .first + sent (longer g o) ≡ o .first + sent o + min n (o .first + o .rows - (o .first + sent o)) =
           omega (arith, sent-longer g o) in
@@ -281,11 +303,13 @@ module _ (s : Session) (t : Tally) (h : Inv s t) where
           both (λ x. w (asCursor x) ≡ plus (f .cursor) n w (asCursor o)) (isOf (f .cursor) o) (longer g o) o
           (λ k. rw k (ap w (raised o (e k)))) (λ k. rw k)
 
-      fetching-same : (w : Weight) → openings w (changed (isOf (f .cursor)) (longer g) os) ≡ table w (changed (isCursor (f .cursor)) (raise n) (s .cursors))
+      fetching-same : (w : Weight) → openings w (changed (isOf (f .cursor)) (longer g) os) ≡ table w
+          (changed (isCursor (f .cursor)) (raise n) (s .cursors))
       fetching-same w =
           let change' = change (isOf (f .cursor)) (longer g) in
           sum-map (λ o. w (asCursor o)) change' os
-          ∙ sum-all (Has (f .cursor) it) (λ o. w (asCursor (change' o))) (λ o. plus (f .cursor) n w (asCursor o)) (fetching-one w) os have
+          ∙ sum-all (Has (f .cursor) it) (λ o. w (asCursor (change' o))) (λ o. plus (f .cursor) n w (asCursor o))
+          (fetching-one w) os have
           ∙ fetch-left (plus (f .cursor) n w)
           ∙ sym (fetch-weigh (f .cursor) n w (s .cursors))
 
@@ -304,15 +328,19 @@ module _ (s : Session) (t : Tally) (h : Inv s t) where
           all-map (λ o. Proper o × Has (f .cursor) it o) Proper (change (isOf (f .cursor)) (longer g)) fetched-one os
           (all-both Proper (Has (f .cursor) it) os (left-proper (Fetch f)) have)
 
-      tells-one : (o : Opening) → Proper o × Has (f .cursor) it o → isOf (f .cursor) (change (isOf (f .cursor)) (longer g) o) ≡ true →
+      tells-one : (o : Opening) → Proper o × Has (f .cursor) it o →
+          isOf (f .cursor) (change (isOf (f .cursor)) (longer g) o) ≡ true →
           eqb (it .rows - (it .sent + n)) 0 ≡ allSent (change (isOf (f .cursor)) (longer g) o)
       tells-one o p =
-          both (λ x. isOf (f .cursor) x ≡ true → eqb (it .rows - (it .sent + n)) 0 ≡ allSent x) (isOf (f .cursor) o) (longer g o) o
+          both (λ x. isOf (f .cursor) x ≡ true → eqb (it .rows - (it .sent + n)) 0 ≡ allSent x) (isOf (f .cursor) o)
+          (longer g o) o
           (λ k _. told' (p .1 k)) (λ k e. absurd (true≢false (sym e ∙ k)))
         where
-          told' : (o .first + o .rows ≡ it .rows) × (o .first + sent o ≡ it .sent) → eqb (it .rows - (it .sent + n)) 0 ≡ allSent (longer g o)
+          told' : (o .first + o .rows ≡ it .rows) × (o .first + sent o ≡ it .sent) →
+              eqb (it .rows - (it .sent + n)) 0 ≡ allSent (longer g o)
           told' e =
-              let z : it .rows - (it .sent + n) ≡ o .rows - sent (longer g o) = omega (arith, e .0, e .1, sent-longer g o) in
+              let z : it .rows - (it .sent + n) ≡ o .rows - sent (longer g o) = omega
+              (arith, e .0, e .1, sent-longer g o) in
               ap (λ (k : ℕ). eqb k 0) z
               ∙ left-none (o .rows) (sent (longer g o)) (omega (arith, e .0, e .1, sent-longer g o, p .0 .within))
 
@@ -322,8 +350,10 @@ module _ (s : Session) (t : Tally) (h : Inv s t) where
           all-imp (λ o. isOf (f .cursor) o ≡ true → eqb (it .rows - (it .sent + n)) 0 ≡ allSent o)
           (λ o. isOf (f .cursor) o ≡ true → isDone (endOf (it .rows - (it .sent + n))) ≡ allSent o)
           (λ o e k. done-end (it .rows - (it .sent + n)) ∙ e k) (changed (isOf (f .cursor)) (longer g) os)
-          (all-map (λ o. Proper o × Has (f .cursor) it o) (λ o. isOf (f .cursor) o ≡ true → eqb (it .rows - (it .sent + n)) 0 ≡ allSent o)
-          (change (isOf (f .cursor)) (longer g)) tells-one os (all-both Proper (Has (f .cursor) it) os (left-proper (Fetch f)) have))
+          (all-map (λ o. Proper o × Has (f .cursor) it o)
+          (λ o. isOf (f .cursor) o ≡ true → eqb (it .rows - (it .sent + n)) 0 ≡ allSent o)
+          (change (isOf (f .cursor)) (longer g)) tells-one os
+          (all-both Proper (Has (f .cursor) it) os (left-proper (Fetch f)) have))
 
       -- one opening has its cursor id
       of-cursor : (cs : List Cursor) → table (λ c. one (eqb (c .id) (f .cursor))) cs ≡ howMany (isCursor (f .cursor)) cs
@@ -353,7 +383,8 @@ module _ (s : Session) (t : Tally) (h : Inv s t) where
 
     -- ---- each request
 
-    after-same : (q : Request) → Looked s q → (w : Weight) → openings w (added q .live) ≡ table w (sessionAfter s q r .cursors)
+    after-same : (q : Request) → Looked s q → (w : Weight) →
+        openings w (added q .live) ≡ table w (sessionAfter s q r .cursors)
     after-same Reset l = ends-only Reset (ends-as-listed s Reset r (h .sound))
     after-same SessionClose l = ends-only SessionClose (ends-as-listed s SessionClose r (h .sound))
     after-same (Prepare p) l = ends-only (Prepare p) (ends-as-listed s (Prepare p) r (h .sound))
@@ -415,7 +446,8 @@ module _ (s : Session) (t : Tally) (h : Inv s t) (r : Report) where
   nothing-said d [] = tt
   nothing-said d (o ∷ os) = (λ e. absurd (false≢true e), nothing-said d os)
 
-  says : (q : Request) → Looked s q → SaysFor q (isDone (replyTo s q r)) (adds q r (record { first = firstRow s q; count = rowCount s q r }) (endings q t) .live)
+  says : (q : Request) → Looked s q → SaysFor q (isDone (replyTo s q r))
+      (adds q r (record { first = firstRow s q; count = rowCount s q r }) (endings q t) .live)
   says Reset l = nothing-said _ _
   says SessionClose l = nothing-said _ _
   says (Prepare p) l = nothing-said _ _
@@ -430,15 +462,18 @@ module _ (s : Session) (t : Tally) (h : Inv s t) (r : Report) where
 done-told : (reply : Reply) (buffer : List ℕ) → length (replyBytes reply) ≤ minBuffer → short buffer ≡ false →
     holdsDone (take (length (replyBytes reply)) (written buffer 0 (replyBytes reply))) ≡ isDone reply
 done-told reply buffer fits h =
-    ap holdsDone (reply-front buffer (replyBytes reply) (le-trans fits (ltb-false (length buffer) minBuffer h))) ∙ tells-done reply
+    ap holdsDone (reply-front buffer (replyBytes reply) (le-trans fits (ltb-false (length buffer) minBuffer h)))
+    ∙ tells-done reply
 
 -- what a step on a frame keeps: the invariant, and what its reply says is right
 record Goes (x : Frame) (r : Report) (t : Tally) (y : Step) : Type 0 where
   keeps : Inv (y .session) (fedOn x r (y .answer) t)
-  tells : All (λ o. (eqb (y .answer .reason) Reason.accepted && onGood false (λ q. oneOf open' fetch q && isOf (cursorOf q) o) x) ≡ true →
+  tells : All (λ o. (eqb (y .answer .reason) Reason.accepted && onGood false
+      (λ q. oneOf open' fetch q && isOf (cursorOf q) o) x) ≡ true →
       holdsDone (replyOf y) ≡ allSent o) (fedOn x r (y .answer) t .live)
 
-silent : (b d : Bool) (os : List Opening) → b ≡ false → (p : Opening → Bool) → All (λ o. (b && p o) ≡ true → d ≡ allSent o) os
+silent : (b d : Bool) (os : List Opening) → b ≡ false → (p : Opening → Bool) →
+    All (λ o. (b && p o) ≡ true → d ≡ allSent o) os
 unfolding All
 silent b d [] e p = tt
 silent b d (o ∷ os) e p = (λ f. absurd (false≢true (sym (ap (λ (a : Bool). a && p o) e) ∙ f)), silent b d os e p)
@@ -455,23 +490,29 @@ refused-goes x r s t y h same e =
 
 says-told : (d e : Bool) → d ≡ e → (p : Opening → Bool) (os : List Opening) → All (λ o. p o ≡ true → e ≡ allSent o) os →
     All (λ o. p o ≡ true → d ≡ allSent o) os
-says-told d e f p os h = all-imp (λ o. p o ≡ true → e ≡ allSent o) (λ o. p o ≡ true → d ≡ allSent o) (λ o g k. f ∙ g k) os h
+says-told d e f p os h = all-imp (λ o. p o ≡ true → e ≡ allSent o) (λ o. p o ≡ true → d ≡ allSent o)
+    (λ o g k. f ∙ g k) os h
 
-step-goes : (x : Frame) (r : Report) (buffer : List ℕ) (s : Session) (t : Tally) → Inv s t → ReadIn x → Goes x r t (stepOn s x r buffer)
+step-goes : (x : Frame) (r : Report) (buffer : List ℕ) (s : Session) (t : Tally) → Inv s t → ReadIn x →
+    Goes x r t (stepOn s x r buffer)
 step-goes x r buffer s t h read =
     step-has (Goes x r t) s x r buffer
     (λ _. refused-goes x r s t (tooShort s buffer) h refl refl)
-    (λ used q room k. subst (λ z. Goes z r t (stepBy (Good used q) buffer (accepted s r q))) (sym (k .good)) (goes used q room k))
+    (λ used q room k. subst (λ z. Goes z r t (stepBy (Good used q) buffer (accepted s r q))) (sym (k .good))
+    (goes used q room k))
     (λ _ some. refused-goes x r s t (refusedStep s x r buffer) h refl (ne-eqb (stepReason s x r) 0 some))
   where
-    goes : (used : ℕ) (q : Request) → short buffer ≡ false → Took s x r used q → Goes (Good used q) r t (stepBy (Good used q) buffer (accepted s r q))
+    goes : (used : ℕ) (q : Request) → short buffer ≡ false → Took s x r used q →
+        Goes (Good used q) r t (stepBy (Good used q) buffer (accepted s r q))
     goes used q room k =
         record {
           keeps = accepts s t h r q (subst ReadIn (k .good) read) (k .look) (k .report);
           tells =
               says-told (holdsDone (replyOf (stepBy (Good used q) buffer (accepted s r q)))) (isDone (replyTo s q r))
-              (done-told (replyTo s q r) buffer (reply-fits s q r) room) (λ o. oneOf open' fetch q && isOf (cursorOf q) o)
-              (adds q r (record { first = firstRow s q; count = rowCount s q r }) (endings q t) .live) (says s t h r q (k .look));
+              (done-told (replyTo s q r) buffer (reply-fits s q r) room)
+              (λ o. oneOf open' fetch q && isOf (cursorOf q) o)
+              (adds q r (record { first = firstRow s q; count = rowCount s q r }) (endings q t) .live)
+              (says s t h r q (k .look));
         }
 
 -- ---- runs
@@ -479,15 +520,18 @@ step-goes x r buffer s t h read =
 abbrev stepped : Session → Input → Step
 stepped s i = stepOf s (i .frame) (i .report) (i .buffer)
 
-goes-fed : (i : Input) (s : Session) (t : Tally) → Inv s t → Inv (stepped s i .session) (fedBy (toldBy i (stepped s i)) t)
+goes-fed : (i : Input) (s : Session) (t : Tally) → Inv s t →
+    Inv (stepped s i .session) (fedBy (toldBy i (stepped s i)) t)
 unfolding fed
 goes-fed i s t h = step-goes (frameOf (i .frame)) (i .report) (i .buffer) s t h (frames-are-read (i .frame)) .keeps
 
-goes-tells : (i : Input) (s : Session) (t : Tally) → Inv s t → TellsDone (toldBy i (stepped s i)) (fedBy (toldBy i (stepped s i)) t)
+goes-tells : (i : Input) (s : Session) (t : Tally) → Inv s t →
+    TellsDone (toldBy i (stepped s i)) (fedBy (toldBy i (stepped s i)) t)
 unfolding fed
 goes-tells i s t h = step-goes (frameOf (i .frame)) (i .report) (i .buffer) s t h (frames-are-read (i .frame)) .tells
 
-run-keeps : (is : List Input) (s : Session) (t : Tally) → Inv s t → Inv (leaves s (run s is)) (tallied t (told is (run s is)))
+run-keeps : (is : List Input) (s : Session) (t : Tally) → Inv s t →
+    Inv (leaves s (run s is)) (tallied t (told is (run s is)))
 unfolding run leaves told tallied
 run-keeps [] s t h = h
 run-keeps (i ∷ is) s t h =

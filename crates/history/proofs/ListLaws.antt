@@ -42,7 +42,8 @@ module _ {A : Type 0} where
   kept-pass p [] = tt
   kept-pass p (x ∷ xs) = go (p x) refl (kept-pass p xs)
     where
-      go : (b : Bool) → p x ≡ b → All (λ x. p x ≡ true) (kept p xs) → All (λ x. p x ≡ true) (cond b (x ∷ kept p xs) (kept p xs))
+      go : (b : Bool) → p x ≡ b → All (λ x. p x ≡ true) (kept p xs) →
+          All (λ x. p x ≡ true) (cond b (x ∷ kept p xs) (kept p xs))
       go true e l = (e, l)
       go false e l = l
 
@@ -73,13 +74,15 @@ module _ {A : Type 0} where
   all-zero w (x ∷ xs) e = (omega arith, all-zero w xs (omega arith))
 
   -- two sums are equal where the entries that have a property weigh alike
-  pub sum-all : (P : A → Type 0) (v w : A → ℕ) → ((x : A) → P x → v x ≡ w x) → (xs : List A) → All P xs → sumBy v xs ≡ sumBy w xs
+  pub sum-all : (P : A → Type 0) (v w : A → ℕ) → ((x : A) → P x → v x ≡ w x) → (xs : List A) → All P xs →
+      sumBy v xs ≡ sumBy w xs
   unfolding All sumBy
   sum-all P v w h [] l = refl
   sum-all P v w h (x ∷ xs) l = omega (arith, h x (l .0), sum-all P v w h xs (l .1))
 
   -- what weighs only entries that pass weighs nothing where none passes
-  pub sum-absent : (p : A → Bool) (v : A → ℕ) → ((x : A) → p x ≡ false → v x ≡ 0) → (xs : List A) → howMany p xs ≡ 0 → sumBy v xs ≡ 0
+  pub sum-absent : (p : A → Bool) (v : A → ℕ) → ((x : A) → p x ≡ false → v x ≡ 0) → (xs : List A) → howMany p xs ≡ 0 →
+      sumBy v xs ≡ 0
   unfolding sumBy
   sum-absent p v h [] e = refl
   sum-absent p v h (x ∷ xs) e = go (p x) refl (λ f. sum-absent p v h xs f)
@@ -89,7 +92,8 @@ module _ {A : Type 0} where
       go false f more = omega (arith, h x f, more (omega arith))
 
   -- and where one passes, what that one weighs
-  pub sum-only : (p : A → Bool) (v : A → ℕ) → ((x : A) → p x ≡ false → v x ≡ 0) → (d : A) → p d ≡ false → (xs : List A) (i : ℕ) →
+  pub sum-only : (p : A → Bool) (v : A → ℕ) → ((x : A) → p x ≡ false → v x ≡ 0) → (d : A) → p d ≡ false →
+      (xs : List A) (i : ℕ) →
       howMany p xs ≤ 1 → Passes p d xs i → sumBy v xs ≡ v (getD xs i d)
   sum-only p v h d e xs i once l =
       let none : howMany p (set xs i d) ≡ 0 =

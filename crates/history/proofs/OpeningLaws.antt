@@ -32,7 +32,8 @@ unfolding sumBy
 sent-longer g o = omega (arith, sum-append (λ g. g .count) (o .segments) (g ∷ []))
 
 -- the rows of one more step go on where the earlier ones ended
-pub goes-on : (g : Segment) (o : Opening) → Proper o → g .first ≡ o .first + sent o → sent o + g .count ≤ o .rows → Proper (longer g o)
+pub goes-on : (g : Segment) (o : Opening) → Proper o → g .first ≡ o .first + sent o → sent o + g .count ≤ o .rows →
+    Proper (longer g o)
 unfolding rowNumbers
 goes-on g o h f w =
     record {
@@ -54,7 +55,8 @@ unfolding rowNumbers numbers sumBy
 nothing-sent cursor stmt rows = record { numbered = refl; within = omega arith }
 
 -- the rows of an Open start at 0
-pub begins : (cursor stmt rows : ℕ) (g : Segment) → g .first ≡ 0 → g .count ≤ rows → Proper (longer g (unopened cursor stmt rows))
+pub begins : (cursor stmt rows : ℕ) (g : Segment) → g .first ≡ 0 → g .count ≤ rows →
+    Proper (longer g (unopened cursor stmt rows))
 unfolding sumBy
 begins cursor stmt rows g f w =
     goes-on g (unopened cursor stmt rows) (nothing-sent cursor stmt rows) (f ∙ start) (omega arith)

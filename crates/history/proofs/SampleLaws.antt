@@ -71,12 +71,18 @@ abbrev execute : Execute
 execute = record { stmt = 1; compact = noOptional; args = noArguments 13 15 }
 
 execute-is : executeIn opens 13 2 ≡ execute
-unfolding groups fieldAt fieldsFrom hasRequired rowFor rowsOf executeIn argumentsWithin argumentsFrom placeFrom nextArgument together
+unfolding groups fieldAt fieldsFrom hasRequired rowFor rowsOf executeIn argumentsWithin argumentsFrom placeFrom
+    nextArgument together
 execute-is = refl
 
 abbrev opening : Frame
 opening =
-    Frame.Good 15 (Request.Open (record { cursor = 1; rows = noOptional; body = record { start = 13; len = 2 }; execute = execute }))
+    Frame.Good 15 (Request.Open (record {
+      cursor = 1;
+      rows = noOptional;
+      body = record { start = 13; len = 2 };
+      execute = execute;
+    }))
 
 open-is : openFrame opens ≡ opening
 unfolding openFrame
@@ -101,7 +107,10 @@ abbrev reasonOf : Step → ℕ
 reasonOf x = x .answer .reason
 
 pub samples-shown : SamplesShown
-unfolding All stepOn decisionOf lookReason reportReason sessionAfter replyTo firstRow rowCount sendsColumns refusedReply wireCode named namedKind frameOf frameIn deallocateFrame prepareFrame fetchFrame bodyIn argumentsWithin argumentsFrom placeFrom nextArgument together groups little fieldAt fieldsFrom hasRequired rowFor rowsOf run leaves first replyBytes text digits errorPayload numberField bytesField shortest
+unfolding All stepOn decisionOf lookReason reportReason sessionAfter replyTo firstRow rowCount sendsColumns
+    refusedReply wireCode named namedKind frameOf frameIn deallocateFrame prepareFrame fetchFrame bodyIn
+    argumentsWithin argumentsFrom placeFrom nextArgument together groups little fieldAt fieldsFrom hasRequired rowFor
+    rowsOf run leaves first replyBytes text digits errorPayload numberField bytesField shortest
 samples-shown = (
   (refl, refl),
   (
@@ -126,7 +135,10 @@ samples-shown = (
                       (ap (λ x. reasonOf (openStep 0 x)) open-is, ap (λ x. replyOf (openStep 0 x)) open-is),
                       (
                         (ap (λ x. reasonOf (fetchStep 0 1 x)) open-is, ap (λ x. replyOf (fetchStep 0 1 x)) open-is),
-                        ((ap (λ x. reasonOf (fetchStep 2 0 x)) open-is, ap (λ x. replyOf (fetchStep 2 0 x)) open-is), tt),
+                        (
+                          (ap (λ x. reasonOf (fetchStep 2 0 x)) open-is, ap (λ x. replyOf (fetchStep 2 0 x)) open-is),
+                          tt,
+                        ),
                       ),
                     ),
                   ),
@@ -151,7 +163,8 @@ fedOpen x =
     fedBy fetches (fedBy prepares (fedOn x (opened .report) (opened .answer) (fedBy prepares empty)))
 
 served-on-strays : tallied empty servedOn .strays ≡ 1
-unfolding tallied fed kept endsIt sumBy frameOf frameIn prepareFrame fetchFrame bodyIn argumentsWithin argumentsFrom placeFrom nextArgument together groups little fieldAt fieldsFrom hasRequired rowFor rowsOf
+unfolding tallied fed kept endsIt sumBy frameOf frameIn prepareFrame fetchFrame bodyIn argumentsWithin argumentsFrom
+    placeFrom nextArgument together groups little fieldAt fieldsFrom hasRequired rowFor rowsOf
 served-on-strays = ap (λ x. fedOpen x .strays) open-is
 
 pub served-on-refused : ServedOnRefused

@@ -39,7 +39,8 @@ on p w c = cond (p (c .id) (c .stmt)) (w c) 0
 
 -- ---- endings
 
-module _ (p : Cursor → Bool) (q : ℕ → ℕ → Bool) (w : Weight) (agree : (c : Cursor) → isLiveCursor c ≡ true → p c ≡ q (c .id) (c .stmt)) where
+module _ (p : Cursor → Bool) (q : ℕ → ℕ → Bool) (w : Weight)
+    (agree : (c : Cursor) → isLiveCursor c ≡ true → p c ≡ q (c .id) (c .stmt)) where
   gone : (c : Cursor) → p c ≡ true → (l : Bool) → isLiveCursor c ≡ l → 0 ≡ weigh (off q w) c
   gone c t true e = rw (e, sym (agree c e) ∙ t)
   gone c t false e = rw e
@@ -50,7 +51,8 @@ module _ (p : Cursor → Bool) (q : ℕ → ℕ → Bool) (w : Weight) (agree : 
 
   ends-one : (c : Cursor) → weigh w (change p (λ c. noCursor) c) ≡ weigh (off q w) c
   ends-one c =
-      both (λ x. weigh w x ≡ weigh (off q w) c) (p c) noCursor c (λ t. gone c t (isLiveCursor c) refl) (λ t. stays c t (isLiveCursor c) refl)
+      both (λ x. weigh w x ≡ weigh (off q w) c) (p c) noCursor c (λ t. gone c t (isLiveCursor c) refl)
+      (λ t. stays c t (isLiveCursor c) refl)
 
   pub ends-weigh : (cs : List Cursor) → table w (ends p cs) ≡ table (off q w) cs
   ends-weigh cs =
@@ -79,7 +81,8 @@ module _ (q : ℕ → ℕ → Bool) (id : ℕ) (own-id : (k stmt : ℕ) → q k 
   pub unless-own : (c : Cursor) → isCursor id c ≡ false → weigh (on q w) c ≡ 0
   unless-own c e = go (isLiveCursor c) refl (eqb (c .id) id) (own-id (c .id) (c .stmt)) e
     where
-      go : (l : Bool) → isLiveCursor c ≡ l → (b : Bool) → q (c .id) (c .stmt) ≡ b → (l && b) ≡ false → weigh (on q w) c ≡ 0
+      go : (l : Bool) → isLiveCursor c ≡ l → (b : Bool) → q (c .id) (c .stmt) ≡ b → (l && b) ≡ false →
+          weigh (on q w) c ≡ 0
       go true f true g z = absurd (true≢false z)
       go true f false g z = rw (f, g)
       go false f b g z = rw f
@@ -113,7 +116,8 @@ module _ (q : ℕ → ℕ → Bool) (id : ℕ) (own-id : (k stmt : ℕ) → q k 
         free : weigh w (getD cs i noCursor) ≡ 0
         free = rw (not-true (isLiveCursor (getD cs i noCursor)) (l .passing))
 
-    pub open-weigh : (at : Place) → orPlace (first (isCursor id) cs 0) (first freeCursor cs 0) ≡ at → noPlace at ≡ false →
+    pub open-weigh : (at : Place) → orPlace (first (isCursor id) cs 0) (first freeCursor cs 0) ≡ at →
+        noPlace at ≡ false →
         table w (put cs at opening) ≡ table (off q w) cs + w (newCursor id stmt rows sent)
     open-weigh (Place.At i) e z = open-at i (taken (isCursor id) freeCursor noCursor cs i e)
     open-weigh Place.Nothing e z = absurd (true≢false z)
@@ -128,9 +132,11 @@ module _ (k n : ℕ) (w : Weight) where
   raise-one : (c : Cursor) → weigh w (change (isCursor k) (raise n) c) ≡ weigh (plus k n w) c
   raise-one c =
       both (λ y. weigh w y ≡ weigh (plus k n w) c) (isCursor k c) (raise n c) c
-      (λ t. rw (and-true (isLiveCursor c) (eqb (c .id) k) t .1)) (λ t. left (isLiveCursor c) refl (eqb (c .id) k) refl t)
+      (λ t. rw (and-true (isLiveCursor c) (eqb (c .id) k) t .1))
+      (λ t. left (isLiveCursor c) refl (eqb (c .id) k) refl t)
     where
-      left : (l : Bool) → isLiveCursor c ≡ l → (b : Bool) → eqb (c .id) k ≡ b → (l && b) ≡ false → weigh w c ≡ weigh (plus k n w) c
+      left : (l : Bool) → isLiveCursor c ≡ l → (b : Bool) → eqb (c .id) k ≡ b → (l && b) ≡ false →
+          weigh w c ≡ weigh (plus k n w) c
       left true e true f t = absurd (true≢false t)
       left true e false f t = rw (e, f)
       left false e b f t = rw e

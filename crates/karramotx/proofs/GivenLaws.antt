@@ -22,7 +22,17 @@ pub of-no-kind : (k value n : ℕ) → (k ≡ 1 → ⊥) → (k ≡ 2 → ⊥) �
     (k ≡ 7 → ⊥) → (k ≡ 8 → ⊥) → Va.Refused 6 ≡ ofKind k value n
 unfolding ofKind
 of-no-kind t value n a b c d e f g h =
-    simp (ne-eqb t 1 a, ne-eqb t 2 b, ne-eqb t 3 c, ne-eqb t 4 d, ne-eqb t 5 e, ne-eqb t 6 f, ne-eqb t 7 g, ne-eqb t 8 h)
+    simp (
+      ne-eqb t 1 a,
+      ne-eqb t 2 b,
+      ne-eqb t 3 c,
+      ne-eqb t 4 d,
+      ne-eqb t 5 e,
+      ne-eqb t 6 f,
+      ne-eqb t 7 g,
+      ne-eqb t 8
+          h,
+    )
 
 pub float-none : (bits : ℕ) → 2 ^ 32 ≤ bits → Va.Refused 6 ≡ floatOfBits bits
 float-none bits h = simp (le-ltb bits (2 ^ 32) h)

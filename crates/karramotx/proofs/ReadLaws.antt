@@ -119,14 +119,16 @@ present-number count a h = both Exact (eqb count 0) bad a (λ _. tt) (λ _. h)
 
 bytes-number : (octets : Bool) (x : Slots) → Exact (bytesOf octets x)
 bytes-number octets x =
-    both Exact (x .good) _ bad (λ _. both Exact octets (Va.Octets (startOf x 1) (lenOf x 1)) (Va.String (startOf x 1) (lenOf x 1)) (λ _. tt) (λ _. tt))
+    both Exact (x .good) _ bad (λ _. both Exact octets (Va.Octets (startOf x 1) (lenOf x 1))
+    (Va.String (startOf x 1) (lenOf x 1)) (λ _. tt) (λ _. tt))
     (λ _. tt)
 
 abbrev NextExact : NextArgument → Type 0
 NextExact (NextArgument.Found a next) = Exact a
 NextExact NextArgument.End = Unit {0}
 
-more-number : (more : ℕ → List Argument) → ((next i : ℕ) → Exact (getD (more next) i (Va.Refused 9))) → (n : NextArgument) → NextExact n →
+more-number : (more : ℕ → List Argument) → ((next i : ℕ) → Exact (getD (more next) i (Va.Refused 9))) →
+    (n : NextArgument) → NextExact n →
     (i : ℕ) → Exact (getD (andMore more n) i (Va.Refused 9))
 more-number more rest (NextArgument.Found a next) h zero = h
 more-number more rest (NextArgument.Found a next) h (suc i) = rest next i
@@ -144,9 +146,11 @@ module _ (s : List ℕ) where
       both Exact (eqb t 3) _ _ (λ _. tt)
       (λ _.
       both Exact (eqb t 4) _ _
-      (λ _. present-number (countOf x 5) (bytesIn true s (startOf x 5) (lenOf x 5)) (bytes-number true (embedded (rowsOf bytes) s (startOf x 5) (lenOf x 5))))
+      (λ _. present-number (countOf x 5) (bytesIn true s (startOf x 5) (lenOf x 5))
+      (bytes-number true (embedded (rowsOf bytes) s (startOf x 5) (lenOf x 5))))
       (λ _.
-      both Exact (eqb t 5) _ _ (λ _. present-number (countOf x 6) (doubleOf (fieldValue x 6)) (double-number (fieldValue x 6)))
+      both Exact (eqb t 5) _ _ (λ _. present-number (countOf x 6) (doubleOf (fieldValue x 6))
+      (double-number (fieldValue x 6)))
       (λ _.
       both Exact (eqb t 6) _ _
       (λ _. present-number (countOf x 7) (floatOf (low32 (fieldValue x 7))) (float-number (low32 (fieldValue x 7))))
@@ -154,7 +158,8 @@ module _ (s : List ℕ) where
       both Exact (eqb t 7) _ _ (λ _. present-number (countOf x 8) (Va.Bool (not (eqb (fieldValue x 8) 0))) tt)
       (λ _.
       both Exact (eqb t 8) _ _
-      (λ _. present-number (countOf x 9) (bytesIn false s (startOf x 9) (lenOf x 9)) (bytes-number false (embedded (rowsOf bytes) s (startOf x 9) (lenOf x 9))))
+      (λ _. present-number (countOf x 9) (bytesIn false s (startOf x 9) (lenOf x 9))
+      (bytes-number false (embedded (rowsOf bytes) s (startOf x 9) (lenOf x 9))))
       (λ _. tt))))))))
 
   scalar-number : (x : Slots) → Small x → Exact (scalarOf s x)
@@ -187,7 +192,8 @@ module _ (s : List ℕ) where
   from-number : (most at index : ℕ) → Exact (getD (argumentsFrom most s at) index (Va.Refused 9))
   unfolding argumentsFrom
   from-number zero at index = tt
-  from-number (suc most) at index = more-number (argumentsFrom most s) (from-number most) (nextArgument s at) (next-number at) index
+  from-number (suc most) at index = more-number (argumentsFrom most s) (from-number most) (nextArgument s at)
+      (next-number at) index
 
 asked-number : (a : Argument) → Exact a → Exact (asked a)
 asked-number a h = both Exact (eqb (reasonOf a) 0) a (Va.Refused (reasonOf a)) (λ _. h) (λ _. tt)
@@ -199,7 +205,8 @@ argument-number s index (UnknownType used) = tt
 argument-number s index (BadPayload used kind) = tt
 argument-number s index (Good used q) =
     let t = take (argsOf q .end) s in
-    asked-number (getD (argumentsAt t (argsOf q .start)) index (Va.Refused 9)) (from-number t (length t) (argsOf q .start) index)
+    asked-number (getD (argumentsAt t (argsOf q .start)) index (Va.Refused 9))
+    (from-number t (length t) (argsOf q .start) index)
 
 pub told-by-index : ToldByIndex
 told-by-index frame index = told (argumentOf frame index) (argument-number frame index (frameOf frame))

@@ -58,7 +58,8 @@ module _ (f : Format) (raw : ℕ → Argument) (number : Float → Argument) (ki
 
 -- a sint that is read fits 64 bits
 pub signed-fits : (n : ℕ) → n < 2 ^ 64 → SFits w64 (unzigzag n)
-signed-fits n h = both (SFits w64) (eqb (n % 2) 0) (pos (n / 2)) (negsuc (n / 2)) (λ _. record { sfits = omega arith }) (λ _. record { sfits = omega arith })
+signed-fits n h = both (SFits w64) (eqb (n % 2) 0) (pos (n / 2)) (negsuc (n / 2))
+    (λ _. record { sfits = omega arith }) (λ _. record { sfits = omega arith })
 
 pub signed-told : SignedTold
 signed-told n h = toZ-ofZ (signed-fits n h)

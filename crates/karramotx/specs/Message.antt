@@ -2,7 +2,8 @@
 use Prim.Native.Nat.{ℕ}
 use Rattle.protocol.specs.Reason as Reason
 use Rattle.args.specs.Arguments.{noArguments}
-use Rattle.message.specs.Request.{noOptional, noPart, kindOf, stmtOf, cursorOf, rowsOf, compactOf, operationOf, bodyOf, argsOf}
+use Rattle.message.specs.Request.{noOptional, noPart, kindOf, stmtOf, cursorOf, rowsOf, compactOf, operationOf, bodyOf}
+use Rattle.message.specs.Request.{argsOf}
 use Rattle.message.specs.declared.request.Frame.{Frame}
 use Rattle.message.specs.declared.request.Frame.the-variants.{NotAllThere, BadLength, UnknownType, BadPayload, Good}
 use Rattle.karramotx.specs.declared.told.Message.{Message}

@@ -1,6 +1,7 @@
 // An argument as numbers, for hosts that have no enum.
 ghost use mathlib.Core.Path.{_≡_};
-ghost use Rattle.karramotx.specs.Value.{doubleValue, floatValue, nextValueOf, numbered, placed, refusedBy, valueOf};
+ghost use Rattle.karramotx.specs.Value.{doubleValue, floatValue, nextValueOf, numbered, placed, refusedBy};
+ghost use Rattle.karramotx.specs.Value.{valueOf};
 use args::arguments::NextArgument;
 use scalar::argument::Argument;
 

@@ -79,15 +79,18 @@ put-behind b what h =
     rw (le-leb (0 + length (replyBytes what)) (length b) (omega arith)) e
 
 -- an answer with the length of its reply
-pub answers : {b after : List ℕ} {what : Reply} {n : ℕ} (a : Answer) → Replies what b n after → Answers a what b (withLength n a) after
+pub answers : {b after : List ℕ} {what : Reply} {n : ℕ} (a : Answer) → Replies what b n after →
+    Answers a what b (withLength n a) after
 answers a h = record { answered = ap (λ (k : ℕ). withLength k a) (h .long); stored = h .stored }
 
 pub answers-as : {b after : List ℕ} {what other : Reply} {n : ℕ} (a : Answer) → what ≡ other → Replies what b n after →
     Answers a other b (withLength n a) after
-answers-as {b} {after} {what} {other} {n} a e h = subst (λ (x : Reply). Answers a x b (withLength n a) after) e (answers a h)
+answers-as {b} {after} {what} {other} {n} a e h = subst (λ (x : Reply). Answers a x b (withLength n a) after) e
+    (answers a h)
 
 -- the Error that was put is the one of the names
-pub error-as : (n : ℕ) (x : Names) (r : Report) {code number kind : ℕ} → code ≡ wireCode r n → number ≡ numberOf n x → kind ≡ kindNamed n x →
+pub error-as : (n : ℕ) (x : Names) (r : Report) {code number kind : ℕ} → code ≡ wireCode r n → number ≡ numberOf n x →
+    kind ≡ kindNamed n x →
     Reply.Error (record { reason = n; code = code; number = number; kind = kind }) ≡ Reply.Error (errorOf n x r)
 error-as n x r {code} {number} {kind} a b c =
     ap (λ (k : ℕ). Reply.Error (record { reason = n; code = k; number = number; kind = kind })) a

@@ -1,4 +1,5 @@
--- A step on a frame that holds no request, or with too short a buffer; and the three clauses of a step's contract. Assumes
+-- A step on a frame that holds no request, or with too short a buffer; and the three clauses of a step's contract.
+-- Assumes
 -- nothing.
 use Prim.Native.Nat.{ℕ, _≤_, _<_}
 use native.Mathlib.Nat.{le-trans}
@@ -29,7 +30,8 @@ use Rattle.rules.proofs.ReadLaws.{frames-are-read}
 use Rattle.rules.proofs.StepLaws.{error-fits, written-none}
 use Rattle.keeper.proofs.AnswerLaws.{put-behind}
 use Rattle.keeper.specs.private.Reasons.{closedOr}
-use Rattle.keeper.specs.private.Does.{Does, Readable, Answers, withLength, lengthIn, refusing, noNames, numberOf, kindNamed, errorOf}
+use Rattle.keeper.specs.private.Does.{Does, Readable, Answers, withLength, lengthIn, refusing, noNames, numberOf}
+use Rattle.keeper.specs.private.Does.{kindNamed, errorOf}
 
 -- ---- nothing is read
 
@@ -40,17 +42,20 @@ module _ (s : Session) (r : Report) (b : List ℕ) where
 
   pub cut-step : minBuffer ≤ length b → Does (stepOn s NotAllThere r b) (refusing 0 Reason.notAllThere) s b
   unfolding stepOn decisionOf lookReason reportReason refusedReply replyBytes
-  cut-step h = rw (le-ltb (length b) minBuffer h) (record { answered = refl; kept = refl; replied = sym (written-none b) })
+  cut-step h = rw (le-ltb (length b) minBuffer h) (record
+      { answered = refl; kept = refl; replied = sym (written-none b) })
 
   pub length-step : minBuffer ≤ length b → Does (stepOn s BadLength r b) (refusing 0 Reason.badLength) s b
   unfolding stepOn decisionOf lookReason reportReason refusedReply replyBytes
-  length-step h = rw (le-ltb (length b) minBuffer h) (record { answered = refl; kept = refl; replied = sym (written-none b) })
+  length-step h = rw (le-ltb (length b) minBuffer h)
+      (record { answered = refl; kept = refl; replied = sym (written-none b) })
 
 -- ---- a frame that is refused by itself, 4 first
 
 module _ (s : Session) (x : Frame) (m : ℕ) (r : Report) (b : List ℕ) (read : ReadIn x)
     (reasons : stepReason s x r ≡ closedOr (isClosed s) m) (late : Reason.closed ≤ closedOr (isClosed s) m)
-    (nameless : Reply.Error (refusalOf x r (closedOr (isClosed s) m)) ≡ Reply.Error (errorOf (closedOr (isClosed s) m) noNames r))
+    (nameless : Reply.Error (refusalOf x r (closedOr (isClosed s) m)) ≡ Reply.Error
+    (errorOf (closedOr (isClosed s) m) noNames r))
     (room : minBuffer ≤ length b) where
   abbrev n : ℕ
   n = closedOr (isClosed s) m
@@ -67,13 +72,15 @@ module _ (s : Session) (x : Frame) (m : ℕ) (r : Report) (b : List ℕ) (read :
   own-decision : decisionOf s x r ≡ refused s n (Reply.Error (errorOf n noNames r))
   unfolding decisionOf refusedReply
   own-decision =
-      rw (reasons, ne-eqb n 0 (λ e. omega (arith, late)), lt-leb n Reason.noRoom (omega (arith, late))) (ap (refused s n) nameless)
+      rw (reasons, ne-eqb n 0 (λ e. omega (arith, late)), lt-leb n Reason.noRoom (omega (arith, late)))
+      (ap (refused s n) nameless)
 
   own-step : stepOn s x r b ≡ stepBy x b (refused s n (Reply.Error (errorOf n noNames r)))
   unfolding stepOn
   own-step = rw (le-ltb (length b) minBuffer room) (ap (stepBy x b) own-decision)
 
-  own-refuses : {a : Answer} {after : List ℕ} → Answers (refusing (usedOf x) n) (Reply.Error (errorOf n noNames r)) b a after → Does (stepOn s x r b) a s after
+  own-refuses : {a : Answer} {after : List ℕ} → Answers (refusing (usedOf x) n) (Reply.Error (errorOf n noNames r)) b
+      a after → Does (stepOn s x r b) a s after
   own-refuses h =
       record {
         answered =
@@ -89,7 +96,8 @@ module _ (s : Session) (used : ℕ) (r : Report) (b : List ℕ) (room : minBuffe
   unfolding lookReason reportReason
   unknown-reason = go (isClosed s)
     where
-      go : (c : Bool) → cond (eqb (cond c Reason.closed Reason.unknownType) 0) 0 (cond c Reason.closed Reason.unknownType) ≡ closedOr c Reason.unknownType
+      go : (c : Bool) → cond (eqb (cond c Reason.closed Reason.unknownType) 0) 0
+          (cond c Reason.closed Reason.unknownType) ≡ closedOr c Reason.unknownType
       go true = refl
       go false = refl
 
@@ -97,7 +105,8 @@ module _ (s : Session) (used : ℕ) (r : Report) (b : List ℕ) (room : minBuffe
   unfolding lookReason reportReason
   payload-reason kind = go (isClosed s)
     where
-      go : (c : Bool) → cond (eqb (cond c Reason.closed Reason.badPayload) 0) 0 (cond c Reason.closed Reason.badPayload) ≡ closedOr c Reason.badPayload
+      go : (c : Bool) → cond (eqb (cond c Reason.closed Reason.badPayload) 0) 0
+          (cond c Reason.closed Reason.badPayload) ≡ closedOr c Reason.badPayload
       go true = refl
       go false = refl
 
@@ -106,39 +115,48 @@ module _ (s : Session) (used : ℕ) (r : Report) (b : List ℕ) (room : minBuffe
   late-by false m h = h
 
   unknown-nameless : (c : Bool) →
-      Reply.Error (refusalOf (UnknownType used) r (closedOr c Reason.unknownType)) ≡ Reply.Error (errorOf (closedOr c Reason.unknownType) noNames r)
+      Reply.Error (refusalOf (UnknownType used) r (closedOr c Reason.unknownType)) ≡ Reply.Error
+      (errorOf (closedOr c Reason.unknownType) noNames r)
   unfolding numberOf kindNamed
   unknown-nameless true = refl
   unknown-nameless false = refl
 
   payload-nameless : (kind : ℕ) (c : Bool) →
-      Reply.Error (refusalOf (BadPayload used kind) r (closedOr c Reason.badPayload)) ≡ Reply.Error (errorOf (closedOr c Reason.badPayload) noNames r)
+      Reply.Error (refusalOf (BadPayload used kind) r (closedOr c Reason.badPayload)) ≡ Reply.Error
+      (errorOf (closedOr c Reason.badPayload) noNames r)
   unfolding numberOf kindNamed
   payload-nameless kind true = refl
   payload-nameless kind false = refl
 
   pub unknown-refuses : {n : ℕ} {a : Answer} {after : List ℕ} → n ≡ closedOr (isClosed s) Reason.unknownType →
-      Answers (refusing used n) (Reply.Error (errorOf n noNames r)) b a after → Does (stepOn s (UnknownType used) r b) a s after
+      Answers (refusing used n) (Reply.Error (errorOf n noNames r)) b a after →
+      Does (stepOn s (UnknownType used) r b) a s after
   unknown-refuses {n} {a} {after} e h =
-      own-refuses s (UnknownType used) Reason.unknownType r b tt unknown-reason (late-by (isClosed s) Reason.unknownType (omega arith)) (unknown-nameless (isClosed s)) room
+      own-refuses s (UnknownType used) Reason.unknownType r b tt unknown-reason
+      (late-by (isClosed s) Reason.unknownType (omega arith)) (unknown-nameless (isClosed s)) room
       (subst (λ (k : ℕ). Answers (refusing used k) (Reply.Error (errorOf k noNames r)) b a after) e h)
 
   pub payload-refuses : (kind : ℕ) {n : ℕ} {a : Answer} {after : List ℕ} → n ≡ closedOr (isClosed s) Reason.badPayload →
-      Answers (refusing used n) (Reply.Error (errorOf n noNames r)) b a after → Does (stepOn s (BadPayload used kind) r b) a s after
+      Answers (refusing used n) (Reply.Error (errorOf n noNames r)) b a after →
+      Does (stepOn s (BadPayload used kind) r b) a s after
   payload-refuses kind {n} {a} {after} e h =
-      own-refuses s (BadPayload used kind) Reason.badPayload r b tt (payload-reason kind) (late-by (isClosed s) Reason.badPayload (omega arith)) (payload-nameless kind (isClosed s)) room
+      own-refuses s (BadPayload used kind) Reason.badPayload r b tt (payload-reason kind)
+      (late-by (isClosed s) Reason.badPayload (omega arith)) (payload-nameless kind (isClosed s)) room
       (subst (λ (k : ℕ). Answers (refusing used k) (Reply.Error (errorOf k noNames r)) b a after) e h)
 
 -- ---- what was read
 
 -- what a step comes to on the frame that was read
-pub does-read : (s : Session) (frame : List ℕ) (r : Report) (b : List ℕ) {x y : Frame} {a : Answer} {s' : Session} {after : List ℕ} → x ≡ frameOf frame → x ≡ y →
+pub does-read : (s : Session) (frame : List ℕ) (r : Report) (b : List ℕ) {x y : Frame} {a : Answer} {s' : Session}
+    {after : List ℕ} → x ≡ frameOf frame → x ≡ y →
     Does (stepOn s y r b) a s' after → Does (stepOn s (frameOf frame) r b) a s' after
 does-read s frame r b {x} {y} {a} {s'} {after} e f h = subst (λ z. Does (stepOn s z r b) a s' after) (sym f ∙ e) h
 
-pub readable : (frame b : List ℕ) {x : Frame} {used : ℕ} {q : Request} → x ≡ frameOf frame → x ≡ Good used q → minBuffer ≤ length b → Readable q b
+pub readable : (frame b : List ℕ) {x : Frame} {used : ℕ} {q : Request} → x ≡ frameOf frame → x ≡ Good used q →
+    minBuffer ≤ length b → Readable q b
 readable frame b e f room = record { room = room; read = subst ReadIn (sym e ∙ f) (frames-are-read frame) }
 
 -- an answer that was made so
-pub sym-answer : {x : Step} {a a' : Answer} {s : Session} {after : List ℕ} → a ≡ a' → Does x a' s after → Does x a s after
+pub sym-answer : {x : Step} {a a' : Answer} {s : Session} {after : List ℕ} → a ≡ a' → Does x a' s after →
+    Does x a s after
 sym-answer {x} {a} {a'} {s} {after} e h = record { answered = e ∙ h .answered; kept = h .kept; replied = h .replied }

@@ -39,19 +39,23 @@ module _ (s : Session) where
   unfolding lookOf lookReason
   length-look = refl
 
-  pub unknown-look : (used : ℕ) {n : ℕ} → n ≡ closedOr (isClosed s) Reason.unknownType → lookRefused n ≡ lookOf s (UnknownType used)
+  pub unknown-look : (used : ℕ) {n : ℕ} → n ≡ closedOr (isClosed s) Reason.unknownType →
+      lookRefused n ≡ lookOf s (UnknownType used)
   unfolding lookOf lookReason
   unknown-look used e = ap lookRefused e ∙ go (isClosed s)
     where
-      go : (c : Bool) → lookRefused (closedOr c Reason.unknownType) ≡ lookBy s (UnknownType used) (cond c Reason.closed Reason.unknownType)
+      go : (c : Bool) → lookRefused (closedOr c Reason.unknownType) ≡ lookBy s (UnknownType used)
+          (cond c Reason.closed Reason.unknownType)
       go true = refl
       go false = refl
 
-  pub payload-look : (used kind : ℕ) {n : ℕ} → n ≡ closedOr (isClosed s) Reason.badPayload → lookRefused n ≡ lookOf s (BadPayload used kind)
+  pub payload-look : (used kind : ℕ) {n : ℕ} → n ≡ closedOr (isClosed s) Reason.badPayload →
+      lookRefused n ≡ lookOf s (BadPayload used kind)
   unfolding lookOf lookReason
   payload-look used kind e = ap lookRefused e ∙ go (isClosed s)
     where
-      go : (c : Bool) → lookRefused (closedOr c Reason.badPayload) ≡ lookBy s (BadPayload used kind) (cond c Reason.closed Reason.badPayload)
+      go : (c : Bool) → lookRefused (closedOr c Reason.badPayload) ≡ lookBy s (BadPayload used kind)
+          (cond c Reason.closed Reason.badPayload)
       go true = refl
       go false = refl
 
@@ -61,7 +65,8 @@ module _ (s : Session) where
   look-any used q = refl
 
 -- what was read
-pub look-read : (s : Session) (frame : List ℕ) {x y : Frame} {l : Look} → x ≡ frameOf frame → x ≡ y → l ≡ lookOf s y → l ≡ lookAt s frame
+pub look-read : (s : Session) (frame : List ℕ) {x y : Frame} {l : Look} → x ≡ frameOf frame → x ≡ y → l ≡ lookOf s y →
+    l ≡ lookAt s frame
 unfolding lookAt
 look-read s frame e f g = g ∙ ap (lookOf s) (sym f ∙ e)
 
@@ -115,13 +120,19 @@ module _ (s : Session) where
 
 -- ---- a Fetch
 
-module _ (s : Session) (f : Fetch) (unclosed : isClosed s ≡ false) {c : Cursor} {n : ℕ} (found : c ≡ liveCursor s (f .cursor)) (e : n ≡ fetchReason c) where
+module _ (s : Session) (f : Fetch) (unclosed : isClosed s ≡ false) {c : Cursor} {n : ℕ}
+    (found : c ≡ liveCursor s (f .cursor)) (e : n ≡ fetchReason c) where
   abbrev wanted : Look
   wanted = record { reason = Reason.accepted; work = toFetch; first = c .sent; count = fetchCount c (f .rows) }
 
   wants : wanted ≡ looked s (Request.Fetch f)
   unfolding firstRow
-  wants = ap (λ y. record { reason = Reason.accepted; work = toFetch; first = y .sent; count = fetchCount y (f .rows) }) found
+  wants = ap (λ y. record {
+    reason = Reason.accepted;
+    work = toFetch;
+    first = y .sent;
+    count = fetchCount y (f .rows);
+  }) found
 
   by-reason : cond (eqb n Reason.accepted) wanted (lookRefused n) ≡ lookOf s (Good 0 (Request.Fetch f))
   by-reason = found-look s (Request.Fetch f) unclosed (fetch-looks s f found e) wanted wants
@@ -130,14 +141,16 @@ module _ (s : Session) (f : Fetch) (unclosed : isClosed s ≡ false) {c : Cursor
   fetch-refused h = without wanted (lookRefused n) (ne-eqb n 0 h) ∙ by-reason
 
   pub fetch-wanted : n ≡ 0 → {count : ℕ} → count ≡ fetchCount c (f .rows) →
-      record { reason = Reason.accepted; work = toFetch; first = c .sent; count = count } ≡ lookOf s (Good 0 (Request.Fetch f))
+      record { reason = Reason.accepted; work = toFetch; first = c .sent; count = count } ≡ lookOf s
+      (Good 0 (Request.Fetch f))
   fetch-wanted h k =
       ap (λ (i : ℕ). record { reason = Reason.accepted; work = toFetch; first = c .sent; count = i }) k
       ∙ yes wanted (lookRefused n) (eq-eqb n 0 h) ∙ by-reason
 
 -- ---- found or refused
 
-pub found-not : (n work : ℕ) → (n ≡ 0 → ⊥) → lookRefused n ≡ cond (eqb n Reason.accepted) (lookWork work) (lookRefused n)
+pub found-not : (n work : ℕ) → (n ≡ 0 → ⊥) → lookRefused n ≡ cond (eqb n Reason.accepted) (lookWork work)
+    (lookRefused n)
 found-not n work h = without (lookWork work) (lookRefused n) (ne-eqb n 0 h)
 
 pub found-work : (n work : ℕ) → n ≡ 0 → lookWork work ≡ cond (eqb n Reason.accepted) (lookWork work) (lookRefused n)

@@ -1,4 +1,5 @@
--- Each request: the refusal by the entries that were looked up, what it sends, and the session after it. Assumes nothing.
+-- Each request: the refusal by the entries that were looked up, what it sends, and the session after it. Assumes
+-- nothing.
 use Prim.Native.Nat.{ℕ, _+_, _-_, _≤_, _<_, min}
 use native.Mathlib.Omega.{arith}
 use mathlib.Core.Bool.{Bool, true, false, cond, not, _&&_, _||_}
@@ -19,7 +20,8 @@ use Rattle.session.specs.declared.Place.{Place}
 use Rattle.session.specs.Session.{Session, isClosed}
 use Rattle.session.specs.Lists.{entryAt}
 use Rattle.session.specs.Entry.{noStmt, noCursor, isLiveStmt, isLiveCursor, isCursor, onStmt, withSent, raise}
-use Rattle.session.specs.Tables.{stmtAt, cursorAt, stmtPlace, cursorPlace, liveStmt, liveCursor, storedCursor, endedBy, preparedAt, freedAt, openedAt, reset, closedNow}
+use Rattle.session.specs.Tables.{stmtAt, cursorAt, stmtPlace, cursorPlace, liveStmt, liveCursor, storedCursor, endedBy}
+use Rattle.session.specs.Tables.{preparedAt, freedAt, openedAt, reset, closedNow}
 use Rattle.session.specs.Sound.{maxNumber, maxPlaceholders}
 use Rattle.reply.specs.declared.Reply.{Reply}
 use Rattle.rules.specs.declared.Report.{Report}
@@ -44,10 +46,12 @@ unless-full true n = refl
 unless-full false n = refl
 
 -- the entry found is the live one of the id
-pub stmt-found : (s : Session) (id : ℕ) {place : Place} {t : Stmt} → place ≡ stmtAt s id → t ≡ entryAt (s .stmts) place noStmt → t ≡ liveStmt s id
+pub stmt-found : (s : Session) (id : ℕ) {place : Place} {t : Stmt} → place ≡ stmtAt s id →
+    t ≡ entryAt (s .stmts) place noStmt → t ≡ liveStmt s id
 stmt-found s id e f = f ∙ ap (λ p. entryAt (s .stmts) p noStmt) e
 
-pub cursor-found : (s : Session) (id : ℕ) {place : Place} {c : Cursor} → place ≡ cursorAt s id → c ≡ entryAt (s .cursors) place noCursor → c ≡ liveCursor s id
+pub cursor-found : (s : Session) (id : ℕ) {place : Place} {c : Cursor} → place ≡ cursorAt s id →
+    c ≡ entryAt (s .cursors) place noCursor → c ≡ liveCursor s id
 cursor-found s id e f = f ∙ ap (λ p. entryAt (s .cursors) p noCursor) e
 
 -- ---- what the look refuses
@@ -56,19 +60,23 @@ pub prepare-looks : (s : Session) (p : Prepare) {place : Place} {n : ℕ} → pl
     n ≡ unless (not (noPlace place)) Reason.stmtsFull → n ≡ requestReason s (Request.Prepare p)
 unfolding requestReason
 prepare-looks s p e f =
-    f ∙ ap (λ x. unless (not (noPlace x)) Reason.stmtsFull) e ∙ unless-full (noPlace (stmtPlace s (p .stmt))) Reason.stmtsFull
+    f ∙ ap (λ x. unless (not (noPlace x)) Reason.stmtsFull) e
+    ∙ unless-full (noPlace (stmtPlace s (p .stmt))) Reason.stmtsFull
 
-pub deallocate-looks : (s : Session) (id : ℕ) {t : Stmt} {n : ℕ} → t ≡ liveStmt s id → n ≡ unless (isLiveStmt t) Reason.noStmt →
+pub deallocate-looks : (s : Session) (id : ℕ) {t : Stmt} {n : ℕ} → t ≡ liveStmt s id →
+    n ≡ unless (isLiveStmt t) Reason.noStmt →
     n ≡ requestReason s (Request.Deallocate id)
 unfolding requestReason
 deallocate-looks s id e f =
     f ∙ ap (λ x. unless (isLiveStmt x) Reason.noStmt) e ∙ unless-not (isLiveStmt (liveStmt s id)) Reason.noStmt
 
-pub close-looks : (s : Session) (id : ℕ) {c : Cursor} {n : ℕ} → c ≡ liveCursor s id → n ≡ unless (isLiveCursor c) Reason.noCursor →
+pub close-looks : (s : Session) (id : ℕ) {c : Cursor} {n : ℕ} → c ≡ liveCursor s id →
+    n ≡ unless (isLiveCursor c) Reason.noCursor →
     n ≡ requestReason s (Request.Close id)
 unfolding requestReason
 close-looks s id e f =
-    f ∙ ap (λ x. unless (isLiveCursor x) Reason.noCursor) e ∙ unless-not (isLiveCursor (liveCursor s id)) Reason.noCursor
+    f ∙ ap (λ x. unless (isLiveCursor x) Reason.noCursor) e
+    ∙ unless-not (isLiveCursor (liveCursor s id)) Reason.noCursor
 
 pub fetch-looks : (s : Session) (f : Fetch) {c : Cursor} {n : ℕ} → c ≡ liveCursor s (f .cursor) → n ≡ fetchReason c →
     n ≡ requestReason s (Request.Fetch f)
@@ -85,16 +93,20 @@ session-close-looks s = refl
 
 -- ---- what the report refuses
 
-pub prepare-consults : (p : Prepare) (r : Report) {a : Bool} {n : ℕ} → a ≡ isPrepared r → n ≡ consulted a (fails r) → n ≡ firstOf (reportTests (Request.Prepare p) r)
+pub prepare-consults : (p : Prepare) (r : Report) {a : Bool} {n : ℕ} → a ≡ isPrepared r → n ≡ consulted a (fails r) →
+    n ≡ firstOf (reportTests (Request.Prepare p) r)
 prepare-consults p r e f = f ∙ ap (λ b. consulted b (fails r)) e
 
-pub execute-consults : (x : Execute) (r : Report) {a : Bool} {n : ℕ} → a ≡ isResult r → n ≡ consulted a (fails r) → n ≡ firstOf (reportTests (Request.Execute x) r)
+pub execute-consults : (x : Execute) (r : Report) {a : Bool} {n : ℕ} → a ≡ isResult r → n ≡ consulted a (fails r) →
+    n ≡ firstOf (reportTests (Request.Execute x) r)
 execute-consults x r e f = f ∙ ap (λ b. consulted b (fails r)) e
 
-pub open-consults : (o : Open) (r : Report) {a : Bool} {n : ℕ} → a ≡ isResult r → n ≡ consulted a (fails r) → n ≡ firstOf (reportTests (Request.Open o) r)
+pub open-consults : (o : Open) (r : Report) {a : Bool} {n : ℕ} → a ≡ isResult r → n ≡ consulted a (fails r) →
+    n ≡ firstOf (reportTests (Request.Open o) r)
 open-consults o r e f = f ∙ ap (λ b. consulted b (fails r)) e
 
-pub fetch-consults : (f : Fetch) (r : Report) {a : Bool} {n : ℕ} → a ≡ isDone r → n ≡ consulted a (fails r) → n ≡ firstOf (reportTests (Request.Fetch f) r)
+pub fetch-consults : (f : Fetch) (r : Report) {a : Bool} {n : ℕ} → a ≡ isDone r → n ≡ consulted a (fails r) →
+    n ≡ firstOf (reportTests (Request.Fetch f) r)
 fetch-consults f r e g = g ∙ ap (λ b. consulted b (fails r)) e
 
 -- ---- what is sent
@@ -123,37 +135,44 @@ pub session-close-sends : (s : Session) (r : Report) → justOk ≡ sendsOf s Re
 unfolding firstRow rowCount sendsColumns replyTo
 session-close-sends s r = refl
 
-pub execute-sends : (s : Session) (x : Execute) (r : Report) {sends : Sends} → sends ≡ sendsAll r → sends ≡ sendsOf s (Request.Execute x) r
+pub execute-sends : (s : Session) (x : Execute) (r : Report) {sends : Sends} → sends ≡ sendsAll r →
+    sends ≡ sendsOf s (Request.Execute x) r
 unfolding firstRow rowCount sendsColumns replyTo
 execute-sends s x r e = e
 
-pub open-sends : (s : Session) (o : Open) (r : Report) {count : ℕ} {sends : Sends} → count ≡ openCount (o .rows) (r .rows) →
+pub open-sends : (s : Session) (o : Open) (r : Report) {count : ℕ} {sends : Sends} →
+    count ≡ openCount (o .rows) (r .rows) →
     sends ≡ sendsFirst r count → sends ≡ sendsOf s (Request.Open o) r
 unfolding firstRow rowCount sendsColumns replyTo
 open-sends s o r e f = f ∙ ap (sendsFirst r) e
 
-pub fetch-sends : (s : Session) (f : Fetch) (r : Report) {c : Cursor} {count : ℕ} {sends : Sends} → c ≡ liveCursor s (f .cursor) →
+pub fetch-sends : (s : Session) (f : Fetch) (r : Report) {c : Cursor} {count : ℕ} {sends : Sends} →
+    c ≡ liveCursor s (f .cursor) →
     count ≡ fetchCount c (f .rows) → sends ≡ sendsNext c count → sends ≡ sendsOf s (Request.Fetch f) r
 unfolding firstRow rowCount sendsColumns replyTo
 fetch-sends s f r {c} e g h = h ∙ ap (sendsNext c) g ∙ ap (λ y. sendsNext y (fetchCount y (f .rows))) e
 
 -- ---- the session after it
 
-pub prepare-after : (s : Session) (p : Prepare) (r : Report) {place : Place} {s' : Session} → place ≡ stmtPlace s (p .stmt) →
+pub prepare-after : (s : Session) (p : Prepare) (r : Report) {place : Place} {s' : Session} →
+    place ≡ stmtPlace s (p .stmt) →
     s' ≡ preparedAt s place (p .stmt) (r .placeholders) → s' ≡ sessionAfter s (Request.Prepare p) r
 unfolding sessionAfter
 prepare-after s p r e f = f ∙ ap (λ x. preparedAt s x (p .stmt) (r .placeholders)) e
 
-pub execute-after : (s : Session) (x : Execute) (r : Report) {s' : Session} → s' ≡ endedBy (onStmt (x .stmt)) s → s' ≡ sessionAfter s (Request.Execute x) r
+pub execute-after : (s : Session) (x : Execute) (r : Report) {s' : Session} → s' ≡ endedBy (onStmt (x .stmt)) s →
+    s' ≡ sessionAfter s (Request.Execute x) r
 unfolding sessionAfter
 execute-after s x r e = e
 
-pub deallocate-after : (s : Session) (id : ℕ) (r : Report) {place : Place} {s' : Session} → place ≡ stmtAt s id → s' ≡ freedAt s place id →
+pub deallocate-after : (s : Session) (id : ℕ) (r : Report) {place : Place} {s' : Session} → place ≡ stmtAt s id →
+    s' ≡ freedAt s place id →
     s' ≡ sessionAfter s (Request.Deallocate id) r
 unfolding sessionAfter
 deallocate-after s id r e f = f ∙ ap (λ x. freedAt s x id) e
 
-pub open-after : (s : Session) (o : Open) (r : Report) {place : Place} {count : ℕ} {s' : Session} → place ≡ cursorPlace s (o .cursor) →
+pub open-after : (s : Session) (o : Open) (r : Report) {place : Place} {count : ℕ} {s' : Session} →
+    place ≡ cursorPlace s (o .cursor) →
     count ≡ openCount (o .rows) (r .rows) → s' ≡ openedAt s place (o .cursor) (o .execute .stmt) (r .rows) count →
     s' ≡ sessionAfter s (Request.Open o) r
 unfolding sessionAfter rowCount
@@ -161,7 +180,8 @@ open-after s o r {place} e g f =
     f ∙ ap (openedAt s place (o .cursor) (o .execute .stmt) (r .rows)) g
     ∙ ap (λ x. openedAt s x (o .cursor) (o .execute .stmt) (r .rows) (openCount (o .rows) (r .rows))) e
 
-pub close-after : (s : Session) (id : ℕ) (r : Report) {s' : Session} → s' ≡ endedBy (isCursor id) s → s' ≡ sessionAfter s (Request.Close id) r
+pub close-after : (s : Session) (id : ℕ) (r : Report) {s' : Session} → s' ≡ endedBy (isCursor id) s →
+    s' ≡ sessionAfter s (Request.Close id) r
 unfolding sessionAfter
 close-after s id r e = e
 
@@ -169,7 +189,8 @@ pub reset-after : (s : Session) (r : Report) {s' : Session} → s' ≡ reset s �
 unfolding sessionAfter
 reset-after s r e = e
 
-pub session-close-after : (s : Session) (r : Report) {s' : Session} → s' ≡ closedNow s → s' ≡ sessionAfter s Request.SessionClose r
+pub session-close-after : (s : Session) (r : Report) {s' : Session} → s' ≡ closedNow s →
+    s' ≡ sessionAfter s Request.SessionClose r
 unfolding sessionAfter
 session-close-after s r e = e
 
@@ -188,13 +209,15 @@ left-some : (c : Cursor) → fetchReason c ≡ 0 → c .sent < c .rows
 unfolding fetchReason
 left-some c e = go (not (isLiveCursor c)) (leb (c .rows) (c .sent)) refl e
   where
-    go : (a b : Bool) → leb (c .rows) (c .sent) ≡ b → _≡_ {A = ℕ} (cond a Reason.noCursor (cond b Reason.allSent 0)) 0 → c .sent < c .rows
+    go : (a b : Bool) → leb (c .rows) (c .sent) ≡ b →
+        _≡_ {A = ℕ} (cond a Reason.noCursor (cond b Reason.allSent 0)) 0 → c .sent < c .rows
     go true b f g = absurd (omega arith)
     go false true f g = absurd (omega arith)
     go false false f g = leb-false (c .rows) (c .sent) f
 
 -- so no more rows are fetched than there are
-pub fetch-within : (c : Cursor) (rows : Optional) (report : ℕ) {look n count : ℕ} → look ≡ fetchReason c → n ≡ orElse look report → n ≡ 0 →
+pub fetch-within : (c : Cursor) (rows : Optional) (report : ℕ) {look n count : ℕ} → look ≡ fetchReason c →
+    n ≡ orElse look report → n ≡ 0 →
     count ≡ fetchCount c rows → c .sent + count ≤ c .rows
 fetch-within c rows report {look} e f z g =
     let h = left-some c (sym e ∙ none-first look report f z .0) in
@@ -206,22 +229,28 @@ suits-then true b e = refl
 suits-then false true e = absurd (omega arith)
 suits-then false false e = absurd (omega arith)
 
-pub result-within : (r : Report) (look : ℕ) {a : Bool} {report n : ℕ} → a ≡ isResult r → report ≡ consulted a (fails r) → n ≡ orElse look report → n ≡ 0 →
+pub result-within : (r : Report) (look : ℕ) {a : Bool} {report n : ℕ} → a ≡ isResult r →
+    report ≡ consulted a (fails r) → n ≡ orElse look report → n ≡ 0 →
     r .rows ≤ maxNumber
-result-within r look {a} {report} e f g z = rows-fit r (sym e ∙ suits-then a (fails r) (sym f ∙ none-first look report g z .1))
+result-within r look {a} {report} e f g z = rows-fit r
+    (sym e ∙ suits-then a (fails r) (sym f ∙ none-first look report g z .1))
 
-pub prepared-within : (r : Report) (look : ℕ) {a : Bool} {report n : ℕ} → a ≡ isPrepared r → report ≡ consulted a (fails r) → n ≡ orElse look report → n ≡ 0 →
+pub prepared-within : (r : Report) (look : ℕ) {a : Bool} {report n : ℕ} → a ≡ isPrepared r →
+    report ≡ consulted a (fails r) → n ≡ orElse look report → n ≡ 0 →
     r .placeholders ≤ maxPlaceholders
-prepared-within r look {a} {report} e f g z = placeholders-fit r (sym e ∙ suits-then a (fails r) (sym f ∙ none-first look report g z .1))
+prepared-within r look {a} {report} e f g z = placeholders-fit r
+    (sym e ∙ suits-then a (fails r) (sym f ∙ none-first look report g z .1))
 
 pub open-within : (r : Report) (rows : Optional) {count : ℕ} → count ≡ openCount rows (r .rows) → count ≤ r .rows
 open-within r rows e = omega (arith, e)
 
 -- ---- the session after a Fetch
 
-pub fetch-after : (s : Session) (f : Fetch) (r : Report) {place : Place} {c : Cursor} {count sent : ℕ} {s' : Session} → place ≡ cursorAt s (f .cursor) →
+pub fetch-after : (s : Session) (f : Fetch) (r : Report) {place : Place} {c : Cursor} {count sent : ℕ} {s' : Session}
+    → place ≡ cursorAt s (f .cursor) →
     c ≡ liveCursor s (f .cursor) → count ≡ fetchCount c (f .rows) →
-    s' ≡ storedCursor s place (withSent (entryAt (s .cursors) place noCursor) sent) → sent ≡ c .sent + count → s' ≡ sessionAfter s (Request.Fetch f) r
+    s' ≡ storedCursor s place (withSent (entryAt (s .cursors) place noCursor) sent) → sent ≡ c .sent + count →
+    s' ≡ sessionAfter s (Request.Fetch f) r
 unfolding sessionAfter rowCount
 fetch-after s f r {place} {c} {count} {sent} e g k h l =
     h ∙ ap (λ x. storedCursor s x (withSent (entryAt (s .cursors) x noCursor) sent)) e
@@ -243,7 +272,8 @@ module _ (s : Session) (unclosed : isClosed s ≡ false) (used : ℕ) (r : Repor
   Decides q n = n ≡ stepReason s (Good used q) r
 
   pub prepare-decides : (p : Prepare) → {place : Place} {look report n : ℕ} {a : Bool} → place ≡ stmtPlace s (p .stmt) →
-      look ≡ unless (not (noPlace place)) Reason.stmtsFull → a ≡ isPrepared r → report ≡ consulted a (fails r) → n ≡ orElse look report →
+      look ≡ unless (not (noPlace place)) Reason.stmtsFull → a ≡ isPrepared r → report ≡ consulted a (fails r) →
+      n ≡ orElse look report →
       Decides (Request.Prepare p) n
   prepare-decides p e f g k =
       open-reason s used (Request.Prepare p) r unclosed (prepare-looks s p e f) (prepare-consults p r g k)
@@ -257,8 +287,10 @@ module _ (s : Session) (unclosed : isClosed s ≡ false) (used : ℕ) (r : Repor
   open-decides o f g k = open-reason s used (Request.Open o) r unclosed f (open-consults o r g k)
 
   pub fetch-decides : (f : Fetch) → {c : Cursor} {look report n : ℕ} {a : Bool} → c ≡ liveCursor s (f .cursor) →
-      look ≡ fetchReason c → a ≡ isDone r → report ≡ consulted a (fails r) → n ≡ orElse look report → Decides (Request.Fetch f) n
-  fetch-decides f e g d k = open-reason s used (Request.Fetch f) r unclosed (fetch-looks s f e g) (fetch-consults f r d k)
+      look ≡ fetchReason c → a ≡ isDone r → report ≡ consulted a (fails r) → n ≡ orElse look report →
+      Decides (Request.Fetch f) n
+  fetch-decides f e g d k = open-reason s used (Request.Fetch f) r unclosed (fetch-looks s f e g)
+      (fetch-consults f r d k)
 
   pub deallocate-decides : (id : ℕ) → {t : Stmt} {n : ℕ} → t ≡ liveStmt s id →
       n ≡ unless (isLiveStmt t) Reason.noStmt → Decides (Request.Deallocate id) n

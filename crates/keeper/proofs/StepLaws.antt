@@ -22,7 +22,8 @@ use Rattle.rules.specs.declared.Answer.{Answer}
 use Rattle.rules.specs.declared.Report.{Report}
 use Rattle.rules.specs.Refusal.{firstOf, lookReason, reportTests, reportReason, stepReason}
 use Rattle.rules.specs.Read.{Read}
-use Rattle.rules.specs.Decision.{Decision, sessionAfter, replyTo, named, namedKind, refusalOf, refusedReply, refused, accepted, decisionOf}
+use Rattle.rules.specs.Decision.{Decision, sessionAfter, replyTo, named, namedKind, refusalOf, refusedReply, refused}
+use Rattle.rules.specs.Decision.{accepted, decisionOf}
 use Rattle.rules.specs.Step.{Step, stepBy, stepOn}
 use Rattle.rules.proofs.RefusalLaws.{late-read}
 use Rattle.rules.proofs.StepLaws.{error-fits}
@@ -31,11 +32,13 @@ use Rattle.keeper.specs.declared.answer.Names.{Names}
 use Rattle.keeper.specs.declared.answer.Sends.{Sends}
 use Rattle.keeper.specs.private.Reasons.{requestReason, orElse}
 use Rattle.keeper.proofs.AnswerLaws.{put-behind}
-use Rattle.keeper.specs.private.Does.{Does, Answers, Readable, Ready, accepting, refusing, withLength, lengthIn, noNames, namesOf, numberOf, kindNamed, errorOf, sendsOf}
+use Rattle.keeper.specs.private.Does.{Does, Answers, Readable, Ready, accepting, refusing, withLength, lengthIn}
+use Rattle.keeper.specs.private.Does.{noNames, namesOf, numberOf, kindNamed, errorOf, sendsOf}
 
 -- ---- with room, whatever the session
 
-module _ (s : Session) (used : ℕ) (q : Request) (r : Report) (b : List ℕ) (room : minBuffer ≤ length b) (read : Read q) where
+module _ (s : Session) (used : ℕ) (q : Request) (r : Report) (b : List ℕ) (room : minBuffer ≤ length b)
+    (read : Read q) where
   abbrev x : Frame
   x = Good used q
 
@@ -62,7 +65,8 @@ module _ (s : Session) (used : ℕ) (q : Request) (r : Report) (b : List ℕ) (r
   refusal some =
       rw (ne-eqb reason 0 some, lt-leb reason Reason.noRoom (late some)) (ap (refused s reason) (error-is reason))
 
-  step-refused : (reason ≡ 0 → ⊥) → stepOn s x r b ≡ stepBy x b (refused s reason (Reply.Error (errorOf reason (namesOf q) r)))
+  step-refused : (reason ≡ 0 → ⊥) → stepOn s x r b ≡ stepBy x b
+      (refused s reason (Reply.Error (errorOf reason (namesOf q) r)))
   step-refused some = decided (refused s reason (Reply.Error (errorOf reason (namesOf q) r))) (refusal some)
 
   acceptance : reason ≡ 0 → decisionOf s x r ≡ accepted s r q
@@ -96,8 +100,10 @@ module _ (s : Session) (used : ℕ) (q : Request) (r : Report) (b : List ℕ) (r
         replied = g .stored ∙ ap (λ y. y .buffer) is;
       }
 
-  pub accepts : {n : ℕ} {sends : Sends} {s' : Session} {a : Answer} {after : List ℕ} → n ≡ reason → n ≡ 0 → sends ≡ sendsOf s q r →
-      s' ≡ sessionAfter s q r → Answers (accepting used sends) (sends .reply) b a after → Does (stepOn s x r b) a s' after
+  pub accepts : {n : ℕ} {sends : Sends} {s' : Session} {a : Answer} {after : List ℕ} → n ≡ reason → n ≡ 0 →
+      sends ≡ sendsOf s q r →
+      s' ≡ sessionAfter s q r → Answers (accepting used sends) (sends .reply) b a after →
+      Does (stepOn s x r b) a s' after
   accepts {n} {sends} {s'} {a} {after} e z f k h =
       let g = subst (λ y. Answers (accepting used y) (y .reply) b a after) f h in
       let is = sym (step-accepted (sym e ∙ z)) in
@@ -112,14 +118,16 @@ module _ (s : Session) (used : ℕ) (q : Request) (r : Report) (b : List ℕ) (r
 
 -- ---- the reason, in an open session and in a closed one
 
-pub open-reason : (s : Session) (used : ℕ) (q : Request) (r : Report) → isClosed s ≡ false → {look report n : ℕ} → look ≡ requestReason s q →
+pub open-reason : (s : Session) (used : ℕ) (q : Request) (r : Report) → isClosed s ≡ false → {look report n : ℕ} →
+    look ≡ requestReason s q →
     report ≡ firstOf (reportTests q r) → n ≡ orElse look report → n ≡ stepReason s (Good used q) r
 unfolding lookReason reportReason requestReason
 open-reason s used q r e {look} {report} {n} a b c =
     c ∙ ap (λ (k : ℕ). orElse k report) a ∙ ap (orElse (requestReason s q)) b ∙ sym (rw e)
 
 -- a request that wants no work
-pub idle-reason : (s : Session) (used : ℕ) (q : Request) (r : Report) → isClosed s ≡ false → firstOf (reportTests q r) ≡ 0 → {n : ℕ} →
+pub idle-reason : (s : Session) (used : ℕ) (q : Request) (r : Report) → isClosed s ≡ false →
+    firstOf (reportTests q r) ≡ 0 → {n : ℕ} →
     n ≡ requestReason s q → n ≡ stepReason s (Good used q) r
 idle-reason s used q r e idle {n} a = open-reason s used q r e a (sym idle) (same n)
   where
@@ -130,17 +138,20 @@ idle-reason s used q r e idle {n} a = open-reason s used q r e a (sym idle) (sam
         go true f = eqb-true n 0 f
         go false f = refl
 
-pub closed-reason : (s : Session) (used : ℕ) (q : Request) (r : Report) → isClosed s ≡ true → Reason.closed ≡ stepReason s (Good used q) r
+pub closed-reason : (s : Session) (used : ℕ) (q : Request) (r : Report) → isClosed s ≡ true →
+    Reason.closed ≡ stepReason s (Good used q) r
 unfolding lookReason
 closed-reason s used q r e = sym (rw e)
 
 -- a closed session names nothing
-module _ (s : Session) (used : ℕ) (q : Request) (r : Report) (b : List ℕ) (room : minBuffer ≤ length b) (read : Read q) (closed : isClosed s ≡ true) where
+module _ (s : Session) (used : ℕ) (q : Request) (r : Report) (b : List ℕ) (room : minBuffer ≤ length b)
+    (read : Read q) (closed : isClosed s ≡ true) where
   nameless : Reply.Error (errorOf Reason.closed noNames r) ≡ Reply.Error (errorOf Reason.closed (namesOf q) r)
   unfolding numberOf kindNamed
   nameless = refl
 
-  pub closed-refuses : {a : Answer} {after : List ℕ} → Answers (refusing used Reason.closed) (Reply.Error (errorOf Reason.closed noNames r)) b a after →
+  pub closed-refuses : {a : Answer} {after : List ℕ} →
+      Answers (refusing used Reason.closed) (Reply.Error (errorOf Reason.closed noNames r)) b a after →
       Does (stepOn s (Good used q) r b) a s after
   closed-refuses {a} {after} h =
       refuses s used q r b room read (closed-reason s used q r closed) (λ e. omega arith) refl
@@ -151,6 +162,7 @@ module _ (s : Session) (used : ℕ) (q : Request) (r : Report) (b : List ℕ) (r
 pub ready : {w b : List ℕ} {q p : Request} → Readable q b → q ≡ p → isClosed (sessionOf w) ≡ false → Ready w p b
 ready {w} {b} {q} {p} h e f = record { room = h .room; read = subst Read e (h .read); unclosed = f }
 
-pub does-as : (s : Session) (used : ℕ) (r : Report) (b : List ℕ) {q p : Request} {a : Answer} {s' : Session} {after : List ℕ} → q ≡ p →
+pub does-as : (s : Session) (used : ℕ) (r : Report) (b : List ℕ) {q p : Request} {a : Answer} {s' : Session}
+    {after : List ℕ} → q ≡ p →
     Does (stepOn s (Good used p) r b) a s' after → Does (stepOn s (Good used q) r b) a s' after
 does-as s used r b {q} {p} {a} {s'} {after} e h = subst (λ x. Does (stepOn s (Good used x) r b) a s' after) (sym e) h

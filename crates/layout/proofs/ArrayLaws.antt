@@ -1,4 +1,5 @@
--- What lent arrays leave out can be told from the rest: whether a field occurs says as much as how often, and of a field with bytes
+-- What lent arrays leave out can be told from the rest: whether a field occurs says as much as how often, and of a
+-- field with bytes
 -- the value is the length. Assumes nothing.
 use Prim.Native.Nat.{ℕ, zero, suc, _+_, _<_}
 use native.Mathlib.Omega.{arith}
@@ -15,17 +16,20 @@ use Rattle.wire.specs.declared.field.Field.{Field}
 use Rattle.wire.proofs.LongLaws.{LongField, field-long}
 use Rattle.layout.specs.Row.{numberOf, wireOf, isRepeated, listedOf, listed, rowFor, takes, slotCount}
 use Rattle.layout.specs.Slots.{noSlots, badSlots}
-use Rattle.layout.specs.Fields.{useOf, noted, onField, fieldsFrom, fieldList, hasRequired, checked, fieldsAt, fieldsTo}
+use Rattle.layout.specs.Fields.{useOf, noted, onField, fieldsFrom, fieldList, hasRequired, checked, fieldsAt}
+use Rattle.layout.specs.Fields.{fieldsTo}
 use Rattle.layout.specs.private.Arrays.{occurs, once, Holds, fromArrays, inArrays}
 use Rattle.layout.proofs.FieldsLaws.{getD-seen}
 use Rattle.layout.specs.declared.slots.Slots.{Slots}
 use Rattle.layout.specs.declared.fields.Use.{Use}
 
-pub holds-arrays : {x : Slots} {g : Bool} {v : List Bool} {w u : List ℕ} → Holds x g v w u → fromArrays g v w u ≡ inArrays x
+pub holds-arrays : {x : Slots} {g : Bool} {v : List Bool} {w u : List ℕ} → Holds x g v w u →
+    fromArrays g v w u ≡ inArrays x
 holds-arrays h = rw (h .answer, h .held .seen-is, h .held .value-is, h .held .start-is)
 
 -- a message that ends where s does
-pub fields-whole : (rows : List (List ℕ)) (s : List ℕ) (from : ℕ) → fieldsTo rows s from (length s) ≡ fieldsAt rows s from
+pub fields-whole : (rows : List (List ℕ)) (s : List ℕ) (from : ℕ) →
+    fieldsTo rows s from (length s) ≡ fieldsAt rows s from
 fields-whole rows s from =
     simp (le-leb (length s) (length s) (omega arith)) (ap (λ (l : List ℕ). fieldsAt rows l from) (take-length s))
 
@@ -34,7 +38,8 @@ pub holds-whole : (rows : List (List ℕ)) (s : List ℕ) (from : ℕ) {g : Bool
 holds-whole rows s from {g} {v} {w} {u} h = subst (λ (y : Slots). Holds y g v w u) (fields-whole rows s from) h
 
 -- the same where the rows lent are the message's by an equation
-pub holds-lent : {lent rows : List (List ℕ)} → lent ≡ rows → (s : List ℕ) (from : ℕ) {g : Bool} {v : List Bool} {w u : List ℕ} →
+pub holds-lent : {lent rows : List (List ℕ)} → lent ≡ rows →
+    (s : List ℕ) (from : ℕ) {g : Bool} {v : List Bool} {w u : List ℕ} →
     Holds (fieldsTo lent s from (length s)) g v w u → Holds (fieldsAt rows s from) g v w u
 holds-lent {rows = rows} e s from h = holds-whole rows s from (rw e at h)
 
@@ -81,7 +86,8 @@ same-absent (x ∷ l) (suc k) = same-absent l k
 -- ---- value and length
 
 -- two lists that are alike at a place stay so where both are set to one value
-set-alike : (l m : List ℕ) (i v k : ℕ) → length l ≡ length m → getD l k 0 ≡ getD m k 0 → getD (set l i v) k 0 ≡ getD (set m i v) k 0
+set-alike : (l m : List ℕ) (i v k : ℕ) → length l ≡ length m → getD l k 0 ≡ getD m k 0 →
+    getD (set l i v) k 0 ≡ getD (set m i v) k 0
 set-alike [] [] i v k h e = e
 set-alike [] (y ∷ m) i v k h e = absurd (omega arith)
 set-alike (x ∷ l) [] i v k h e = absurd (omega arith)
@@ -104,13 +110,15 @@ module _ (rows : List (List ℕ)) (k : ℕ) (long : wireOf (rowFor rows k) ≡ 2
       go false t = absurd (never (ltb number slotCount) (eqb (numberOf (rowFor rows number)) number) (rw t at e))
         where
           never : (a b : Bool) →
-              cond (cond a (cond b false false) false) (cond (isRepeated (rowFor rows number)) Use.Counted Use.Kept) Use.Unknown ≡ Use.Kept → ⊥
+              cond (cond a (cond b false false) false) (cond (isRepeated (rowFor rows number)) Use.Counted Use.Kept)
+              Use.Unknown ≡ Use.Kept → ⊥
           never true true h = let z : _≡_ {A = ℕ} 0 1 = cc in omega arith
           never true false h = let z : _≡_ {A = ℕ} 0 1 = cc in omega arith
           never false true h = let z : _≡_ {A = ℕ} 0 1 = cc in omega arith
           never false false h = let z : _≡_ {A = ℕ} 0 1 = cc in omega arith
 
-  noted-alike : (u : Use) (x : Slots) (number wire v start len : ℕ) → useOf rows number wire v ≡ u → (wire ≡ 2 → v ≡ len) → Alike k x →
+  noted-alike : (u : Use) (x : Slots) (number wire v start len : ℕ) → useOf rows number wire v ≡ u →
+      (wire ≡ 2 → v ≡ len) → Alike k x →
       Alike k (noted u x number v start len)
   noted-alike Use.Unknown x number wire v start len e f a = a
   noted-alike Use.Counted x number wire v start len e f a = record { lengths = a .lengths; alike = a .alike }
@@ -128,10 +136,12 @@ module _ (rows : List (List ℕ)) (k : ℕ) (long : wireOf (rowFor rows k) ≡ 2
           let ne : k ≡ number → ⊥ = λ h. eqb-false number k t (sym h) in
           getD-set-other (x .len) number k len 0 ne ∙ a .alike ∙ sym (getD-set-other (x .value) number k v 0 ne)
 
-  field-alike : (x : Slots) (more : ℕ → Slots → Slots) → ((p : ℕ) (y : Slots) → Alike k y → Alike k (more p y)) → (f : Field) → LongField f →
+  field-alike : (x : Slots) (more : ℕ → Slots → Slots) → ((p : ℕ) (y : Slots) → Alike k y → Alike k (more p y)) →
+      (f : Field) → LongField f →
       Alike k x → Alike k (onField rows x more f)
   field-alike x more m (Field.Good number wire v start len next) h a =
-      m next (noted (useOf rows number wire v) x number v start len) (noted-alike (useOf rows number wire v) x number wire v start len refl h a)
+      m next (noted (useOf rows number wire v) x number v start len)
+      (noted-alike (useOf rows number wire v) x number wire v start len refl h a)
   field-alike x more m Field.Bad h a = record { lengths = refl; alike = zeros k }
     where
       zeros : (j : ℕ) → getD (badSlots .len) j 0 ≡ getD (badSlots .value) j 0
@@ -142,14 +152,19 @@ module _ (rows : List (List ℕ)) (k : ℕ) (long : wireOf (rowFor rows k) ≡ 2
   from-alike zero s at x a = a
   from-alike (suc most) s at x a =
       both (Alike k) (ltb at (length s)) (onField rows x (λ next y. fieldsFrom most rows s next y) (fieldAt s at)) x
-      (λ _. field-alike x (λ next y. fieldsFrom most rows s next y) (from-alike most s) (fieldAt s at) (field-long s at) a) (λ _. a)
+      (λ _. field-alike x (λ next y. fieldsFrom most rows s next y) (from-alike most s) (fieldAt s at)
+      (field-long s at) a) (λ _. a)
 
-  pub bytes-long : (s : List ℕ) (from : ℕ) → getD (fieldsAt rows s from .len) k 0 ≡ getD (fieldsAt rows s from .value) k 0
+  pub bytes-long : (s : List ℕ) (from : ℕ) → getD (fieldsAt rows s from .len) k 0 ≡ getD (fieldsAt rows s from .value)
+      k 0
   bytes-long s from =
-      both (λ (x : Slots). getD (x .len) k 0 ≡ getD (x .value) k 0) (hasRequired rows (fieldList rows s from .count)) (fieldList rows s from) badSlots
+      both (λ (x : Slots). getD (x .len) k 0 ≡ getD (x .value) k 0) (hasRequired rows (fieldList rows s from .count))
+      (fieldList rows s from) badSlots
       (λ _. from-alike (length s) s from noSlots (record { lengths = refl; alike = refl }) .alike) (λ _. refl)
 
-  pub bytes-long-to : (s : List ℕ) (from end : ℕ) → getD (fieldsTo rows s from end .len) k 0 ≡ getD (fieldsTo rows s from end .value) k 0
+  pub bytes-long-to : (s : List ℕ) (from end : ℕ) →
+      getD (fieldsTo rows s from end .len) k 0 ≡ getD (fieldsTo rows s from end .value) k 0
   bytes-long-to s from end =
-      both (λ (x : Slots). getD (x .len) k 0 ≡ getD (x .value) k 0) (leb end (length s)) (fieldsAt rows (take end s) from) badSlots
+      both (λ (x : Slots). getD (x .len) k 0 ≡ getD (x .value) k 0) (leb end (length s))
+      (fieldsAt rows (take end s) from) badSlots
       (λ _. bytes-long (take end s) from) (λ _. refl)

@@ -35,7 +35,8 @@ module _ (x : Slots) (number v start len : ℕ) where
   noted-grows k Use.Counted = set-grows (x .count) number k
   noted-grows k Use.Kept = set-grows (x .count) number k
 
-  pub noted-counted : (u : Use) → u ≡ Use.Counted → number < length (x .count) → 0 < getD (noted u x number v start len .count) number 0
+  pub noted-counted : (u : Use) → u ≡ Use.Counted → number < length (x .count) →
+      0 < getD (noted u x number v start len .count) number 0
   noted-counted u e h = rw e (omega (arith, getD-set-same (x .count) number (getD (x .count) number 0 + 1) 0 h))
 
 module _ (rows : List (List ℕ)) (k : ℕ) where
@@ -43,7 +44,8 @@ module _ (rows : List (List ℕ)) (k : ℕ) where
   abbrev Above : Slots → Slots → Type 0
   Above x y = y .good ≡ true → getD (x .count) k 0 ≤ getD (y .count) k 0
 
-  field-grows : (x : Slots) (more : ℕ → Slots → Slots) → ((p : ℕ) (y : Slots) → Above y (more p y)) → (f : Field) → Above x (onField rows x more f)
+  field-grows : (x : Slots) (more : ℕ → Slots → Slots) → ((p : ℕ) (y : Slots) → Above y (more p y)) → (f : Field) →
+      Above x (onField rows x more f)
   field-grows x more m (Field.Good number wire v start len next) g =
       let u = useOf rows number wire v in
       omega (arith, noted-grows x number v start len k u, m next (noted u x number v start len) g)
@@ -54,14 +56,16 @@ module _ (rows : List (List ℕ)) (k : ℕ) where
   from-grows zero s at x = λ _. omega arith
   from-grows (suc most) s at x =
       both (Above x) (ltb at (length s)) (onField rows x (λ next y. fieldsFrom most rows s next y) (fieldAt s at)) x
-      (λ _. field-grows x (λ next y. fieldsFrom most rows s next y) (from-grows most s) (fieldAt s at)) (λ _ _. omega arith)
+      (λ _. field-grows x (λ next y. fieldsFrom most rows s next y) (from-grows most s) (fieldAt s at))
+      (λ _ _. omega arith)
 
 -- a good message ends within s, and is its field list
 pub good-list : (rows : List (List ℕ)) (s : List ℕ) (from end : ℕ) → fieldsTo rows s from end .good ≡ true →
     (end ≤ length s) × (fieldsTo rows s from end ≡ fieldList rows (take end s) from)
 good-list rows s from end =
     both P (leb end (length s)) (fieldsAt rows (take end s) from) badSlots
-    (λ e. both P (hasRequired rows (list .count)) list badSlots (λ _ _. (leb-true end (length s) e, refl)) (λ _. no)) (λ _. no)
+    (λ e. both P (hasRequired rows (list .count)) list badSlots (λ _ _. (leb-true end (length s) e, refl)) (λ _. no))
+    (λ _. no)
   where
     list : Slots
     list = fieldList rows (take end s) from

@@ -41,17 +41,21 @@ use-none number wire value h = use-unknown noRow number wire value (go (ltb numb
     go false e = simp e
 
 -- a row that takes a field has a slot for it
-pub use-slot : (rows : List (List ℕ)) (number wire value : ℕ) → (useOf rows number wire value ≡ Use.Unknown → ⊥) → number < slotCount
+pub use-slot : (rows : List (List ℕ)) (number wire value : ℕ) → (useOf rows number wire value ≡ Use.Unknown → ⊥) →
+    number < slotCount
 use-slot rows number wire value h = go (ltb number slotCount) refl
   where
     go : (b : Bool) → ltb number slotCount ≡ b → number < slotCount
     go true e = ltb-true number slotCount e
     go false e = absurd (h (simp e))
 
-pub counted-slot : (rows : List (List ℕ)) (number wire value : ℕ) → Use.Counted ≡ useOf rows number wire value → number < slotCount
-counted-slot rows number wire value e = use-slot rows number wire value (λ u. let z : _≡_ {A = ℕ} 0 1 = cc in omega arith)
+pub counted-slot : (rows : List (List ℕ)) (number wire value : ℕ) → Use.Counted ≡ useOf rows number wire value →
+    number < slotCount
+counted-slot rows number wire value e = use-slot rows number wire value
+    (λ u. let z : _≡_ {A = ℕ} 0 1 = cc in omega arith)
 
-pub kept-slot : (rows : List (List ℕ)) (number wire value : ℕ) → Use.Kept ≡ useOf rows number wire value → number < slotCount
+pub kept-slot : (rows : List (List ℕ)) (number wire value : ℕ) → Use.Kept ≡ useOf rows number wire value →
+    number < slotCount
 kept-slot rows number wire value e = use-slot rows number wire value (λ u. let z : _≡_ {A = ℕ} 0 1 = cc in omega arith)
 
 -- where the loop stands: what is left at p answers for the whole list
@@ -69,7 +73,8 @@ unfolding fieldsFrom
 from-end zero rows s p x h = refl
 from-end (suc m) rows s p x h = simp (le-ltb p (length s) h)
 
-pub ends : {rows : List (List ℕ)} {s : List ℕ} {from p : ℕ} {x : Slots} → Listing rows s from p x → length s ≤ p → x ≡ fieldList rows s from
+pub ends : {rows : List (List ℕ)} {s : List ℕ} {from p : ℕ} {x : Slots} → Listing rows s from p x → length s ≤ p →
+    x ≡ fieldList rows s from
 ends {rows} {s} {from} {p} {x} l h = sym (from-end (l .most) rows s p x h) ∙ l .whole
 
 unroll : (most : ℕ) (rows : List (List ℕ)) (s : List ℕ) (p : ℕ) (x : Slots) → 0 < most → p < length s →
@@ -80,8 +85,10 @@ unroll (suc m) rows s p x g h =
     simp (lt-ltb p (length s) h)
     (ap (λ (k : ℕ). onField rows x (λ next y. fieldsFrom k rows s next y) (fieldAt s p)) (before-suc m))
 
-module _ {rows : List (List ℕ)} {s : List ℕ} {from p : ℕ} {x : Slots} (l : Listing rows s from p x) (inside : p < length s) where
-  turn : (f : Field) → fieldAt s p ≡ f → onField rows x (λ next y. fieldsFrom (l .most - 1) rows s next y) f ≡ fieldList rows s from
+module _ {rows : List (List ℕ)} {s : List ℕ} {from p : ℕ} {x : Slots} (l : Listing rows s from p x)
+    (inside : p < length s) where
+  turn : (f : Field) → fieldAt s p ≡ f → onField rows x (λ next y. fieldsFrom (l .most - 1) rows s next y) f ≡
+      fieldList rows s from
   turn f e =
       sym
       (unroll (l .most) rows s p x (omega (arith, l .enough)) inside
@@ -98,7 +105,8 @@ module _ {rows : List (List ℕ)} {s : List ℕ} {from p : ℕ} {x : Slots} (l :
         go : PastField p (length s) (fieldAt s p) → p < next
         go = rw e (λ h. h .2)
 
-    pub goes-on : (u : Use) → u ≡ useOf rows number wire value → Listing rows s from next (noted u x number value start len)
+    pub goes-on : (u : Use) → u ≡ useOf rows number wire value →
+        Listing rows s from next (noted u x number value start len)
     goes-on u v =
         record {
           most = l .most - 1;
@@ -122,16 +130,19 @@ seen-set : (l : List ℕ) (k : ℕ) → set (map occurs l) k true ≡ map occurs
 seen-set l k = sym (map-set occurs l k (getD l k 0 + 1) ∙ ap (set (map occurs l) k) (one-more (getD l k 0)))
 
 -- where the loop stands: the arrays hold slots that answer for the whole
-pub record Filling (rows : List (List ℕ)) (s : List ℕ) (from p : ℕ) (seen : List Bool) (values starts : List ℕ) : Type 0 where
+pub record Filling (rows : List (List ℕ)) (s : List ℕ) (from p : ℕ) (seen : List Bool) (values starts : List ℕ) : Type
+    0 where
   pub slots : Slots
   pub sound : slots .good ≡ true
   pub listing : Listing rows s from p slots
   pub held : Noted slots seen values starts
 
-pub filling : (rows : List (List ℕ)) (s : List ℕ) (from : ℕ) {seen : List Bool} {values starts : List ℕ} → Noted noSlots seen values starts → Filling rows s from from seen values starts
+pub filling : (rows : List (List ℕ)) (s : List ℕ) (from : ℕ) {seen : List Bool} {values starts : List ℕ} →
+    Noted noSlots seen values starts → Filling rows s from from seen values starts
 filling rows s from h = record { slots = noSlots; sound = refl; listing = starts rows s from; held = h }
 
-module _ {rows : List (List ℕ)} {s : List ℕ} {from p : ℕ} {seen : List Bool} {values starts : List ℕ} (l : Filling rows s from p seen values starts) where
+module _ {rows : List (List ℕ)} {s : List ℕ} {from p : ℕ} {seen : List Bool} {values starts : List ℕ}
+    (l : Filling rows s from p seen values starts) where
   pub filled : length s ≤ p → Listed (fieldList rows s from) true seen values starts
   filled h =
       subst (λ (y : Slots). Listed y true seen values starts) (ends (l .listing) h)
@@ -146,14 +157,22 @@ module _ {rows : List (List ℕ)} {s : List ℕ} {from p : ℕ} {seen : List Boo
       subst (λ (y : Slots). Listed y false seen values starts) (no-field (l .listing) h e)
       (record { answer = refl; held = λ t. absurd (let z : _≡_ {A = ℕ} 0 1 = cc in omega arith); bad = λ _. refl })
 
-  module _ (inside : p < length s) {number wire value start len next : ℕ} (e : fieldAt s p ≡ Field.Good number wire value start len next) where
+  module _ (inside : p < length s) {number wire value start len next : ℕ}
+      (e : fieldAt s p ≡ Field.Good number wire value start len next) where
     pub ahead : p < next
     ahead = advances (l .listing) inside e
 
     pub fills-unknown : Use.Unknown ≡ useOf rows number wire value → Filling rows s from next seen values starts
-    fills-unknown u = record { slots = l .slots; sound = l .sound; listing = goes-on (l .listing) inside e Use.Unknown u; held = l .held }
+    fills-unknown u = record {
+      slots = l .slots;
+      sound = l .sound;
+      listing = goes-on (l .listing) inside e Use.Unknown
+          u;
+      held = l .held;
+    }
 
-    pub fills-counted : Use.Counted ≡ useOf rows number wire value → Filling rows s from next (set seen number true) values starts
+    pub fills-counted : Use.Counted ≡ useOf rows number wire value →
+        Filling rows s from next (set seen number true) values starts
     fills-counted u =
         record {
           slots = noted Use.Counted (l .slots) number value start len;
@@ -161,13 +180,15 @@ module _ {rows : List (List ℕ)} {s : List ℕ} {from p : ℕ} {seen : List Boo
           listing = goes-on (l .listing) inside e Use.Counted u;
           held =
               record {
-                seen-is = ap (λ (m : List Bool). set m number true) (l .held .seen-is) ∙ seen-set (l .slots .count) number;
+                seen-is = ap (λ (m : List Bool). set m number true) (l .held .seen-is)
+                    ∙ seen-set (l .slots .count) number;
                 value-is = l .held .value-is;
                 start-is = l .held .start-is;
               };
         }
 
-    pub fills-kept : Use.Kept ≡ useOf rows number wire value → Filling rows s from next (set seen number true) (set values number value) (set starts number start)
+    pub fills-kept : Use.Kept ≡ useOf rows number wire value →
+        Filling rows s from next (set seen number true) (set values number value) (set starts number start)
     fills-kept u =
         record {
           slots = noted Use.Kept (l .slots) number value start len;
@@ -175,7 +196,8 @@ module _ {rows : List (List ℕ)} {s : List ℕ} {from p : ℕ} {seen : List Boo
           listing = goes-on (l .listing) inside e Use.Kept u;
           held =
               record {
-                seen-is = ap (λ (m : List Bool). set m number true) (l .held .seen-is) ∙ seen-set (l .slots .count) number;
+                seen-is = ap (λ (m : List Bool). set m number true) (l .held .seen-is)
+                    ∙ seen-set (l .slots .count) number;
                 value-is = ap (λ (m : List ℕ). set m number value) (l .held .value-is);
                 start-is = ap (λ (m : List ℕ). set m number start) (l .held .start-is);
               };
@@ -200,7 +222,8 @@ module _ (rows : List (List ℕ)) (seen : List Bool) (i : ℕ) where
   unfolding hasSeen
   need-end h = rw (drop-of-length-le rows h)
 
-  pub need-met : i < length rows → metBy (getD rows i []) seen ≡ true → hasSeen (drop (i + 1) rows) seen ≡ hasSeen (drop i rows) seen
+  pub need-met : i < length rows → metBy (getD rows i []) seen ≡ true →
+      hasSeen (drop (i + 1) rows) seen ≡ hasSeen (drop i rows) seen
   unfolding hasSeen
   need-met h e = rw (add-one, drop-cons rows i [] h) (simp e)
 
@@ -240,13 +263,16 @@ module _ (rows : List (List ℕ)) (s : List ℕ) (from end : ℕ) where
   same-either false x = refl
 
   module _ {seen : List Bool} {values starts : List ℕ} where
-    empty : badSlots ≡ fieldsTo rows s from end → Noted badSlots seen values starts → Holds (fieldsTo rows s from end) false seen values starts
+    empty : badSlots ≡ fieldsTo rows s from end → Noted badSlots seen values starts →
+        Holds (fieldsTo rows s from end) false seen values starts
     empty e h = subst (λ (y : Slots). Holds y false seen values starts) e (record { answer = refl; held = h })
 
-    pub holds-outside : length s < end → Noted badSlots seen values starts → Holds (fieldsTo rows s from end) false seen values starts
+    pub holds-outside : length s < end → Noted badSlots seen values starts →
+        Holds (fieldsTo rows s from end) false seen values starts
     holds-outside h = empty (simp (lt-leb end (length s) h))
 
-    pub holds-bad : {g : Bool} {v : List Bool} {w u : List ℕ} → end ≤ length s → Listed (fieldList rows (take end s) from) g v w u →
+    pub holds-bad : {g : Bool} {v : List Bool} {w u : List ℕ} → end ≤ length s →
+        Listed (fieldList rows (take end s) from) g v w u →
         g ≡ false → Noted badSlots seen values starts → Holds (fieldsTo rows s from end) false seen values starts
     holds-bad h l e =
         empty
@@ -254,11 +280,15 @@ module _ (rows : List (List ℕ)) (s : List ℕ) (from end : ℕ) where
         ∙ ap (checked rows) (sym (l .bad (sym (l .answer) ∙ e)))
         ∙ simp (le-leb end (length s) h))
 
-    pub holds-missing : {g : Bool} {v : List Bool} {w u : List ℕ} → end ≤ length s → Listed (fieldList rows (take end s) from) g v w u →
-        g ≡ true → hasSeen rows v ≡ false → Noted badSlots seen values starts → Holds (fieldsTo rows s from end) false seen values starts
-    holds-missing h l good e = empty (checked-bad rows (fieldList rows (take end s) from) (required l good rows e) ∙ simp (le-leb end (length s) h))
+    pub holds-missing : {g : Bool} {v : List Bool} {w u : List ℕ} → end ≤ length s →
+        Listed (fieldList rows (take end s) from) g v w u →
+        g ≡ true → hasSeen rows v ≡ false → Noted badSlots seen values starts →
+        Holds (fieldsTo rows s from end) false seen values starts
+    holds-missing h l good e = empty (checked-bad rows (fieldList rows (take end s) from) (required l good rows e)
+        ∙ simp (le-leb end (length s) h))
 
-  pub holds-good : {g : Bool} {v : List Bool} {w u : List ℕ} → end ≤ length s → Listed (fieldList rows (take end s) from) g v w u → g ≡ true →
+  pub holds-good : {g : Bool} {v : List Bool} {w u : List ℕ} → end ≤ length s →
+      Listed (fieldList rows (take end s) from) g v w u → g ≡ true →
       hasSeen rows v ≡ true → Holds (fieldsTo rows s from end) true v w u
   holds-good {v = v} {w = w} {u = u} h l good e =
       subst (λ (y : Slots). Holds y true v w u)

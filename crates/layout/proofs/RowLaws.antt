@@ -31,7 +31,8 @@ module _ (values value : ℕ) where
   pub listed-high : (values ≡ 0 → ⊥) → 16 ≤ value % 2 ^ 32 → false ≡ listed values value
   listed-high h g = simp (ne-eqb values 0 h, le-ltb (value % 2 ^ 32) 16 g)
 
-  pub listed-bit : (values ≡ 0 → ⊥) → value % 2 ^ 32 < 16 → eqb (values / 2 ^ (value % 2 ^ 32) % 2) 1 ≡ listed values value
+  pub listed-bit : (values ≡ 0 → ⊥) → value % 2 ^ 32 < 16 →
+      eqb (values / 2 ^ (value % 2 ^ 32) % 2) 1 ≡ listed values value
   listed-bit h g = simp (ne-eqb values 0 h, lt-ltb (value % 2 ^ 32) 16 g)
 
 module _ (row : List ℕ) (number wire value : ℕ) where
@@ -41,8 +42,10 @@ module _ (row : List ℕ) (number wire value : ℕ) where
   pub takes-other : number < slotCount → (numberOf row ≡ number → ⊥) → false ≡ takes row number wire value
   takes-other h e = simp (lt-ltb number slotCount h, ne-eqb (numberOf row) number e)
 
-  pub takes-wire : number < slotCount → numberOf row ≡ number → (wireOf row ≡ wire → ⊥) → false ≡ takes row number wire value
+  pub takes-wire : number < slotCount → numberOf row ≡ number → (wireOf row ≡ wire → ⊥) →
+      false ≡ takes row number wire value
   takes-wire h e f = simp (lt-ltb number slotCount h, eq-eqb (numberOf row) number e, ne-eqb (wireOf row) wire f)
 
-  pub takes-listed : number < slotCount → numberOf row ≡ number → wireOf row ≡ wire → listed (listedOf row) value ≡ takes row number wire value
+  pub takes-listed : number < slotCount → numberOf row ≡ number → wireOf row ≡ wire →
+      listed (listedOf row) value ≡ takes row number wire value
   takes-listed h e f = simp (lt-ltb number slotCount h, eq-eqb (numberOf row) number e, eq-eqb (wireOf row) wire f)

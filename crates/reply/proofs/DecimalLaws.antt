@@ -46,7 +46,8 @@ decimal-more n a h =
 
 digits-some : (k n : ℕ) → 0 < length (digits (suc k) n)
 digits-some k n =
-    below-or-not n (λ a. rw (digits-last k n a) (omega arith)) (λ a. rw (digits-more k n a, length-append) (omega arith))
+    below-or-not n (λ a. rw (digits-last k n a) (omega arith))
+    (λ a. rw (digits-more k n a, length-append) (omega arith))
 
 digits-within : (k n : ℕ) → length (digits k n) ≤ k
 unfolding digits
@@ -86,8 +87,10 @@ digits-digit : (k n : ℕ) → (i : ℕ) → i < length (digits k n) → Digit (
 unfolding digits
 digits-digit zero n = λ i h. absurd (omega arith)
 digits-digit (suc k) n =
-    below-or-not n (λ a. rw (digits-last k n a) (each-more Digit [] (48 + n) (λ i h. absurd (omega arith)) (omega arith)))
-    (λ a. rw (digits-more k n a) (each-more Digit (digits k (n / 10)) (48 + n % 10) (digits-digit k (n / 10)) (omega arith)))
+    below-or-not n (λ a. rw (digits-last k n a) (each-more Digit [] (48 + n) (λ i h. absurd (omega arith))
+    (omega arith)))
+    (λ a. rw (digits-more k n a) (each-more Digit (digits k (n / 10)) (48 + n % 10) (digits-digit k (n / 10))
+    (omega arith)))
 
 pub each-digit : EachDigit
 each-digit n i h = digits-digit 20 n i h
@@ -108,7 +111,12 @@ digits-denote zero n h = rw (digits-last 0 n h, denoted-one) (omega arith)
 digits-denote (suc k) n h =
     below-or-not n (λ a. rw (digits-last (suc k) n a, denoted-one) (omega arith))
     (λ a.
-    rw (digits-more (suc k) n a, denoted-more 0 (48 + n % 10) (digits (suc k) (n / 10)), digits-denote k (n / 10) (omega arith))
+    rw (
+      digits-more (suc k) n a,
+      denoted-more 0 (48 + n % 10) (digits (suc k) (n / 10)),
+      digits-denote k (n / 10)
+          (omega arith),
+    )
     (omega arith))
 
 pub decimal-denotes : Denotes
@@ -121,7 +129,11 @@ digits-lead zero n p h = rw (digits-last 0 n h) (omega arith)
 digits-lead (suc k) n p h =
     below-or-not n (λ a. rw (digits-last (suc k) n a) (omega arith))
     (λ a.
-    rw (digits-more (suc k) n a, List·getD-append (digits (suc k) (n / 10)) ((48 + n % 10) ∷ []) 0 0 (digits-some k (n / 10)))
+    rw (
+      digits-more (suc k) n a,
+      List·getD-append (digits (suc k) (n / 10)) ((48 + n % 10) ∷ []) 0 0
+          (digits-some k (n / 10)),
+    )
     (digits-lead k (n / 10) (omega arith) (omega arith)))
 
 pub no-leading-zero : NoLeadingZero
@@ -130,7 +142,8 @@ no-leading-zero n p h = digits-lead 19 n p h
 -- ---- the digits put one by one
 
 -- the one digit of a number below 10
-pub one-digit : {b b₁ : List ℕ} {at p : ℕ} (n : ℕ) → n < 10 → Puts b at ((48 + n) ∷ []) p b₁ → Puts b at (decimal n) p b₁
+pub one-digit : {b b₁ : List ℕ} {at p : ℕ} (n : ℕ) → n < 10 → Puts b at ((48 + n) ∷ []) p b₁ →
+    Puts b at (decimal n) p b₁
 one-digit n h f = puts-as (sym (digits-last 19 n h)) f
 
 -- the last digit of a number from 10 on, behind the others

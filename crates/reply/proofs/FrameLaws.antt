@@ -21,7 +21,8 @@ empty-length kind = refl
 
 pub payload-parts : (code : ℕ) (m : List ℕ) →
     length (errorPayload code m)
-    ≡ length (numberField 1 0) + length (numberField 2 code) + length (bytesField 3 m) + length (bytesField 4 (ascii "HY000"))
+    ≡ length (numberField 1 0) + length (numberField 2 code) + length (bytesField 3 m) + length
+    (bytesField 4 (ascii "HY000"))
 unfolding errorPayload
 payload-parts code m = simp length-append
 
@@ -49,6 +50,7 @@ payload-length code m =
     )
 
 -- the head, and behind it the payload
-pub error-framed : (code : ℕ) (m : List ℕ) {b b₁ b₂ : List ℕ} {r q size : ℕ} → Puts b 0 (fourBytes size ++ (1 ∷ [])) r b₁ →
+pub error-framed : (code : ℕ) (m : List ℕ) {b b₁ b₂ : List ℕ} {r q size : ℕ} →
+    Puts b 0 (fourBytes size ++ (1 ∷ [])) r b₁ →
     Puts b₁ r (errorPayload code m) q b₂ → size ≡ length (errorPayload code m) + 1 → Puts b 0 (errorFrame code m) q b₂
 error-framed code m f g e = puts-as (ap (λ (s : ℕ). fourBytes s ++ (1 ∷ errorPayload code m)) e) (puts-then f g)

@@ -20,11 +20,14 @@ four-sum n a b c e f g h =
     let first : a * 256 + n % 256 ≡ n = omega arith in
     omega arith
 
-four-denote : (n : ℕ) → n < 2 ^ 32 → n % 256 + n / 256 % 256 * 256 + n / 65536 % 256 * 65536 + n / 16777216 % 256 * 16777216 ≡ n
+four-denote : (n : ℕ) → n < 2 ^ 32 → n % 256 + n / 256 % 256 * 256 + n / 65536 % 256 * 65536 + n / 16777216 % 256 *
+    16777216 ≡ n
 four-denote n h =
-    four-sum n (n / 256) (n / 65536) (n / 16777216) refl (div-div-eq-div-mul n 256 256) (div-div-eq-div-mul n 65536 256) h
+    four-sum n (n / 256) (n / 65536) (n / 16777216) refl (div-div-eq-div-mul n 256 256)
+    (div-div-eq-div-mul n 65536 256) h
 
-drop-frame : (kind size : ℕ) (payload rest : List ℕ) → size ≡ length payload + 1 → drop (4 + size) (frame kind payload ++ rest) ≡ rest
+drop-frame : (kind size : ℕ) (payload rest : List ℕ) → size ≡ length payload + 1 →
+    drop (4 + size) (frame kind payload ++ rest) ≡ rest
 drop-frame kind size payload rest e =
     let five : 4 + size ≡ suc (suc (suc (suc (suc (length payload))))) = omega arith in
     ap (λ (k : ℕ). drop k (frame kind payload ++ rest)) five ∙ drop-append-seam payload rest
@@ -37,7 +40,12 @@ types-frame n kind payload rest h =
     let s = frame kind payload ++ rest in
     let e : sizeOf s ≡ length payload + 1 = four-denote (length payload + 1) h in
     let long = length-append payload rest in
-    simp (lt-ltb 0 (sizeOf s) (omega arith), le-leb (4 + sizeOf s) (length s) (omega arith), drop-frame kind (sizeOf s) payload rest e)
+    simp (
+      lt-ltb 0 (sizeOf s) (omega arith),
+      le-leb (4 + sizeOf s) (length s) (omega arith),
+      drop-frame kind
+          (sizeOf s) payload rest e,
+    )
 
 pub types-none : (n : ℕ) → typesIn n [] ≡ []
 unfolding typesIn
@@ -45,7 +53,8 @@ types-none zero = refl
 types-none (suc n) = refl
 
 -- one frame
-pub types-one : (kind : ℕ) (payload : List ℕ) → length payload + 1 < 2 ^ 32 → frameTypes (frame kind payload) ≡ kind ∷ []
+pub types-one : (kind : ℕ) (payload : List ℕ) → length payload + 1 < 2 ^ 32 →
+    frameTypes (frame kind payload) ≡ kind ∷ []
 types-one kind payload h =
     let n = suc (suc (suc (suc (length (payload ++ []))))) in
     ap frameTypes (sym (append-nil (frame kind payload)))

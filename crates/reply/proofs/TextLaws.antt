@@ -19,12 +19,14 @@ kind-object kind e = rw (ne-eqb kind 3 e)
 
 -- ---- text, a number, text
 
-pub numbered-length : (before after : List ℕ) (n : ℕ) → length (before ++ decimal n ++ after) ≡ length before + length (decimal n) + length after
+pub numbered-length : (before after : List ℕ) (n : ℕ) →
+    length (before ++ decimal n ++ after) ≡ length before + length (decimal n) + length after
 numbered-length before after n = simp length-append
 
 -- ---- the text of each refusal
 
-pub text-7 : {reason : ℕ} (number kind : ℕ) → reason ≡ 7 → ascii "Statement with ID=" ++ decimal number ++ ascii " was not prepared." ≡ text reason number kind
+pub text-7 : {reason : ℕ} (number kind : ℕ) → reason ≡ 7 →
+    ascii "Statement with ID=" ++ decimal number ++ ascii " was not prepared." ≡ text reason number kind
 unfolding text
 text-7 number kind e = rw e
 
@@ -32,19 +34,24 @@ pub text-8 : {reason : ℕ} (number kind : ℕ) → reason ≡ 8 → unsupported
 unfolding text
 text-8 number kind e = rw e
 
-pub text-9 : {reason : ℕ} (number kind : ℕ) → reason ≡ 9 → ascii "There is no argument for statement placeholder at position: " ++ decimal number ++ [] ≡ text reason number kind
+pub text-9 : {reason : ℕ} (number kind : ℕ) → reason ≡ 9 →
+    ascii "There is no argument for statement placeholder at position: " ++ decimal number ++ [] ≡ text reason number
+    kind
 unfolding text
 text-9 number kind e = rw (e, append-nil)
 
-pub text-10 : {reason : ℕ} (number kind : ℕ) → reason ≡ 10 → ascii "Cursor with ID=" ++ decimal number ++ ascii " was not opened." ≡ text reason number kind
+pub text-10 : {reason : ℕ} (number kind : ℕ) → reason ≡ 10 →
+    ascii "Cursor with ID=" ++ decimal number ++ ascii " was not opened." ≡ text reason number kind
 unfolding text
 text-10 number kind e = rw e
 
-pub text-11 : {reason : ℕ} (number kind : ℕ) → reason ≡ 11 → ascii "No more data in cursor (cursor id:'" ++ decimal number ++ ascii "')" ≡ text reason number kind
+pub text-11 : {reason : ℕ} (number kind : ℕ) → reason ≡ 11 →
+    ascii "No more data in cursor (cursor id:'" ++ decimal number ++ ascii "')" ≡ text reason number kind
 unfolding text
 text-11 number kind e = rw e
 
-pub text-other : (reason number kind : ℕ) → (reason ≡ 7 → ⊥) → (reason ≡ 8 → ⊥) → (reason ≡ 9 → ⊥) → (reason ≡ 10 → ⊥) → (reason ≡ 11 → ⊥) →
+pub text-other : (reason number kind : ℕ) → (reason ≡ 7 → ⊥) → (reason ≡ 8 → ⊥) → (reason ≡ 9 → ⊥) →
+    (reason ≡ 10 → ⊥) → (reason ≡ 11 → ⊥) →
     ascii "Refused (" ++ decimal reason ++ ascii ")." ≡ text reason number kind
 unfolding text
 text-other reason number kind a b c d e =
@@ -53,7 +60,8 @@ text-other reason number kind a b c d e =
 -- ---- lengths
 
 pub kind-length : (kind : ℕ) → length (kindName kind) ≤ 6
-kind-length kind = both (λ (l : List ℕ). length l ≤ 6) (eqb kind 3) (ascii "ARRAY") (ascii "OBJECT") (λ _. omega arith) (λ _. omega arith)
+kind-length kind = both (λ (l : List ℕ). length l ≤ 6) (eqb kind 3) (ascii "ARRAY") (ascii "OBJECT")
+    (λ _. omega arith) (λ _. omega arith)
 
 unsupported-length : (index kind : ℕ) → length (unsupported index kind) ≤ 92 + length (decimal index)
 unsupported-length index kind =

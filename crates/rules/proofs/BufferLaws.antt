@@ -12,7 +12,8 @@ use Rattle.prelude.proofs.Cases.{both}
 use Rattle.protocol.specs.Reason as Reason
 use Rattle.message.specs.Frame.{frameOf}
 use Rattle.message.specs.declared.request.Request.{Request}
-use Rattle.message.specs.declared.request.Request.the-variants.{Reset, SessionClose, Prepare, Execute, Deallocate, Open, Close, Fetch}
+use Rattle.message.specs.declared.request.Request.the-variants.{Reset, SessionClose, Prepare, Execute, Deallocate, Open}
+use Rattle.message.specs.declared.request.Request.the-variants.{Close, Fetch}
 use Rattle.message.specs.declared.request.Frame.{Frame}
 use Rattle.message.specs.declared.request.Frame.the-variants.{NotAllThere, BadLength, UnknownType, BadPayload, Good}
 use Rattle.session.specs.Session.{Session}
@@ -35,7 +36,8 @@ abbrev Fits : Reply → Type 0
 Fits x = length (replyBytes x) ≤ minBuffer
 
 end-fits : (left : ℕ) → Fits (endOf left)
-end-fits left = both Fits (eqb left 0) Reply.Done Reply.Suspended (λ _. fits-smallest Reply.Done tt) (λ _. fits-smallest Reply.Suspended tt)
+end-fits left = both Fits (eqb left 0) Reply.Done Reply.Suspended (λ _. fits-smallest Reply.Done tt)
+    (λ _. fits-smallest Reply.Suspended tt)
 
 -- the reply to an accepted request
 pub reply-fits : (s : Session) (q : Request) (r : Report) → Fits (replyTo s q r)
@@ -44,13 +46,15 @@ reply-fits s Reset r = fits-smallest Reply.Ok tt
 reply-fits s SessionClose r = fits-smallest Reply.Ok tt
 reply-fits s (Prepare p) r = fits-smallest Reply.Ok tt
 reply-fits s (Execute x) r =
-    both Fits (sendsColumns (Execute x) r) Reply.Done Reply.Executed (λ _. fits-smallest Reply.Done tt) (λ _. fits-smallest Reply.Executed tt)
+    both Fits (sendsColumns (Execute x) r) Reply.Done Reply.Executed (λ _. fits-smallest Reply.Done tt)
+    (λ _. fits-smallest Reply.Executed tt)
 reply-fits s (Deallocate stmt) r = fits-smallest Reply.Ok tt
 reply-fits s (Open o) r = end-fits (leftAfter s (Open o) r)
 reply-fits s (Close cursor) r = fits-smallest Reply.Ok tt
 reply-fits s (Fetch f) r = end-fits (leftAfter s (Fetch f) r)
 
-accepted-fits : (s : Session) (x : Frame) (r : Report) → Fits (onGood (refused s (stepReason s x r) Reply.Nothing) (accepted s r) x .reply)
+accepted-fits : (s : Session) (x : Frame) (r : Report) →
+    Fits (onGood (refused s (stepReason s x r) Reply.Nothing) (accepted s r) x .reply)
 accepted-fits s NotAllThere r = fits-smallest Reply.Nothing tt
 accepted-fits s BadLength r = fits-smallest Reply.Nothing tt
 accepted-fits s (UnknownType used) r = fits-smallest Reply.Nothing tt
@@ -61,13 +65,15 @@ pub refused-fits : (s : Session) (x : Frame) (r : Report) → ReadIn x → Fits 
 unfolding refusedReply
 refused-fits s x r read =
     let n = stepReason s x r in
-    both Fits (leb n Reason.noRoom) Reply.Nothing (Reply.Error (refusalOf x r n)) (λ _. fits-smallest Reply.Nothing tt) (λ _. error-fits s x r read)
+    both Fits (leb n Reason.noRoom) Reply.Nothing (Reply.Error (refusalOf x r n))
+    (λ _. fits-smallest Reply.Nothing tt) (λ _. error-fits s x r read)
 
 pub decision-fits : (s : Session) (x : Frame) (r : Report) → ReadIn x → Fits (decisionOf s x r .reply)
 unfolding decisionOf
 decision-fits s x r read =
     let n = stepReason s x r in
-    both (λ (d : Decision). Fits (d .reply)) (eqb n 0) _ (refused s n (refusedReply x r n)) (λ _. accepted-fits s x r) (λ _. refused-fits s x r read)
+    both (λ (d : Decision). Fits (d .reply)) (eqb n 0) _ (refused s n (refusedReply x r n)) (λ _. accepted-fits s x r)
+    (λ _. refused-fits s x r read)
 
 -- what was decided, with the reply's bytes
 abbrev withReply : Frame → Decision → List ℕ → Outcome

@@ -26,9 +26,11 @@ use Rattle.session.proofs.TableLaws.{stmts-full, full-stmts, cursors-full, full
 use Rattle.reply.specs.ReplyRules.{minBuffer}
 use Rattle.rules.specs.declared.Report.{Report}
 use Rattle.rules.specs.Kind.{isA, onGood}
-use Rattle.rules.specs.Refusal.{Test, firstOf, noPlace, frameTests, requestTests, lookTests, lookReason, reportTests, reportReason, stepReason, stmtsFull, cursorsFull}
+use Rattle.rules.specs.Refusal.{Test, firstOf, noPlace, frameTests, requestTests, lookTests, lookReason}
+use Rattle.rules.specs.Refusal.{reportTests, reportReason, stepReason, stmtsFull, cursorsFull}
 use Rattle.rules.specs.Step.{lookAt, stepOf}
-use Rattle.rules.specs.RefusalRules.{NoneHolds, Decides, LookDecides, stepTests, StepDecides, OfLook, LookGives, StepGives, FullWhen, FullTables}
+use Rattle.rules.specs.RefusalRules.{NoneHolds, Decides, LookDecides, stepTests, StepDecides, OfLook, LookGives}
+use Rattle.rules.specs.RefusalRules.{StepGives, FullWhen, FullTables}
 use Rattle.rules.proofs.TestLaws.{rises, accepted-none}
 use Rattle.rules.proofs.RefusalLaws.{look-small, look-passes, report-passes, step-passes}
 use Rattle.rules.proofs.LookLaws.{look-reason, step-reason}
@@ -37,7 +39,8 @@ use Rattle.rules.proofs.StepLaws.{step-has}
 -- ---- a list whose reasons rise
 
 -- the reasons of a list that rises are above where it begins
-above : (low : ℕ) (before : List Test) (t : Test) (after : List Test) → rises low (before ++ t ∷ after) ≡ true → low < t .reason
+above : (low : ℕ) (before : List Test) (t : Test) (after : List Test) → rises low (before ++ t ∷ after) ≡ true →
+    low < t .reason
 above low [] t after h = ltb-true low (t .reason) (and-true (ltb low (t .reason)) (rises (t .reason) after) h .0)
 above low (b ∷ bs) t after h =
     let l = and-true (ltb low (b .reason)) (rises (b .reason) (bs ++ t ∷ after)) h in
@@ -67,7 +70,12 @@ given-by low [] t after h e = go (t .holds) refl e
     go : (b : Bool) → t .holds ≡ b → cond b (t .reason) (firstOf after) ≡ t .reason → (t .holds ≡ true) × Unit {0}
     go true f g = (f, tt)
     go false f g =
-        absurd (omega (arith, g, first-above (t .reason) after (l .1) (λ z. omega (arith, z, g, ltb-true low (t .reason) (l .0)))))
+        absurd (omega (
+          arith,
+          g,
+          first-above (t .reason) after (l .1)
+              (λ z. omega (arith, z, g, ltb-true low (t .reason) (l .0))),
+        ))
 given-by low (b ∷ bs) t after h e = go (b .holds) refl (given-by (b .reason) bs t after (l .1)) e
   where
     l : (ltb low (b .reason) ≡ true) × (rises (b .reason) (bs ++ t ∷ after) ≡ true)
@@ -78,7 +86,8 @@ given-by low (b ∷ bs) t after h e = go (b .holds) refl (given-by (b .reason) b
     go true f more g = absurd (omega (arith, g, above (b .reason) bs t after (l .1)))
     go false f more g = let k = more g in (k .0, (f, k .1))
 
-holds-first : (before : List Test) (t : Test) (after : List Test) → t .holds ≡ true → NoneHolds before → firstOf (before ++ t ∷ after) ≡ t .reason
+holds-first : (before : List Test) (t : Test) (after : List Test) → t .holds ≡ true → NoneHolds before →
+    firstOf (before ++ t ∷ after) ≡ t .reason
 holds-first [] t after h none = rw h
 holds-first (b ∷ bs) t after h none = rw (none .0) (holds-first bs t after h (none .1))
 
@@ -113,7 +122,8 @@ step-rises s (BadPayload used kind) r = refl
 step-rises s (Good used q) r = refl
 
 -- the tests of a report are asked where those of the look give nothing
-first-append : (ts us : List Test) (low : ℕ) → rises low ts ≡ true → firstOf (ts ++ us) ≡ cond (eqb (firstOf ts) 0) (firstOf us) (firstOf ts)
+first-append : (ts us : List Test) (low : ℕ) → rises low ts ≡ true →
+    firstOf (ts ++ us) ≡ cond (eqb (firstOf ts) 0) (firstOf us) (firstOf ts)
 first-append [] us low h = refl
 first-append (t ∷ ts) us low h = go (t .holds) (first-append ts us (t .reason) (l .1))
   where
@@ -121,7 +131,8 @@ first-append (t ∷ ts) us low h = go (t .holds) (first-append ts us (t .reason)
     l = and-true (ltb low (t .reason)) (rises (t .reason) ts) h
 
     go : (b : Bool) → firstOf (ts ++ us) ≡ cond (eqb (firstOf ts) 0) (firstOf us) (firstOf ts) →
-        cond b (t .reason) (firstOf (ts ++ us)) ≡ cond (eqb (cond b (t .reason) (firstOf ts)) 0) (firstOf us) (cond b (t .reason) (firstOf ts))
+        cond b (t .reason) (firstOf (ts ++ us)) ≡ cond (eqb (cond b (t .reason) (firstOf ts)) 0) (firstOf us)
+        (cond b (t .reason) (firstOf ts))
     go true more =
         both (λ (n : ℕ). t .reason ≡ n) (eqb (t .reason) 0) (firstOf us) (t .reason)
         (λ e. absurd (omega (arith, eqb-true (t .reason) 0 e, ltb-true low (t .reason) (l .0)))) (λ _. refl)
@@ -144,7 +155,8 @@ look-decides s frame =
 pub step-decides : StepDecides
 step-decides s frame r buffer room =
     let x = frameOf frame in
-    subst (Decides (stepTests s x r)) (sym (step-reason s x r buffer (le-ltb (length buffer) minBuffer room) ∙ step-first s x r))
+    subst (Decides (stepTests s x r)) (sym (step-reason s x r buffer (le-ltb (length buffer) minBuffer room)
+    ∙ step-first s x r))
     (decides (stepTests s x r) (step-rises s x r))
 
 -- ---- which reasons are given
@@ -156,14 +168,20 @@ look-gives s frame =
     let p : ℕ → Bool = λ n. not (eqb n Reason.noRoom) in
     let h = look-passes p refl refl refl refl refl (λ s q. refl) s x in
     rw (look-reason s x)
-    (record { small = look-small s x; room = λ e. absurd (true≢false (sym h ∙ ap not (eq-eqb (lookReason s x) Reason.noRoom e))) })
+    (record {
+      small = look-small s x;
+      room = λ e. absurd
+          (true≢false (sym h ∙ ap not (eq-eqb (lookReason s x) Reason.noRoom e)));
+    })
 
 pub step-gives : StepGives
 step-gives s frame r buffer =
     let x = frameOf frame in
     let p : ℕ → Bool = λ n. leb n Reason.engineFailed in
-    let all = step-passes p s x r (look-passes p refl refl refl refl refl (λ s q. refl) s x) (report-passes p refl refl refl x r) in
-    step-has (λ after. after .answer .reason ≤ Reason.engineFailed) s x r buffer (λ _. omega arith) (λ _ _ _ _. omega arith)
+    let all = step-passes p s x r (look-passes p refl refl refl refl refl (λ s q. refl) s x)
+    (report-passes p refl refl refl x r) in
+    step-has (λ after. after .answer .reason ≤ Reason.engineFailed) s x r buffer (λ _. omega arith)
+    (λ _ _ _ _. omega arith)
     (λ _ _. leb-true (stepReason s x r) Reason.engineFailed all)
 
 -- ---- full tables
@@ -183,9 +201,13 @@ full-when limit live own a x is there back =
 pub full-tables : FullTables
 full-tables s q stmts cursors = (
   λ is.
-      full-when maxStmts (stmtCount s) (howMany (isStmt (stmtOf q)) (s .stmts)) (isA prepare q) (stmtPlace s (stmtOf q)) is
-      (λ e. let l = stmts-full s (stmtOf q) e in (l .0, l .1 ∙ stmts)) (λ none full. full-stmts s (stmtOf q) none (full ∙ sym stmts)),
+      full-when maxStmts (stmtCount s) (howMany (isStmt (stmtOf q)) (s .stmts)) (isA prepare q)
+      (stmtPlace s (stmtOf q)) is
+      (λ e. let l = stmts-full s (stmtOf q) e in (l .0, l .1 ∙ stmts))
+      (λ none full. full-stmts s (stmtOf q) none (full ∙ sym stmts)),
   λ is.
-      full-when maxCursors (cursorCount s) (howMany (isCursor (cursorOf q)) (s .cursors)) (isA open' q) (cursorPlace s (cursorOf q)) is
-      (λ e. let l = cursors-full s (cursorOf q) e in (l .0, l .1 ∙ cursors)) (λ none full. full-cursors s (cursorOf q) none (full ∙ sym cursors)),
+      full-when maxCursors (cursorCount s) (howMany (isCursor (cursorOf q)) (s .cursors)) (isA open' q)
+      (cursorPlace s (cursorOf q)) is
+      (λ e. let l = cursors-full s (cursorOf q) e in (l .0, l .1 ∙ cursors))
+      (λ none full. full-cursors s (cursorOf q) none (full ∙ sym cursors)),
 )

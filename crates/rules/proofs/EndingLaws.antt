@@ -7,7 +7,8 @@ use mathlib.Core.List.{List, [], _∷_}
 use lib.ListN.{set}
 use lib.Dec.{eqb}
 use Rattle.message.specs.declared.request.Request.{Request}
-use Rattle.message.specs.declared.request.Request.the-variants.{Reset, SessionClose, Prepare, Execute, Deallocate, Open, Close, Fetch}
+use Rattle.message.specs.declared.request.Request.the-variants.{Reset, SessionClose, Prepare, Execute, Deallocate, Open}
+use Rattle.message.specs.declared.request.Request.the-variants.{Close, Fetch}
 use Rattle.session.specs.declared.Cursor.{Cursor}
 use Rattle.session.specs.declared.Place.{Place}
 use Rattle.session.specs.Session.{Session}
@@ -60,16 +61,19 @@ module _ (s : Session) (r : Report) (sound : Sound s) where
       put (s .cursors) at c ≡ put (ends (isCursor id) (s .cursors)) at c
   opened-listed id (Place.At i) e c = go (taken (isCursor id) freeCursor noCursor (s .cursors) i e)
     where
-      go : Taken (isCursor id) freeCursor noCursor (s .cursors) i → set (s .cursors) i c ≡ set (ends (isCursor id) (s .cursors)) i c
+      go : Taken (isCursor id) freeCursor noCursor (s .cursors) i →
+          set (s .cursors) i c ≡ set (ends (isCursor id) (s .cursors)) i c
       go (own l) = sym (put-changed (isCursor id) (λ c. noCursor) noCursor c (s .cursors) i (sound .cursorOnce id) l)
       go (new l none) = ap (λ cs. set cs i c) (sym (none-changed (isCursor id) (λ c. noCursor) (s .cursors) none))
   opened-listed id Place.Nothing e c =
       sym (none-changed (isCursor id) (λ c. noCursor) (s .cursors) (cursors-full s id e .0))
 
   all-listed : ends always (s .cursors) ≡ ends (λ c. isLiveCursor c && true) (s .cursors)
-  all-listed = all-end (s .cursors) (sound .cursorsProper) ∙ ends-same isLiveCursor (λ c. isLiveCursor c && true) (λ c. sym (and-true (isLiveCursor c))) (s .cursors)
+  all-listed = all-end (s .cursors) (sound .cursorsProper)
+      ∙ ends-same isLiveCursor (λ c. isLiveCursor c && true) (λ c. sym (and-true (isLiveCursor c))) (s .cursors)
 
-  by-stmt : (k : ℕ) → ends (onStmt k) (s .cursors) ≡ ends (λ c. isLiveCursor c && (eqb (c .stmt) k || false || false)) (s .cursors)
+  by-stmt : (k : ℕ) → ends (onStmt k) (s .cursors) ≡ ends (λ c. isLiveCursor c && (eqb (c .stmt) k || false || false))
+      (s .cursors)
   by-stmt k = ends-same (onStmt k) (λ c. isLiveCursor c && (eqb (c .stmt) k || false || false)) (on-stmt k) (s .cursors)
 
   by-id : (k : ℕ) → ends (isCursor k) (s .cursors) ≡ ends (λ c. isLiveCursor c && (eqb (c .id) k || false)) (s .cursors)

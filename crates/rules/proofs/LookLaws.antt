@@ -10,7 +10,8 @@ use borrow.Author.Tests.{eqb-true, ne-eqb, lt-ltb, ltb-true, le-ltb}
 use Rattle.protocol.specs.Reason as Reason
 use Rattle.message.specs.Frame.{frameOf}
 use Rattle.message.specs.declared.request.Request.{Request}
-use Rattle.message.specs.declared.request.Request.the-variants.{Reset, SessionClose, Prepare, Execute, Deallocate, Open, Close, Fetch}
+use Rattle.message.specs.declared.request.Request.the-variants.{Reset, SessionClose, Prepare, Execute, Deallocate, Open}
+use Rattle.message.specs.declared.request.Request.the-variants.{Close, Fetch}
 use Rattle.message.specs.declared.request.Frame.{Frame}
 use Rattle.message.specs.declared.request.Frame.the-variants.{NotAllThere, BadLength, UnknownType, BadPayload, Good}
 use Rattle.session.specs.Session.{Session}
@@ -23,7 +24,8 @@ use Rattle.rules.specs.Kind.{onGood}
 use Rattle.rules.specs.Report.{noWork, workOf}
 use Rattle.rules.specs.Refusal.{lookReason, reportReason, stepReason}
 use Rattle.rules.specs.Rows.{rowCount, sendsColumns}
-use Rattle.rules.specs.Decision.{sessionAfter, replyTo, wireCode, refusedReply, refused, accepted, decidedBy, decisionOf, looked, lookRefused, lookBy, lookOf}
+use Rattle.rules.specs.Decision.{sessionAfter, replyTo, wireCode, refusedReply, refused, accepted, decidedBy}
+use Rattle.rules.specs.Decision.{decisionOf, looked, lookRefused, lookBy, lookOf}
 use Rattle.rules.specs.Step.{short, stepBy, stepOn, lookAt, stepOf, tooShort}
 use Rattle.rules.specs.StepRules.{RefusesAlike, RefusesFew, ShortFirst, ReportNotConsulted}
 use Rattle.rules.proofs.RefusalLaws.{took-look, look-small, not-three, idle, few, report-few}
@@ -35,7 +37,8 @@ look-bad : (s : Session) (x : Frame) → eqb (lookReason s x) 0 ≡ false → lo
 unfolding lookOf
 look-bad s x e = rw e
 
-pub look-good : (s : Session) (used : ℕ) (q : Request) → eqb (lookReason s (Good used q)) 0 ≡ true → lookOf s (Good used q) ≡ looked s q
+pub look-good : (s : Session) (used : ℕ) (q : Request) → eqb (lookReason s (Good used q)) 0 ≡ true →
+    lookOf s (Good used q) ≡ looked s q
 unfolding lookOf
 look-good s used q e = rw e
 
@@ -51,12 +54,14 @@ look-reason s x = go (eqb (lookReason s x) 0) refl
     go false e = ap (λ l. l .reason) (look-bad s x e)
 
 -- with room for the reply, a step's reason is the deciding one
-pub step-reason : (s : Session) (x : Frame) (r : Report) (buffer : List ℕ) → short buffer ≡ false → stepOn s x r buffer .answer .reason ≡ stepReason s x r
+pub step-reason : (s : Session) (x : Frame) (r : Report) (buffer : List ℕ) → short buffer ≡ false →
+    stepOn s x r buffer .answer .reason ≡ stepReason s x r
 unfolding stepOn decisionOf
 step-reason s x r buffer room = rw room (go (eqb (stepReason s x r) 0) refl x refl)
   where
     go : (b : Bool) → eqb (stepReason s x r) 0 ≡ b → (y : Frame) → x ≡ y →
-        cond b (onGood (refused s (stepReason s x r) Reply.Nothing) (accepted s r) y) (refused s (stepReason s x r) (refusedReply x r (stepReason s x r))) .reason
+        cond b (onGood (refused s (stepReason s x r) Reply.Nothing) (accepted s r) y)
+        (refused s (stepReason s x r) (refusedReply x r (stepReason s x r))) .reason
         ≡ stepReason s x r
     go true e NotAllThere g = refl
     go true e BadLength g = refl
@@ -73,7 +78,8 @@ refuses-alike s frame r buffer some room =
     step-reason s x r buffer (le-ltb (length buffer) minBuffer room)
     ∙ alike (eqb (lookReason s x) 0) (ne-eqb (lookReason s x) 0 (λ z. some (e ∙ z))) ∙ sym e
   where
-    alike : (b : Bool) → b ≡ false → cond b (reportReason (frameOf frame) r) (lookReason s (frameOf frame)) ≡ lookReason s (frameOf frame)
+    alike : (b : Bool) → b ≡ false → cond b (reportReason (frameOf frame) r) (lookReason s (frameOf frame)) ≡
+        lookReason s (frameOf frame)
     alike b h = rw h
 
 pub refuses-few : RefusesFew
@@ -81,14 +87,16 @@ unfolding lookAt among
 refuses-few s frame r buffer none =
     let x = frameOf frame in
     let e : lookReason s x ≡ 0 = sym (look-reason s x) ∙ none in
-    step-has (λ after. few (after .answer .reason) ≡ true) s x r buffer (λ _. refl) (λ _ _ _ _. refl) (λ _ _. rw e (report-few x r))
+    step-has (λ after. few (after .answer .reason) ≡ true) s x r buffer (λ _. refl) (λ _ _ _ _. refl)
+    (λ _ _. rw e (report-few x r))
 
 pub short-first : ShortFirst
 short-first s frame r buffer =
     let x = frameOf frame in (
       λ h.
           step-has (λ after. short buffer ≡ true → after .answer .reason ≡ Reason.noRoom) s x r buffer (λ _ _. refl)
-          (λ _ _ f _ e. absurd (true≢false (sym e ∙ f))) (λ f _ e. absurd (true≢false (sym e ∙ f))) (lt-ltb (length buffer) minBuffer h),
+          (λ _ _ f _ e. absurd (true≢false (sym e ∙ f))) (λ f _ e. absurd (true≢false (sym e ∙ f)))
+          (lt-ltb (length buffer) minBuffer h),
       step-has (λ after. after .answer .reason ≡ Reason.noRoom → length buffer < minBuffer) s x r buffer
           (λ e _. ltb-true (length buffer) minBuffer e) (λ _ _ _ _ e. absurd (omega arith))
           (λ _ _ e. absurd (not-three s x r e)),
@@ -107,7 +115,8 @@ accepted-same s r other (Open o) e = absurd (omega arith)
 accepted-same s r other (Close cursor) e = refl
 accepted-same s r other (Fetch f) e = absurd (omega arith)
 
-refused-same : (x : Frame) (r other : Report) (n : ℕ) → n ≤ Reason.cursorsFull → refusedReply x r n ≡ refusedReply x other n
+refused-same : (x : Frame) (r other : Report) (n : ℕ) → n ≤ Reason.cursorsFull →
+    refusedReply x r n ≡ refusedReply x other n
 unfolding refusedReply wireCode
 refused-same x r other n h = rw (ne-eqb n Reason.engineFailed (λ e. omega arith))
 
@@ -117,17 +126,21 @@ module _ (s : Session) (x : Frame) (r : Report) where
   unfolding decisionOf
   decided n e = ap (decidedBy s x r) e
 
-  decided-refused : eqb (lookReason s x) 0 ≡ false → decisionOf s x r ≡ refused s (lookReason s x) (refusedReply x r (lookReason s x))
+  decided-refused : eqb (lookReason s x) 0 ≡ false →
+      decisionOf s x r ≡ refused s (lookReason s x) (refusedReply x r (lookReason s x))
   decided-refused e = decided (lookReason s x) (rw e) ∙ rw e
 
-decided-idle : (s : Session) (used : ℕ) (q : Request) (r : Report) → eqb (lookReason s (Good used q)) 0 ≡ true → workOf q ≡ noWork →
+decided-idle : (s : Session) (used : ℕ) (q : Request) (r : Report) → eqb (lookReason s (Good used q)) 0 ≡ true →
+    workOf q ≡ noWork →
     decisionOf s (Good used q) r ≡ accepted s r q
 decided-idle s used q r e w = decided s (Good used q) r 0 (rw e (idle used q r w))
 
-pub look-work : (s : Session) (used : ℕ) (q : Request) → eqb (lookReason s (Good used q)) 0 ≡ true → lookOf s (Good used q) .work ≡ workOf q
+pub look-work : (s : Session) (used : ℕ) (q : Request) → eqb (lookReason s (Good used q)) 0 ≡ true →
+    lookOf s (Good used q) .work ≡ workOf q
 look-work s used q e = ap (λ l. l .work) (look-good s used q e)
 
-decided-same : (s : Session) (x : Frame) (r other : Report) (b : Bool) → eqb (lookReason s x) 0 ≡ b → lookOf s x .work ≡ noWork →
+decided-same : (s : Session) (x : Frame) (r other : Report) (b : Bool) → eqb (lookReason s x) 0 ≡ b →
+    lookOf s x .work ≡ noWork →
     decisionOf s x r ≡ decisionOf s x other
 decided-same s x r other true e w = go x (g .2) e w
   where
@@ -149,4 +162,5 @@ pub report-not-consulted : ReportNotConsulted
 unfolding stepOn lookAt
 report-not-consulted s frame r other buffer none =
     let x = frameOf frame in
-    ap (λ d. cond (short buffer) (tooShort s buffer) (stepBy x buffer d)) (decided-same s x r other (eqb (lookReason s x) 0) refl none)
+    ap (λ d. cond (short buffer) (tooShort s buffer) (stepBy x buffer d))
+    (decided-same s x r other (eqb (lookReason s x) 0) refl none)

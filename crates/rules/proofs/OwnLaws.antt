@@ -21,11 +21,13 @@ use Rattle.rules.specs.Rows.{remaining, fetchCount, openCount, rowCount}
 use Rattle.rules.specs.StepRules.{OwnPlace, SendsUnasked}
 
 -- the place of a live entry is its own
-stmt-own : (ts : List Stmt) (own : Place) → isLiveStmt (entryAt ts own noStmt) ≡ true → (other : Place) → noPlace (orPlace own other) ≡ false
+stmt-own : (ts : List Stmt) (own : Place) → isLiveStmt (entryAt ts own noStmt) ≡ true → (other : Place) →
+    noPlace (orPlace own other) ≡ false
 stmt-own ts (Place.At i) e other = refl
 stmt-own ts Place.Nothing e other = absurd (false≢true e)
 
-cursor-own : (cs : List Cursor) (own : Place) → isLiveCursor (entryAt cs own noCursor) ≡ true → (other : Place) → noPlace (orPlace own other) ≡ false
+cursor-own : (cs : List Cursor) (own : Place) → isLiveCursor (entryAt cs own noCursor) ≡ true → (other : Place) →
+    noPlace (orPlace own other) ≡ false
 cursor-own cs (Place.At i) e other = refl
 cursor-own cs Place.Nothing e other = absurd (false≢true e)
 
@@ -34,7 +36,8 @@ none-full b c e = ap (λ (x : Bool). b && x) e ∙ and-false b
 
 pub own-place : OwnPlace
 own-place s q = (
-  λ e. none-full (isA prepare q) (noPlace (stmtPlace s (stmtOf q))) (stmt-own (s .stmts) (stmtAt s (stmtOf q)) e (first freeStmt (s .stmts) 0)),
+  λ e. none-full (isA prepare q) (noPlace (stmtPlace s (stmtOf q)))
+      (stmt-own (s .stmts) (stmtAt s (stmtOf q)) e (first freeStmt (s .stmts) 0)),
   λ e.
       none-full (isA open' q) (noPlace (cursorPlace s (cursorOf q)))
       (cursor-own (s .cursors) (cursorAt s (cursorOf q)) e (first freeCursor (s .cursors) 0)),
@@ -48,4 +51,8 @@ fetch-unasked c rows e = rw e (omega arith)
 
 pub sends-unasked : SendsUnasked
 unfolding rowCount
-sends-unasked s r = (λ o e. open-unasked (o .rows) (r .rows) e, λ f e. fetch-unasked (liveCursor s (f .cursor)) (f .rows) e)
+sends-unasked s r = (
+  λ o e. open-unasked (o .rows) (r .rows) e,
+  λ f e. fetch-unasked (liveCursor s (f .cursor))
+      (f .rows) e,
+)

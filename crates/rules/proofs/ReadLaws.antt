@@ -17,7 +17,8 @@ use Rattle.layout.specs.Table.{rowsOf, prepareStmt, stmtExecute, openStmt}
 use Rattle.layout.specs.Fields.{fieldsAt}
 use Rattle.layout.specs.declared.slots.Slots.{Slots}
 use Rattle.args.specs.Part.{embedded, absent, valueOf, startOf, lenOf, low32}
-use Rattle.args.specs.Arguments.{noArguments, badArguments, counted, withType, anyTypeOf, together, argumentsFrom, argumentsAt, argumentsIn, nextArgument, andMore}
+use Rattle.args.specs.Arguments.{noArguments, badArguments, counted, withType, anyTypeOf, together, argumentsFrom}
+use Rattle.args.specs.Arguments.{argumentsAt, argumentsIn, nextArgument, andMore}
 use Rattle.args.specs.declared.arguments.Arguments.{Arguments}
 use Rattle.args.specs.declared.arguments.NextArgument.{NextArgument}
 use Rattle.args.specs.declared.part.Part.{Part}
@@ -25,8 +26,10 @@ use Rattle.message.specs.Head.{headOf, lengthOf, maxLength, lengthBytes}
 use Rattle.message.specs.Operation as Operation
 use Rattle.message.specs.Payload.{payload, ifGood, optionalOf, truthOf}
 use Rattle.message.specs.Simple.{resetFrame, sessionCloseFrame, deallocateFrame, closeFrame, fetchFrame}
-use Rattle.message.specs.Execute.{badExecute, argumentsWithin, executeOf, executeIn, executeFrom, executeFrame, openFrom, openChosen, openInside, openOf, openFrame}
-use Rattle.message.specs.Prepare.{bodyIn, prepareFrom, prepareChosen, prepareTyped, prepareInside, prepareOf, prepareFrame}
+use Rattle.message.specs.Execute.{badExecute, argumentsWithin, executeOf, executeIn, executeFrom, executeFrame}
+use Rattle.message.specs.Execute.{openFrom, openChosen, openInside, openOf, openFrame}
+use Rattle.message.specs.Prepare.{bodyIn, prepareFrom, prepareChosen, prepareTyped, prepareInside, prepareOf}
+use Rattle.message.specs.Prepare.{prepareFrame}
 use Rattle.message.specs.Frame.{frameIn, ofHead, frameOf}
 use Rattle.message.specs.declared.head.Head.{Head}
 use Rattle.message.specs.declared.request.Optional.{Optional}
@@ -68,7 +71,8 @@ together-few n k x (a ∷ l) h g =
     both (Few n) (eqb (anyTypeOf a) 0) _ _ (λ _. bad-few n)
     (λ _. together-few n (suc k) (withType x (anyTypeOf a)) l (type-few k (anyTypeOf a) x h) (omega arith))
 
-and-more-few : (n : ℕ) (more : ℕ → List Argument) → ((q : ℕ) → length (more q) ≤ n) → (a : NextArgument) → length (andMore more a) ≤ suc n
+and-more-few : (n : ℕ) (more : ℕ → List Argument) → ((q : ℕ) → length (more q) ≤ n) → (a : NextArgument) →
+    length (andMore more a) ≤ suc n
 and-more-few n more h (NextArgument.Found a next) = omega (arith, h next)
 and-more-few n more h NextArgument.End = omega arith
 
@@ -98,22 +102,52 @@ none-read = none-few maxNumber 0 0
 
 -- a payload that may be bad
 pub if-good-read : (s : List ℕ) (kind : ℕ) (good : Bool) (q : Request) → Read q → ReadIn (ifGood s kind good q)
-if-good-read s kind good q h = both ReadIn good (Frame.Good (length s) q) (Frame.BadPayload (length s) kind) (λ _. h) (λ _. tt)
+if-good-read s kind good q h = both ReadIn good (Frame.Good (length s) q) (Frame.BadPayload (length s) kind) (λ _. h)
+    (λ _. tt)
 
 reset-read : Read Request.Reset
-reset-read = record { stmtSmall = omega arith; cursorSmall = omega arith; indexSmall = omega arith; countSmall = omega arith }
+reset-read = record {
+  stmtSmall = omega arith;
+  cursorSmall = omega arith;
+  indexSmall = omega arith;
+  countSmall = omega
+      arith;
+}
 
 session-close-read : Read Request.SessionClose
-session-close-read = record { stmtSmall = omega arith; cursorSmall = omega arith; indexSmall = omega arith; countSmall = omega arith }
+session-close-read = record {
+  stmtSmall = omega arith;
+  cursorSmall = omega arith;
+  indexSmall = omega arith;
+  countSmall = omega arith;
+}
 
 deallocate-read : (v : ℕ) → Read (Request.Deallocate (low32 v))
-deallocate-read v = record { stmtSmall = low v; cursorSmall = omega arith; indexSmall = omega arith; countSmall = omega arith }
+deallocate-read v = record {
+  stmtSmall = low v;
+  cursorSmall = omega arith;
+  indexSmall = omega arith;
+  countSmall =
+      omega arith;
+}
 
 close-read : (v : ℕ) → Read (Request.Close (low32 v))
-close-read v = record { stmtSmall = omega arith; cursorSmall = low v; indexSmall = omega arith; countSmall = omega arith }
+close-read v = record {
+  stmtSmall = omega arith;
+  cursorSmall = low v;
+  indexSmall = omega arith;
+  countSmall = omega
+      arith;
+}
 
 fetch-read : (v : ℕ) (rows : Optional) → Read (Request.Fetch (record { cursor = low32 v; rows = rows }))
-fetch-read v rows = record { stmtSmall = omega arith; cursorSmall = low v; indexSmall = omega arith; countSmall = omega arith }
+fetch-read v rows = record {
+  stmtSmall = omega arith;
+  cursorSmall = low v;
+  indexSmall = omega arith;
+  countSmall =
+      omega arith;
+}
 
 -- an Execute, also the one in an Open
 record Short (x : Execute) : Type 0 where
@@ -151,7 +185,8 @@ module _ (s : List ℕ) (long : length s ≤ maxNumber) where
   execute-short : (x : Slots) (a : Arguments) → Few maxNumber a → Short (executeOf x a)
   execute-short x a h =
       both Short (x .good) _ badExecute
-      (λ _. both Short (a .good) (record { stmt = low32 (valueOf x 1); compact = truthOf (optionalOf x 3); args = a }) badExecute
+      (λ _. both Short (a .good) (record { stmt = low32 (valueOf x 1); compact = truthOf (optionalOf x 3); args = a })
+      badExecute
       (λ _. record { stmtShort = low (valueOf x 1); argsFew = h }) (λ _. bad-short))
       (λ _. bad-short)
 
@@ -164,21 +199,25 @@ module _ (s : List ℕ) (long : length s ≤ maxNumber) where
   unfolding executeFrame
   execute-frame =
       let x = executeIn s payload (length s - payload) in
-      if-good-read s execute (x .args .good) (Request.Execute x) (execute-read x (in-short payload (length s - payload)))
+      if-good-read s execute (x .args .good) (Request.Execute x)
+      (execute-read x (in-short payload (length s - payload)))
 
   open-chosen : (id : ℕ) (rows : Optional) (y : Slots) → ReadIn (openChosen s id rows y)
   open-chosen id rows y =
       let body : Part = record { start = startOf y 2; len = lenOf y 2 } in
       let x = executeIn s (startOf y 2) (lenOf y 2) in
       both ReadIn (y .good && not (absent y 2)) (openFrom s id rows body x) (Frame.BadPayload (length s) open')
-      (λ _. if-good-read s open' (x .args .good) _ (open-read id rows body x (in-short (startOf y 2) (lenOf y 2)))) (λ _. tt)
+      (λ _. if-good-read s open' (x .args .good) _ (open-read id rows body x (in-short (startOf y 2) (lenOf y 2))))
+      (λ _. tt)
 
   open-frame : ReadIn (openFrame s)
   unfolding openFrame
   open-frame =
       let x = fieldsAt (rowsOf open') s payload in
-      both ReadIn (x .good) (openInside s (valueOf x 1) (optionalOf x 5) (startOf x 4) (lenOf x 4)) (Frame.BadPayload (length s) open')
-      (λ _. open-chosen (valueOf x 1) (optionalOf x 5) (embedded (rowsOf openStmt) s (startOf x 4) (lenOf x 4))) (λ _. tt)
+      both ReadIn (x .good) (openInside s (valueOf x 1) (optionalOf x 5) (startOf x 4) (lenOf x 4))
+      (Frame.BadPayload (length s) open')
+      (λ _. open-chosen (valueOf x 1) (optionalOf x 5) (embedded (rowsOf openStmt) s (startOf x 4) (lenOf x 4)))
+      (λ _. tt)
 
   body-few : (t at n : ℕ) → Few maxNumber (bodyIn s t at n)
   unfolding bodyIn
@@ -186,21 +225,24 @@ module _ (s : List ℕ) (long : length s ≤ maxNumber) where
       both (Few maxNumber) (eqb t Operation.stmtExecute) _ _
       (λ _. both (Few maxNumber) (embedded (rowsOf stmtExecute) s at n .good) (argumentsWithin s at n) badArguments
       (λ _. within-few maxNumber s at n long) (λ _. bad-few maxNumber))
-      (λ _. both (Few maxNumber) (embedded [] s at n .good) (noArguments 0 0) badArguments (λ _. none-read) (λ _. bad-few maxNumber))
+      (λ _. both (Few maxNumber) (embedded [] s at n .good) (noArguments 0 0) badArguments (λ _. none-read)
+      (λ _. bad-few maxNumber))
 
   prepare-chosen : (id : ℕ) (y : Slots) (t k : ℕ) → ReadIn (prepareChosen s id y t k)
   prepare-chosen id y t k =
       let body : Part = record { start = startOf y k; len = lenOf y k } in
       let args = bodyIn s t (startOf y k) (lenOf y k) in
       both ReadIn (y .good && not (absent y k)) (prepareFrom s id t body args) (Frame.BadPayload (length s) prepare)
-      (λ _. if-good-read s prepare (args .good) _ (prepare-read id t body args (body-few t (startOf y k) (lenOf y k)))) (λ _. tt)
+      (λ _. if-good-read s prepare (args .good) _ (prepare-read id t body args
+      (body-few t (startOf y k) (lenOf y k)))) (λ _. tt)
 
   prepare-frame : ReadIn (prepareFrame s)
   unfolding prepareFrame
   prepare-frame =
       let x = fieldsAt (rowsOf prepare) s payload in
       let y = embedded (rowsOf prepareStmt) s (startOf x 2) (lenOf x 2) in
-      both ReadIn (x .good) (prepareInside s (valueOf x 1) (startOf x 2) (lenOf x 2)) (Frame.BadPayload (length s) prepare)
+      both ReadIn (x .good) (prepareInside s (valueOf x 1) (startOf x 2) (lenOf x 2))
+      (Frame.BadPayload (length s) prepare)
       (λ _. prepare-chosen (valueOf x 1) y (low32 (valueOf y 1)) (Operation.fieldOf (low32 (valueOf y 1)))) (λ _. tt)
 
   reset-frame : ReadIn (resetFrame s)
@@ -209,7 +251,8 @@ module _ (s : List ℕ) (long : length s ≤ maxNumber) where
 
   session-close-frame : ReadIn (sessionCloseFrame s)
   unfolding sessionCloseFrame
-  session-close-frame = if-good-read s sessionClose (fieldsAt [] s payload .good) Request.SessionClose session-close-read
+  session-close-frame = if-good-read s sessionClose (fieldsAt [] s payload .good) Request.SessionClose
+      session-close-read
 
   deallocate-frame : ReadIn (deallocateFrame s)
   unfolding deallocateFrame
@@ -240,7 +283,8 @@ module _ (s : List ℕ) (long : length s ≤ maxNumber) where
       (λ _. both ReadIn (eqb kind deallocate) (deallocateFrame s) _ (λ _. deallocate-frame)
       (λ _. both ReadIn (eqb kind open') (openFrame s) _ (λ _. open-frame)
       (λ _. both ReadIn (eqb kind close) (closeFrame s) _ (λ _. close-frame)
-      (λ _. both ReadIn (eqb kind fetch) (fetchFrame s) (Frame.UnknownType (length s)) (λ _. fetch-frame) (λ _. tt))))))))
+      (λ _. both ReadIn (eqb kind fetch) (fetchFrame s) (Frame.UnknownType (length s)) (λ _. fetch-frame)
+      (λ _. tt))))))))
 
 -- ---- a frame
 
@@ -261,7 +305,8 @@ headed s =
 
 of-head-read : (s : List ℕ) (h : Head) → Headed h → ReadIn (ofHead s h)
 of-head-read s (Head.Frame kind end) h = frame-read (take end s) (omega (arith, length-take end s)) kind
-of-head-read s (Head.Refused n) h = both ReadIn (eqb n Reason.badLength) Frame.BadLength Frame.NotAllThere (λ _. tt) (λ _. tt)
+of-head-read s (Head.Refused n) h = both ReadIn (eqb n Reason.badLength) Frame.BadLength Frame.NotAllThere (λ _. tt)
+    (λ _. tt)
 
 pub frames-are-read : FramesAreRead
 unfolding frameOf

@@ -10,7 +10,8 @@ use Rattle.prelude.proofs.Cases.{both}
 use Rattle.protocol.specs.Reason as Reason
 use Rattle.message.specs.Frame.{usedOf}
 use Rattle.message.specs.declared.request.Request.{Request}
-use Rattle.message.specs.declared.request.Request.the-variants.{Reset, SessionClose, Prepare, Execute, Deallocate, Open, Close, Fetch}
+use Rattle.message.specs.declared.request.Request.the-variants.{Reset, SessionClose, Prepare, Execute, Deallocate, Open}
+use Rattle.message.specs.declared.request.Request.the-variants.{Close, Fetch}
 use Rattle.message.specs.declared.request.Frame.{Frame}
 use Rattle.message.specs.declared.request.Frame.the-variants.{NotAllThere, BadLength, UnknownType, BadPayload, Good}
 use Rattle.session.specs.Session.{Session, isClosed}
@@ -20,7 +21,9 @@ use Rattle.reply.specs.Frames.{among}
 use Rattle.rules.specs.declared.Report.{Report}
 use Rattle.rules.specs.Kind.{onGood}
 use Rattle.rules.specs.Report.{noWork, workOf, failed, works, suits, fails}
-use Rattle.rules.specs.Refusal.{Test, refusal, firstOf, isRefused, stmtNotLive, unsupported, fewArguments, cursorNotLive, allSent, otherCursor, stmtsFull, cursorsFull, requestTests, lookTests, lookReason, reportTests, reportReason, stepReason}
+use Rattle.rules.specs.Refusal.{Test, refusal, firstOf, isRefused, stmtNotLive, unsupported, fewArguments}
+use Rattle.rules.specs.Refusal.{cursorNotLive, allSent, otherCursor, stmtsFull, cursorsFull, requestTests}
+use Rattle.rules.specs.Refusal.{lookTests, lookReason, reportTests, reportReason, stepReason}
 use Rattle.rules.proofs.TestLaws.{allOf, first-passes, accepted-none}
 
 -- ---- the look
@@ -148,13 +151,16 @@ took s x r e =
       },
     )
 
-pub step-passes : (p : ℕ → Bool) (s : Session) (x : Frame) (r : Report) → p (lookReason s x) ≡ true → p (reportReason x r) ≡ true → p (stepReason s x r) ≡ true
-step-passes p s x r h g = both (λ (n : ℕ). p n ≡ true) (eqb (lookReason s x) 0) (reportReason x r) (lookReason s x) (λ _. g) (λ _. h)
+pub step-passes : (p : ℕ → Bool) (s : Session) (x : Frame) (r : Report) → p (lookReason s x) ≡ true →
+    p (reportReason x r) ≡ true → p (stepReason s x r) ≡ true
+step-passes p s x r h g = both (λ (n : ℕ). p n ≡ true) (eqb (lookReason s x) 0) (reportReason x r) (lookReason s x)
+    (λ _. g) (λ _. h)
 
 -- ---- which reasons are given
 
 -- of a report
-pub report-passes : (p : ℕ → Bool) → p 0 ≡ true → p Reason.badReport ≡ true → p Reason.engineFailed ≡ true → (x : Frame) (r : Report) → p (reportReason x r) ≡ true
+pub report-passes : (p : ℕ → Bool) → p 0 ≡ true → p Reason.badReport ≡ true → p Reason.engineFailed ≡ true →
+    (x : Frame) (r : Report) → p (reportReason x r) ≡ true
 unfolding reportReason
 report-passes p z a b NotAllThere r = z
 report-passes p z a b BadLength r = z
@@ -164,16 +170,20 @@ report-passes p z a b (Good used q) r =
     first-passes p z (reportTests q r) (rw (a, b))
 
 -- of a look: by itself, closed, or of the request
-pub look-passes : (p : ℕ → Bool) → p Reason.notAllThere ≡ true → p Reason.badLength ≡ true → p Reason.unknownType ≡ true → p Reason.badPayload ≡ true →
-    p 0 ≡ true → ((s : Session) (q : Request) → allOf p (goodTests s q) ≡ true) → (s : Session) (x : Frame) → p (lookReason s x) ≡ true
+pub look-passes : (p : ℕ → Bool) → p Reason.notAllThere ≡ true → p Reason.badLength ≡ true →
+    p Reason.unknownType ≡ true → p Reason.badPayload ≡ true →
+    p 0 ≡ true → ((s : Session) (q : Request) → allOf p (goodTests s q) ≡ true) → (s : Session) (x : Frame) →
+    p (lookReason s x) ≡ true
 unfolding lookReason
 look-passes p a b c d z h s NotAllThere = a
 look-passes p a b c d z h s BadLength = b
-look-passes p a b c d z h s (UnknownType used) = both (λ (n : ℕ). p n ≡ true) (isClosed s) Reason.closed Reason.unknownType (λ _. closed s) (λ _. c)
+look-passes p a b c d z h s (UnknownType used) = both (λ (n : ℕ). p n ≡ true) (isClosed s) Reason.closed
+    Reason.unknownType (λ _. closed s) (λ _. c)
   where
     closed : (s : Session) → p Reason.closed ≡ true
     closed s = and-true (p Reason.closed) (allOf p (requestTests s Reset)) (h s Reset) .0
-look-passes p a b c d z h s (BadPayload used kind) = both (λ (n : ℕ). p n ≡ true) (isClosed s) Reason.closed Reason.badPayload (λ _. closed s) (λ _. d)
+look-passes p a b c d z h s (BadPayload used kind) = both (λ (n : ℕ). p n ≡ true) (isClosed s) Reason.closed
+    Reason.badPayload (λ _. closed s) (λ _. d)
   where
     closed : (s : Session) → p Reason.closed ≡ true
     closed s = and-true (p Reason.closed) (allOf p (requestTests s Reset)) (h s Reset) .0
@@ -188,7 +198,8 @@ look-small s x =
 pub not-three : (s : Session) (x : Frame) (r : Report) → stepReason s x r ≡ Reason.noRoom → ⊥
 not-three s x r e =
     let p : ℕ → Bool = λ n. not (eqb n Reason.noRoom) in
-    let h = step-passes p s x r (look-passes p refl refl refl refl refl (λ s q. refl) s x) (report-passes p refl refl refl x r) in
+    let h = step-passes p s x r (look-passes p refl refl refl refl refl (λ s q. refl) s x)
+    (report-passes p refl refl refl x r) in
     false≢true (sym (ap p e) ∙ h)
 
 abbrev pub few : ℕ → Bool
@@ -202,7 +213,8 @@ report-few x r = report-passes few refl refl refl x r
 fails-small : (w : Bool) (r : Report) → (w && fails r) ≡ true → r .code ≤ maxNumber
 fails-small w r e =
     let h = and-true w (fails r) e .1 in
-    leb-true (r .code) maxNumber (and-true (eqb (r .kind) failed && not (eqb (r .code) 0)) (leb (r .code) maxNumber) h .1)
+    leb-true (r .code) maxNumber (and-true (eqb (r .kind) failed && not (eqb (r .code) 0)) (leb (r .code) maxNumber)
+    h .1)
 
 abbrev CodeSmall : Report → ℕ → Type 0
 CodeSmall r n = n ≡ Reason.engineFailed → r .code ≤ maxNumber
@@ -215,7 +227,8 @@ report-code (UnknownType used) r = λ e. absurd (omega arith)
 report-code (BadPayload used kind) r = λ e. absurd (omega arith)
 report-code (Good used q) r =
     both (CodeSmall r) (works q && not (suits q r || fails r)) Reason.badReport _ (λ _ e. absurd (omega arith))
-    (λ _. both (CodeSmall r) (works q && fails r) Reason.engineFailed Reason.accepted (λ h _. fails-small (works q) r h) (λ _ e. absurd (omega arith)))
+    (λ _. both (CodeSmall r) (works q && fails r) Reason.engineFailed Reason.accepted
+    (λ h _. fails-small (works q) r h) (λ _ e. absurd (omega arith)))
 
 pub code-small : (s : Session) (x : Frame) (r : Report) → CodeSmall r (stepReason s x r)
 code-small s x r =
@@ -232,30 +245,35 @@ late n e h = go (eqb n 0) refl e
     go false f g = absurd (omega (arith, leb-true Reason.closed n g))
 
 -- of a frame that is all there and of a good length only reasons from 4 on are given
-pub late-read : (s : Session) (x : Frame) (r : Report) → (isRefused Reason.notAllThere x || isRefused Reason.badLength x) ≡ false →
+pub late-read : (s : Session) (x : Frame) (r : Report) →
+    (isRefused Reason.notAllThere x || isRefused Reason.badLength x) ≡ false →
     stepReason s x r ≤ Reason.noRoom → stepReason s x r ≡ 0
 unfolding lookReason reportReason
 late-read s NotAllThere r e h = absurd (true≢false e)
 late-read s BadLength r e h = absurd (true≢false e)
 late-read s (UnknownType used) r e h = absurd (no (isClosed s) h)
   where
-    no : (b : Bool) → cond (eqb (cond b Reason.closed Reason.unknownType) 0) 0 (cond b Reason.closed Reason.unknownType) ≤ Reason.noRoom → ⊥
+    no : (b : Bool) → cond (eqb (cond b Reason.closed Reason.unknownType) 0) 0
+        (cond b Reason.closed Reason.unknownType) ≤ Reason.noRoom → ⊥
     no true e = omega arith
     no false e = omega arith
 late-read s (BadPayload used kind) r e h = absurd (no (isClosed s) h)
   where
-    no : (b : Bool) → cond (eqb (cond b Reason.closed Reason.badPayload) 0) 0 (cond b Reason.closed Reason.badPayload) ≤ Reason.noRoom → ⊥
+    no : (b : Bool) → cond (eqb (cond b Reason.closed Reason.badPayload) 0) 0 (cond b Reason.closed Reason.badPayload)
+        ≤ Reason.noRoom → ⊥
     no true e = omega arith
     no false e = omega arith
 late-read s (Good used q) r e h =
     late (stepReason s (Good used q) r)
-    (step-passes p s (Good used q) r (first-passes p refl (goodTests s q) refl) (report-passes p refl refl refl (Good used q) r)) h
+    (step-passes p s (Good used q) r (first-passes p refl (goodTests s q) refl)
+    (report-passes p refl refl refl (Good used q) r)) h
   where
     p : ℕ → Bool
     p n = eqb n 0 || leb Reason.closed n
 
 -- below 4 stand 1 and 2, of a frame that uses no byte
-pub low-used : (s : Session) (x : Frame) (r : Report) → stepReason s x r ≤ Reason.noRoom → (stepReason s x r ≡ 0 → ⊥) → usedOf x ≡ 0
+pub low-used : (s : Session) (x : Frame) (r : Report) → stepReason s x r ≤ Reason.noRoom →
+    (stepReason s x r ≡ 0 → ⊥) → usedOf x ≡ 0
 low-used s NotAllThere r h z = refl
 low-used s BadLength r h z = refl
 low-used s (UnknownType used) r h z = absurd (z (late-read s (UnknownType used) r refl h))

@@ -14,7 +14,8 @@ use Rattle.message.specs.Head.{lengthBytes, lengthOf, maxLength, headOf}
 use Rattle.message.specs.Frame.{reasonOf, usedOf, frameOf, refusedHead, ofHead, frameIn}
 use Rattle.message.specs.declared.head.Head.{Head}
 use Rattle.message.specs.declared.request.Request.{Request}
-use Rattle.message.specs.declared.request.Request.the-variants.{Reset, SessionClose, Prepare, Execute, Deallocate, Open, Close, Fetch}
+use Rattle.message.specs.declared.request.Request.the-variants.{Reset, SessionClose, Prepare, Execute, Deallocate, Open}
+use Rattle.message.specs.declared.request.Request.the-variants.{Close, Fetch}
 use Rattle.message.specs.declared.request.Frame.{Frame}
 use Rattle.message.specs.declared.request.Frame.the-variants.{NotAllThere, BadLength, UnknownType, BadPayload, Good}
 use Rattle.message.proofs.UsedLaws.{uses-all}
@@ -30,7 +31,8 @@ use Rattle.rules.specs.Rows.{firstRow, rowCount, sendsColumns}
 use Rattle.rules.specs.Decision.{Decision, accepted, decisionOf, looked, lookRefused, lookOf}
 use Rattle.rules.specs.Step.{Step, short, tooShort, stepBy, stepOn, lookAt, stepOf, replyOf}
 use Rattle.rules.specs.StepRules.{outcome}
-use Rattle.rules.specs.SendRules.{AcceptsIdle, SameRows, SendsAsLooked, Rows, AsAsked, SendsAsAsked, Uses, UsesFrame, Writes, WritesWhole}
+use Rattle.rules.specs.SendRules.{AcceptsIdle, SameRows, SendsAsLooked, Rows, AsAsked, SendsAsAsked, Uses}
+use Rattle.rules.specs.SendRules.{UsesFrame, Writes, WritesWhole}
 use Rattle.rules.specs.SendRules.{WithAny, AsReported, SendsColumns}
 use Rattle.rules.proofs.ReadLaws.{frames-are-read}
 use Rattle.rules.proofs.RefusalLaws.{Took, took, took-look, idle}
@@ -40,7 +42,8 @@ use Rattle.rules.proofs.BufferLaws.{decision-fits, step-outcome}
 
 -- ---- work none
 
-idle-step : (s : Session) (x : Frame) (r : Report) → lookReason s x ≡ 0 → lookOf s x .work ≡ noWork → stepReason s x r ≡ 0
+idle-step : (s : Session) (x : Frame) (r : Report) → lookReason s x ≡ 0 → lookOf s x .work ≡ noWork →
+    stepReason s x r ≡ 0
 idle-step s x r e w = go x (g .2) e w
   where
     g : (used : ℕ) × (q : Request) × (x ≡ Good used q)
@@ -49,7 +52,8 @@ idle-step s x r e w = go x (g .2) e w
     go : (y : Frame) → y ≡ Good (g .0) (g .1) → lookReason s y ≡ 0 → lookOf s y .work ≡ noWork → stepReason s y r ≡ 0
     go y f h k =
         let z = ap (lookReason s) (sym f) ∙ h in
-        let none = sym (look-work s (g .0) (g .1) (eq-eqb (lookReason s (Good (g .0) (g .1))) 0 z)) ∙ ap (λ v. lookOf s v .work) (sym f) ∙ k in
+        let none = sym (look-work s (g .0) (g .1) (eq-eqb (lookReason s (Good (g .0) (g .1))) 0 z))
+        ∙ ap (λ v. lookOf s v .work) (sym f) ∙ k in
         ap (λ v. stepReason s v r) f
         ∙ rw (eq-eqb (lookReason s (Good (g .0) (g .1))) 0 z) (idle (g .0) (g .1) r none)
 
@@ -63,16 +67,20 @@ accepts-idle s frame r buffer e w room =
 
 -- the rows of an accepted step are those of its request
 step-rows : (P : Request → ℕ → ℕ → Type 0) (s : Session) (x : Frame) (r : Report) (buffer : List ℕ) →
-    ((used : ℕ) (q : Request) → Took s x r used q → P q (firstRow s q) (rowCount s q r)) → stepOn s x r buffer .answer .reason ≡ 0 →
-    (used : ℕ) × (q : Request) × (x ≡ Good used q) × P q (stepOn s x r buffer .answer .first) (stepOn s x r buffer .answer .count)
+    ((used : ℕ) (q : Request) → Took s x r used q → P q (firstRow s q) (rowCount s q r)) →
+    stepOn s x r buffer .answer .reason ≡ 0 →
+    (used : ℕ) × (q : Request) × (x ≡ Good used q) × P q (stepOn s x r buffer .answer .first)
+    (stepOn s x r buffer .answer .count)
 step-rows P s x r buffer h =
-    step-has (λ y. y .answer .reason ≡ 0 → (used : ℕ) × (q : Request) × (x ≡ Good used q) × P q (y .answer .first) (y .answer .count)) s x r buffer
+    step-has (λ y. y .answer .reason ≡ 0 → (used : ℕ) × (q : Request) × (x ≡ Good used q) × P q (y .answer .first)
+    (y .answer .count)) s x r buffer
     (λ _ e. absurd (omega arith)) (λ used q _ t _. (used, q, t .good, h used q t)) (λ _ some e. absurd (some e))
 
 good-same : {used used' : ℕ} {q p : Request} → Good used q ≡ Good used' p → q ≡ p
 good-same e = cc
 
-as-asked : (s : Session) (q : Request) (r : Report) (a : Answer) → a .first ≡ firstRow s q → a .count ≡ rowCount s q r → AsAsked s q r a
+as-asked : (s : Session) (q : Request) (r : Report) (a : Answer) → a .first ≡ firstRow s q →
+    a .count ≡ rowCount s q r → AsAsked s q r a
 unfolding firstRow rowCount
 as-asked s Reset r a e f = record { from = e; many = f }
 as-asked s SessionClose r a e f = record { from = e; many = f }
@@ -86,12 +94,15 @@ as-asked s (Fetch f) r a e g = record { from = e; many = g }
 pub sends-as-asked : SendsAsAsked
 sends-as-asked s frame r buffer used q e accepted' =
     let x = frameOf frame in
-    let t = step-rows (λ p first count. (first ≡ firstRow s p) × (count ≡ rowCount s p r)) s x r buffer (λ _ _ _. (refl, refl)) accepted' in
+    let t = step-rows (λ p first count. (first ≡ firstRow s p) × (count ≡ rowCount s p r)) s x r buffer
+    (λ _ _ _. (refl, refl)) accepted' in
     let same : t .1 ≡ q = good-same (sym (t .2) ∙ e) in
-    as-asked s q r (stepOf s frame r buffer .answer) (t .3 .0 ∙ ap (firstRow s) same) (t .3 .1 ∙ ap (λ p. rowCount s p r) same)
+    as-asked s q r (stepOf s frame r buffer .answer) (t .3 .0 ∙ ap (firstRow s) same)
+    (t .3 .1 ∙ ap (λ p. rowCount s p r) same)
 
 -- a look at a Fetch tells the same
-fetch-rows : (s : Session) (q : Request) (r : Report) → workOf q ≡ toFetch → (looked s q .first ≡ firstRow s q) × (looked s q .count ≡ rowCount s q r)
+fetch-rows : (s : Session) (q : Request) (r : Report) → workOf q ≡ toFetch →
+    (looked s q .first ≡ firstRow s q) × (looked s q .count ≡ rowCount s q r)
 unfolding firstRow rowCount
 fetch-rows s Reset r e = absurd (omega arith)
 fetch-rows s SessionClose r e = absurd (omega arith)
@@ -108,14 +119,18 @@ sends-as-looked s frame r buffer e accepted' =
     let h = go (frameOf frame) e (t .1) (t .2) (t .3) in record { first = h .0; count = h .1 }
   where
     t : (used : ℕ) × (q : Request) × (frameOf frame ≡ Good used q)
-        × ((stepOf s frame r buffer .answer .first ≡ firstRow s q) × (stepOf s frame r buffer .answer .count ≡ rowCount s q r) × (lookReason s (frameOf frame) ≡ 0))
+        × ((stepOf s frame r buffer .answer .first ≡ firstRow s q) ×
+        (stepOf s frame r buffer .answer .count ≡ rowCount s q r) × (lookReason s (frameOf frame) ≡ 0))
     t =
-        step-rows (λ p first count. (first ≡ firstRow s p) × (count ≡ rowCount s p r) × (lookReason s (frameOf frame) ≡ 0)) s (frameOf frame) r buffer
+        step-rows (λ p first count. (first ≡ firstRow s p) × (count ≡ rowCount s p r) ×
+        (lookReason s (frameOf frame) ≡ 0)) s (frameOf frame) r buffer
         (λ _ _ k. (refl, refl, k .passes)) accepted'
 
     go : (x : Frame) → lookOf s x .work ≡ toFetch → (q : Request) → x ≡ Good (t .0) q →
-        (stepOf s frame r buffer .answer .first ≡ firstRow s q) × (stepOf s frame r buffer .answer .count ≡ rowCount s q r) × (lookReason s x ≡ 0) →
-        (stepOf s frame r buffer .answer .first ≡ lookOf s x .first) × (stepOf s frame r buffer .answer .count ≡ lookOf s x .count)
+        (stepOf s frame r buffer .answer .first ≡ firstRow s q) ×
+        (stepOf s frame r buffer .answer .count ≡ rowCount s q r) × (lookReason s x ≡ 0) →
+        (stepOf s frame r buffer .answer .first ≡ lookOf s x .first) ×
+        (stepOf s frame r buffer .answer .count ≡ lookOf s x .count)
     go x w q f h =
         let z = eq-eqb (lookReason s (Good (t .0) q)) 0 (ap (lookReason s) (sym f) ∙ h .2) in
         let is = ap (lookOf s) f ∙ look-good s (t .0) q z in
@@ -152,17 +167,20 @@ sends-columns s frame r buffer used q e =
 
 -- ---- the bytes used
 
-used-by : (s : Session) (x : Frame) (r : Report) (buffer : List ℕ) → (stepOn s x r buffer .answer .reason ≡ Reason.noRoom → ⊥) →
+used-by : (s : Session) (x : Frame) (r : Report) (buffer : List ℕ) →
+    (stepOn s x r buffer .answer .reason ≡ Reason.noRoom → ⊥) →
     stepOn s x r buffer .answer .used ≡ usedOf x
 used-by s x r buffer =
-    step-has (λ y. (y .answer .reason ≡ Reason.noRoom → ⊥) → y .answer .used ≡ usedOf x) s x r buffer (λ _ h. absurd (h refl))
+    step-has (λ y. (y .answer .reason ≡ Reason.noRoom → ⊥) → y .answer .used ≡ usedOf x) s x r buffer
+    (λ _ h. absurd (h refl))
     (λ used q _ t _. ap usedOf (sym (t .good))) (λ _ _ _. refl)
 
 -- a frame that is refused by its head is refused so by the step
 abbrev Unread : Frame → ℕ → Type 0
 Unread x n = (n ≡ Reason.notAllThere → ⊥) → (n ≡ Reason.badLength → ⊥) → (n ≡ Reason.noRoom → ⊥) → ⊥
 
-head-refused : (s : Session) (m : ℕ) (r : Report) (buffer : List ℕ) → Unread (refusedHead m) (stepOn s (refusedHead m) r buffer .answer .reason)
+head-refused : (s : Session) (m : ℕ) (r : Report) (buffer : List ℕ) →
+    Unread (refusedHead m) (stepOn s (refusedHead m) r buffer .answer .reason)
 unfolding lookReason reportReason
 head-refused s m r buffer =
     both (λ x. Unread x (stepOn s x r buffer .answer .reason)) (eqb m Reason.badLength) BadLength NotAllThere
@@ -181,16 +199,23 @@ head-ends frame =
     both (Ends frame) (leb lengthBytes (length frame)) _ (Head.Refused Reason.notAllThere)
     (λ _. both (Ends frame) (eqb (lengthOf frame) 0) (Head.Refused Reason.badLength) _ (λ _. tt)
     (λ _. both (Ends frame) (ltb maxLength (lengthOf frame)) (Head.Refused Reason.badLength) _ (λ _. tt)
-    (λ _. both (Ends frame) (ltb (length frame) (lengthBytes + lengthOf frame)) (Head.Refused Reason.notAllThere) _ (λ _. tt)
+    (λ _. both (Ends frame) (ltb (length frame) (lengthBytes + lengthOf frame)) (Head.Refused Reason.notAllThere) _
+    (λ _. tt)
     (λ e. (refl, ltb-false (length frame) (lengthBytes + lengthOf frame) e)))))
     (λ _. tt)
 
 uses-by : (s : Session) (frame : List ℕ) (r : Report) (buffer : List ℕ) (h : Head) → Ends frame h →
-    (stepOn s (ofHead frame h) r buffer .answer .reason ≡ Reason.notAllThere → ⊥) → (stepOn s (ofHead frame h) r buffer .answer .reason ≡ Reason.badLength → ⊥) →
-    (stepOn s (ofHead frame h) r buffer .answer .reason ≡ Reason.noRoom → ⊥) → Uses frame (stepOn s (ofHead frame h) r buffer .answer)
+    (stepOn s (ofHead frame h) r buffer .answer .reason ≡ Reason.notAllThere → ⊥) →
+    (stepOn s (ofHead frame h) r buffer .answer .reason ≡ Reason.badLength → ⊥) →
+    (stepOn s (ofHead frame h) r buffer .answer .reason ≡ Reason.noRoom → ⊥) →
+    Uses frame (stepOn s (ofHead frame h) r buffer .answer)
 uses-by s frame r buffer (Head.Frame kind end) e a b c =
     let u = used-by s (frameIn (take end frame) kind) r buffer c ∙ uses-all (take end frame) kind in
-    record { own = omega (arith, u, length-take end frame, e .0, e .1); within = omega (arith, u, length-take end frame, e .1) }
+    record {
+      own = omega (arith, u, length-take end frame, e .0, e .1);
+      within = omega
+          (arith, u, length-take end frame, e .1);
+    }
 uses-by s frame r buffer (Head.Refused n) e a b c = absurd (head-refused s n r buffer a b c)
 
 pub uses-frame : UsesFrame

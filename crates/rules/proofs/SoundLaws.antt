@@ -7,13 +7,15 @@ use lib.Dec.{eqb, leb}
 use borrow.Author.Tests.{eqb-true, not-false, leb-true}
 use Rattle.message.specs.Frame.{frameOf}
 use Rattle.message.specs.declared.request.Request.{Request}
-use Rattle.message.specs.declared.request.Request.the-variants.{Reset, SessionClose, Prepare, Execute, Deallocate, Open, Close, Fetch}
+use Rattle.message.specs.declared.request.Request.the-variants.{Reset, SessionClose, Prepare, Execute, Deallocate, Open}
+use Rattle.message.specs.declared.request.Request.the-variants.{Close, Fetch}
 use Rattle.session.specs.Session.{Session}
 use Rattle.session.specs.Entry.{isLiveStmt, isLiveCursor}
 use Rattle.session.specs.Tables.{liveStmt, carried}
 use Rattle.session.specs.Sound.{maxNumber, maxPlaceholders, Sound, Openable}
 use Rattle.session.proofs.SumLaws.{and-true}
-use Rattle.session.proofs.TableLaws.{prepared-sound, endedOn-sound, freed-sound, opened-sound, fetched-sound, ended-sound, reset-sound, closedNow-sound}
+use Rattle.session.proofs.TableLaws.{prepared-sound, endedOn-sound, freed-sound, opened-sound, fetched-sound}
+use Rattle.session.proofs.TableLaws.{ended-sound, reset-sound, closedNow-sound}
 use Rattle.rules.specs.declared.Report.{Report}
 use Rattle.rules.specs.Report.{prepared, result, maxColumns, isPrepared, isResult, suits}
 use Rattle.rules.specs.Rows.{openCount, rowCount}
@@ -28,13 +30,15 @@ use Rattle.rules.proofs.StepLaws.{step-has}
 
 pub placeholders-fit : (r : Report) → isPrepared r ≡ true → r .placeholders ≤ maxPlaceholders
 placeholders-fit r e =
-    leb-true (r .placeholders) maxPlaceholders (and-true (eqb (r .kind) prepared) (leb (r .placeholders) maxPlaceholders) e .1)
+    leb-true (r .placeholders) maxPlaceholders (and-true (eqb (r .kind) prepared)
+    (leb (r .placeholders) maxPlaceholders) e .1)
 
 pub rows-fit : (r : Report) → isResult r ≡ true → r .rows ≤ maxNumber
 rows-fit r e =
     let some = not (eqb (r .columns) 0) || eqb (r .rows) 0 in
     let kind = eqb (r .kind) result && leb (r .columns) maxColumns in
-    leb-true (r .rows) maxNumber (and-true kind (leb (r .rows) maxNumber) (and-true (kind && leb (r .rows) maxNumber) some e .0) .1)
+    leb-true (r .rows) maxNumber (and-true kind (leb (r .rows) maxNumber)
+    (and-true (kind && leb (r .rows) maxNumber) some e .0) .1)
 
 -- ---- the session after an accepted request
 
@@ -52,7 +56,8 @@ openable s id stmt h g =
     own true false f e z = absurd (true≢false z)
     own false false f e z = absurd (true≢false (sym e))
 
-pub after-sound : (s : Session) (q : Request) (r : Report) → Sound s → Read q → Looked s q → suits q r ≡ true → Sound (sessionAfter s q r)
+pub after-sound : (s : Session) (q : Request) (r : Report) → Sound s → Read q → Looked s q → suits q r ≡ true →
+    Sound (sessionAfter s q r)
 unfolding sessionAfter rowCount
 after-sound s Reset r sound read l e = reset-sound sound
 after-sound s SessionClose r sound read l e = closedNow-sound sound
@@ -71,4 +76,5 @@ pub keeps-sound : KeepsSound
 keeps-sound s frame r buffer sound =
     let x = frameOf frame in
     step-has (λ after. Sound (after .session)) s x r buffer (λ _. sound)
-    (λ used q _ t. after-sound s q r sound (subst ReadIn (t .good) (frames-are-read frame)) (t .look) (t .report)) (λ _ _. sound)
+    (λ used q _ t. after-sound s q r sound (subst ReadIn (t .good) (frames-are-read frame)) (t .look) (t .report))
+    (λ _ _. sound)

@@ -1,4 +1,5 @@
--- The rules of specs/StepRules.antt hold: a refused step changes nothing and writes its Error or nothing. Assumes nothing.
+-- The rules of specs/StepRules.antt hold: a refused step changes nothing and writes its Error or nothing. Assumes
+-- nothing.
 use Prim.Native.Nat.{ℕ, zero, suc, _+_, _^_, _≤_, _<_}
 use native.Mathlib.Nat.{le-trans, zero-add}
 use native.Mathlib.Omega.{arith}
@@ -28,7 +29,8 @@ use Rattle.reply.proofs.ReplyLaws.{reply-error, fits-smallest}
 use Rattle.rules.specs.declared.Report.{Report}
 use Rattle.rules.specs.Kind.{onGood}
 use Rattle.rules.specs.Refusal.{stepReason}
-use Rattle.rules.specs.Decision.{Decision, named, wireCode, refusalOf, refusedReply, refused, accepted, decisionOf}
+use Rattle.rules.specs.Decision.{Decision, named, wireCode, refusalOf, refusedReply, refused, accepted}
+use Rattle.rules.specs.Decision.{decisionOf}
 use Rattle.rules.specs.Step.{Step, short, tooShort, stepBy, stepOn, stepOf}
 use Rattle.rules.specs.Read.{Read, ReadIn}
 use Rattle.rules.specs.StepRules.{Unchanged, Silent, Replies, errorBytes, Refused, RefusedChangesNothing}
@@ -42,19 +44,22 @@ refusedStep s x r buffer = stepBy x buffer (refused s (stepReason s x r) (refuse
 
 pub step-has : (P : Step → Type 0) (s : Session) (x : Frame) (r : Report) (buffer : List ℕ) →
     (short buffer ≡ true → P (tooShort s buffer)) →
-    ((used : ℕ) (q : Request) → short buffer ≡ false → Took s x r used q → P (stepBy (Good used q) buffer (accepted s r q))) →
+    ((used : ℕ) (q : Request) → short buffer ≡ false → Took s x r used q →
+    P (stepBy (Good used q) buffer (accepted s r q))) →
     (short buffer ≡ false → (stepReason s x r ≡ 0 → ⊥) → P (refusedStep s x r buffer)) → P (stepOn s x r buffer)
 unfolding stepOn decisionOf
 step-has P s x r buffer three accepts refuses =
     both P (short buffer) (tooShort s buffer) (stepBy x buffer (decisionOf s x r)) three
-    (λ room. both (λ d. P (stepBy x buffer d)) (eqb (stepReason s x r) 0) _ (refused s (stepReason s x r) (refusedReply x r (stepReason s x r)))
+    (λ room. both (λ d. P (stepBy x buffer d)) (eqb (stepReason s x r) 0) _
+    (refused s (stepReason s x r) (refusedReply x r (stepReason s x r)))
     (λ e. takes room (took s x r (eqb-true (stepReason s x r) 0 e)))
     (λ e. refuses room (eqb-false (stepReason s x r) 0 e)))
   where
     takes : short buffer ≡ false → (t : (used : ℕ) × (q : Request) × Took s x r used q) →
         P (stepBy x buffer (onGood (refused s (stepReason s x r) Reply.Nothing) (accepted s r) x))
     takes room t =
-        subst (λ y. P (stepBy y buffer (onGood (refused s (stepReason s x r) Reply.Nothing) (accepted s r) y))) (sym (t .2 .good))
+        subst (λ y. P (stepBy y buffer (onGood (refused s (stepReason s x r) Reply.Nothing) (accepted s r) y)))
+        (sym (t .2 .good))
         (accepts (t .0) (t .1) room (t .2))
 
 -- ---- a refused step
@@ -78,7 +83,8 @@ code-within n = within-at 6015 codes refl n
 wire-small : (r : Report) (n : ℕ) → (n ≡ Reason.engineFailed → r .code ≤ maxNumber) → wireCode r n < 2 ^ 32
 unfolding wireCode
 wire-small r n h =
-    both Small (eqb n Reason.engineFailed) (r .code) (codeOf n) (λ e. omega (arith, h (eqb-true n Reason.engineFailed e)))
+    both Small (eqb n Reason.engineFailed) (r .code) (codeOf n)
+    (λ e. omega (arith, h (eqb-true n Reason.engineFailed e)))
     (λ _. omega (arith, code-within n))
 
 named-small : (q : Request) → Read q → (n : ℕ) → named n q < 2 ^ 32
@@ -87,7 +93,8 @@ named-small q h n =
     both Small (eqb n Reason.noStmt) (stmtOf q) _ (λ _. omega (arith, h .stmtSmall))
     (λ _. both Small (eqb n Reason.notScalar) (argsOf q .index) _ (λ _. omega (arith, h .indexSmall))
     (λ _. both Small (eqb n Reason.fewArguments) (argsOf q .count) _ (λ _. omega (arith, h .countSmall))
-    (λ _. both Small (eqb n Reason.noCursor || eqb n Reason.allSent) (cursorOf q) 0 (λ _. omega (arith, h .cursorSmall)) (λ _. omega arith))))
+    (λ _. both Small (eqb n Reason.noCursor || eqb n Reason.allSent) (cursorOf q) 0
+    (λ _. omega (arith, h .cursorSmall)) (λ _. omega arith))))
 
 named-in : (x : Frame) → ReadIn x → (n : ℕ) → onGood 0 (named n) x < 2 ^ 32
 named-in NotAllThere h n = omega arith
@@ -106,16 +113,20 @@ written-front b bs h = rw (zero-add, le-leb (length bs) (length b) h)
 pub reply-front : (b bs : List ℕ) → length bs ≤ length b → take (length bs) (written b 0 bs) ≡ bs
 reply-front b bs h = ap (take (length bs)) (written-front b bs h) ∙ take-at bs (drop (length bs) b) (length bs) refl
 
-pub error-fits : (s : Session) (x : Frame) (r : Report) → ReadIn x → length (replyBytes (Reply.Error (refusalOf x r (stepReason s x r)))) ≤ minBuffer
+pub error-fits : (s : Session) (x : Frame) (r : Report) → ReadIn x →
+    length (replyBytes (Reply.Error (refusalOf x r (stepReason s x r)))) ≤ minBuffer
 error-fits s x r read =
     let n = stepReason s x r in
-    fits-smallest (Reply.Error (refusalOf x r n)) (record { code = wire-small r n (code-small s x r); number = named-in x read n })
+    fits-smallest (Reply.Error (refusalOf x r n)) (record
+    { code = wire-small r n (code-small s x r); number = named-in x read n })
 
-unchanged : (s : Session) (x : Frame) (buffer : List ℕ) (n : ℕ) (reply : Reply) → Unchanged s (stepBy x buffer (refused s n reply))
+unchanged : (s : Session) (x : Frame) (buffer : List ℕ) (n : ℕ) (reply : Reply) →
+    Unchanged s (stepBy x buffer (refused s n reply))
 unchanged s x buffer n reply = record { session = refl; columns = refl; first = refl; count = refl }
 
 -- up to a reason nothing is written
-below : (P : Reply → Type 0) (n : ℕ) {last : ℕ} (y : Reply) → n ≤ last → P Reply.Nothing → P (cond (leb n last) Reply.Nothing y)
+below : (P : Reply → Type 0) (n : ℕ) {last : ℕ} (y : Reply) → n ≤ last → P Reply.Nothing →
+    P (cond (leb n last) Reply.Nothing y)
 below P n {last} y h p = rw (le-leb n last h) p
 
 module _ (s : Session) (x : Frame) (r : Report) (buffer : List ℕ) (read : ReadIn x) (room : short buffer ≡ false) where
@@ -134,7 +145,8 @@ module _ (s : Session) (x : Frame) (r : Report) (buffer : List ℕ) (read : Read
   fits : length (replyBytes error) ≤ length buffer
   fits = le-trans (error-fits s x r read) (ltb-false (length buffer) minBuffer room)
 
-  replies : (bytes : List ℕ) → bytes ≡ replyBytes error → Replies bytes buffer (stepBy x buffer (refused s reason error))
+  replies : (bytes : List ℕ) → bytes ≡ replyBytes error →
+      Replies bytes buffer (stepBy x buffer (refused s reason error))
   replies bytes e =
       record {
         reply = ap length (sym e);

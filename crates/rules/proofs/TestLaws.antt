@@ -1,4 +1,5 @@
--- Lists of tests: what holds of every reason in a list holds of the first one given, and where none is given no test holds.
+-- Lists of tests: what holds of every reason in a list holds of the first one given, and where none is given no test
+-- holds.
 -- Assumes nothing.
 use Prim.Native.Nat.{ℕ}
 use native.Mathlib.Omega.{arith}
@@ -36,6 +37,7 @@ accepted-none low (t ∷ ts) h e = go (t .holds) refl (accepted-none (t .reason)
     l : (ltb low (t .reason) ≡ true) × (rises (t .reason) ts ≡ true)
     l = and-true (ltb low (t .reason)) (rises (t .reason) ts) h
 
-    go : (b : Bool) → t .holds ≡ b → (firstOf ts ≡ 0 → NoneHolds ts) → cond b (t .reason) (firstOf ts) ≡ 0 → (t .holds ≡ false) × NoneHolds ts
+    go : (b : Bool) → t .holds ≡ b → (firstOf ts ≡ 0 → NoneHolds ts) → cond b (t .reason) (firstOf ts) ≡ 0 →
+        (t .holds ≡ false) × NoneHolds ts
     go true f more g = absurd (omega (arith, g, ltb-true low (t .reason) (l .0)))
     go false f more g = (f, more g)

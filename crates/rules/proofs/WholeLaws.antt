@@ -29,7 +29,12 @@ module _ (s : Session) (frame : List ℕ) (r : Report) (buffer : List ℕ) {kind
       × (minBuffer ≤ length buffer → stepOf s frame r buffer .answer .used ≡ length frame)
   step-whole =
       let x = frameOf frame in
-      let h = step-has (λ y. (y .answer .reason ≡ Reason.notAllThere → ⊥) × (y .answer .reason ≡ Reason.badLength → ⊥)) s x r buffer
+      let h = step-has (λ y. (y .answer .reason ≡ Reason.notAllThere → ⊥) ×
+      (y .answer .reason ≡ Reason.badLength → ⊥)) s x r buffer
       (λ _. (λ f. omega arith, λ f. omega arith)) (λ _ _ _ _. (λ f. omega arith, λ f. omega arith))
-      (λ _ some. (λ f. not-low (omega arith) some, λ f. not-low (omega arith) some)) in
-      (h .0, h .1, λ room. ap (λ o. o .answer .used) (step-outcome s x r buffer (frames-are-read frame) room) ∙ whole-used frame e refl)
+      (λ _ some. (λ f. not-low (omega arith) some, λ f. not-low (omega arith) some)) in (
+        h .0,
+        h .1,
+        λ room. ap (λ o. o .answer .used) (step-outcome s x r buffer (frames-are-read frame) room)
+            ∙ whole-used frame e refl,
+      )

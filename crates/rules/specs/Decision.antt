@@ -6,7 +6,8 @@ use Rattle.protocol.specs.Client.{fetch}
 use Rattle.protocol.specs.Reason as Reason
 use Rattle.message.specs.Request.{stmtOf, cursorOf, rowsOf, argsOf}
 use Rattle.message.specs.declared.request.Request.{Request}
-use Rattle.message.specs.declared.request.Request.the-variants.{Reset, SessionClose, Prepare, Execute, Deallocate, Open, Close, Fetch}
+use Rattle.message.specs.declared.request.Request.the-variants.{Reset, SessionClose, Prepare, Execute, Deallocate, Open}
+use Rattle.message.specs.declared.request.Request.the-variants.{Close, Fetch}
 use Rattle.message.specs.declared.request.Frame.{Frame}
 use Rattle.session.specs.Session.{Session}
 use Rattle.session.specs.Tables as Tables

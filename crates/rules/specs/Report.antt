@@ -3,7 +3,8 @@ use Prim.Native.Nat.{ℕ}
 use mathlib.Core.Bool.{Bool, true, not, _&&_, _||_}
 use lib.Dec.{eqb, leb}
 use Rattle.message.specs.declared.request.Request.{Request}
-use Rattle.message.specs.declared.request.Request.the-variants.{Reset, SessionClose, Prepare, Execute, Deallocate, Open, Close, Fetch}
+use Rattle.message.specs.declared.request.Request.the-variants.{Reset, SessionClose, Prepare, Execute, Deallocate, Open}
+use Rattle.message.specs.declared.request.Request.the-variants.{Close, Fetch}
 use Rattle.session.specs.Sound.{maxNumber, maxPlaceholders}
 use Rattle.rules.specs.declared.Report.{Report}
 

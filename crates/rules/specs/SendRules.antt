@@ -8,7 +8,8 @@ use Rattle.protocol.specs.Reason as Reason
 use Rattle.message.specs.Head.{lengthBytes, lengthOf}
 use Rattle.message.specs.Frame.{frameOf}
 use Rattle.message.specs.declared.request.Request.{Request}
-use Rattle.message.specs.declared.request.Request.the-variants.{Reset, SessionClose, Prepare, Execute, Deallocate, Open, Close, Fetch}
+use Rattle.message.specs.declared.request.Request.the-variants.{Reset, SessionClose, Prepare, Execute, Deallocate, Open}
+use Rattle.message.specs.declared.request.Request.the-variants.{Close, Fetch}
 use Rattle.message.specs.declared.request.Frame.{Frame}
 use Rattle.session.specs.Session.{Session}
 use Rattle.session.specs.Tables.{liveCursor}

@@ -112,7 +112,8 @@ OwnPlace =
     (isLiveStmt (liveStmt s (stmtOf q)) ≡ true → stmtsFull s q ≡ false)
     × (isLiveCursor (liveCursor s (cursorOf q)) ≡ true → cursorsFull s q ≡ false)
 
--- without fetch_rows an Open sends no row ("absent means 0") and a Fetch all that remain ("absent meaning all") (S7, S8)
+-- without fetch_rows an Open sends no row ("absent means 0") and a Fetch all that remain ("absent meaning all") (S7,
+-- S8)
 abbrev pub SendsUnasked : Type 0
 SendsUnasked =
     (s : Session) (r : Report) →

@@ -34,5 +34,6 @@ pub fixed-bad : (k : ℕ) (s : List ℕ) (at : ℕ) → length s < at + k → Ba
 fixed-bad k s at h = simp (lt-leb (at + k) (length s) h)
 
 -- the value is there
-pub fixed-whole : (k : ℕ) (s : List ℕ) (at v : ℕ) → at + k ≤ length s → v ≡ little k s at → Number v (at + k) ≡ fixedAt k s at
+pub fixed-whole : (k : ℕ) (s : List ℕ) (at v : ℕ) → at + k ≤ length s → v ≡ little k s at →
+    Number v (at + k) ≡ fixedAt k s at
 fixed-whole k s at v h e = simp (le-leb (at + k) (length s) h, e)

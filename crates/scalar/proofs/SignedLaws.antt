@@ -27,7 +27,8 @@ pub high-bits : (x : ℕ) → 2 ^ 63 ≤ x → x < 2 ^ 64 → negsuc 0 -ℤ toZ 
 high-bits x h l =
     let k = 2 ^ 64 - 1 - x in
     let e : 2 ^ 64 - suc k ≡ x = omega arith in
-    ap (λ (z : ℤ). negsuc 0 -ℤ z) (toZ-pos w64 k (omega arith)) ∙ flip-pos k ∙ sym (toZ-neg w64 k (omega arith)) ∙ ap (toZ w64) e
+    ap (λ (z : ℤ). negsuc 0 -ℤ z) (toZ-pos w64 k (omega arith)) ∙ flip-pos k ∙ sym (toZ-neg w64 k (omega arith))
+    ∙ ap (toZ w64) e
 
 -- a number from 0 on is its own bits
 pub plain : (y : ℤ) → SFits w64 y → leZ (pos 0) y ≡ true → T (nonNeg y) × Fits w64 (natAbs y) × (natAbs y ≡ ofZ w64 y)

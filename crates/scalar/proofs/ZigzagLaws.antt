@@ -33,7 +33,8 @@ pub zigzag-both-ways : ZigzagBothWays
 zigzag-both-ways = record { back = unzigzag-zigzag; forth = zigzag-unzigzag; samples = refl }
 
 -- decoding: the bits b are n / 2, minus n where n is odd
-pub decode-even : (n b : ℕ) → n < 2 ^ 64 → b < 2 ^ 64 → (n % 2 ≡ 1 → ⊥) → (b + 0) % 2 ^ 64 ≡ n / 2 → toZ w64 b ≡ unzigzag n
+pub decode-even : (n b : ℕ) → n < 2 ^ 64 → b < 2 ^ 64 → (n % 2 ≡ 1 → ⊥) → (b + 0) % 2 ^ 64 ≡ n / 2 →
+    toZ w64 b ≡ unzigzag n
 decode-even n b h l t e = toZ-pos w64 b (omega arith) ∙ sym (unzigzag-even n b (omega arith))
 
 pub decode-odd : (n b : ℕ) → n < 2 ^ 64 → b < 2 ^ 64 → n % 2 ≡ 1 → (b + n) % 2 ^ 64 ≡ n / 2 → toZ w64 b ≡ unzigzag n
@@ -47,6 +48,7 @@ module _ (b t : ℕ) (twice : t ≡ (b + b) % 2 ^ 64) where
   encode-low (pos k) f e h = omega arith
   encode-low (negsuc k) f e h = omega arith
 
-  pub encode-high : (z : ℤ) (r : ℕ) → SFits w64 z → b ≡ ofZ w64 z → 2 ^ 63 ≤ b → r < 2 ^ 64 → (r + t) % 2 ^ 64 ≡ 2 ^ 64 - 1 → r ≡ zigzag z
+  pub encode-high : (z : ℤ) (r : ℕ) → SFits w64 z → b ≡ ofZ w64 z → 2 ^ 63 ≤ b → r < 2 ^ 64 →
+      (r + t) % 2 ^ 64 ≡ 2 ^ 64 - 1 → r ≡ zigzag z
   encode-high (pos k) r f e h l s = omega arith
   encode-high (negsuc k) r f e h l s = omega arith

@@ -1,4 +1,5 @@
--- Where at most one entry passes a test, a change of the first that passes is a change of all that pass. Assumes nothing.
+-- Where at most one entry passes a test, a change of the first that passes is a change of all that pass. Assumes
+-- nothing.
 use Prim.Native.Nat.{ℕ, zero, suc, _≤_}
 use native.Mathlib.Omega.{arith}
 use mathlib.Core.Bool.{Bool, true, false, cond}
@@ -22,7 +23,8 @@ module _ {A : Type 0} (p : A → Bool) (f : A → A) where
 
   module _ (d : A) where
     -- an entry put where the only one that passes stands
-    pub put-changed : (y : A) (xs : List A) (i : ℕ) → howMany p xs ≤ 1 → Passes p d xs i → set (changed p f xs) i y ≡ set xs i y
+    pub put-changed : (y : A) (xs : List A) (i : ℕ) → howMany p xs ≤ 1 → Passes p d xs i →
+        set (changed p f xs) i y ≡ set xs i y
     unfolding sumBy
     put-changed y [] i once l = refl
     put-changed y (x ∷ xs) zero once l = ap (λ ys. y ∷ ys) (none-changed xs (omega (arith, ap one (l .passing))))
@@ -37,7 +39,8 @@ module _ {A : Type 0} (p : A → Bool) (f : A → A) where
         go false h more = ap (λ ys. x ∷ ys) (more (omega (arith, ap one h)))
 
     -- the change of the only one that passes, made where it stands
-    at-changed : (xs : List A) (i : ℕ) → howMany p xs ≤ 1 → Passes p d xs i → set xs i (f (getD xs i d)) ≡ changed p f xs
+    at-changed : (xs : List A) (i : ℕ) → howMany p xs ≤ 1 → Passes p d xs i →
+        set xs i (f (getD xs i d)) ≡ changed p f xs
     unfolding sumBy
     at-changed [] i once l = refl
     at-changed (x ∷ xs) zero once l = go (p x) (l .passing)

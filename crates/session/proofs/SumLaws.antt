@@ -68,7 +68,8 @@ module _ {A : Type 0} where
   sum-at w d (x ∷ xs) (suc i) h = omega (arith, sum-at w d xs i (omega arith))
 
   -- an entry x put at i weighs what it weighs, and the entry that was there does not any more
-  pub sum-set : (w : A → ℕ) (x d : A) (xs : List A) (i : ℕ) → i < length xs → sumBy w (set xs i x) + w (getD xs i d) ≡ sumBy w xs + w x
+  pub sum-set : (w : A → ℕ) (x d : A) (xs : List A) (i : ℕ) → i < length xs →
+      sumBy w (set xs i x) + w (getD xs i d) ≡ sumBy w xs + w x
   unfolding sumBy
   sum-set w x d [] i h = absurd (omega arith)
   sum-set w x d (y ∷ xs) zero h = omega arith
@@ -99,7 +100,8 @@ module _ {A : Type 0} where
 
   -- what passes is counted
   pub counted : (p : A → Bool) (d : A) (xs : List A) (i : ℕ) → Passes p d xs i → 1 ≤ howMany p xs
-  counted p d xs i l = subst (λ (b : Bool). one b ≤ howMany p xs) (l .passing) (sum-at (λ x. one (p x)) d xs i (l .inside))
+  counted p d xs i l = subst (λ (b : Bool). one b ≤ howMany p xs) (l .passing)
+      (sum-at (λ x. one (p x)) d xs i (l .inside))
 
   module _ (p : A → Bool) (f : A → A) where
     -- a property of a changed entry, whether it passed or not
@@ -110,22 +112,26 @@ module _ {A : Type 0} where
         go true e = t e
         go false e = g e
 
-    pub sum-changed-le : (w : A → ℕ) → ((x : A) → p x ≡ true → w (f x) ≤ w x) → (xs : List A) → sumBy w (changed p f xs) ≤ sumBy w xs
+    pub sum-changed-le : (w : A → ℕ) → ((x : A) → p x ≡ true → w (f x) ≤ w x) → (xs : List A) →
+        sumBy w (changed p f xs) ≤ sumBy w xs
     sum-changed-le w h xs =
         rw (sum-map w (change p f) xs)
         (sum-le (λ x. w (change p f x)) w (λ x. change-is (λ y. w y ≤ w x) x (h x) (λ e. le-refl (w x))) xs)
 
-    pub sum-changed-same : (w : A → ℕ) → ((x : A) → p x ≡ true → w (f x) ≡ w x) → (xs : List A) → sumBy w (changed p f xs) ≡ sumBy w xs
+    pub sum-changed-same : (w : A → ℕ) → ((x : A) → p x ≡ true → w (f x) ≡ w x) → (xs : List A) →
+        sumBy w (changed p f xs) ≡ sumBy w xs
     sum-changed-same w h xs =
         sum-map w (change p f) xs
         ∙ sum-same (λ x. w (change p f x)) w (λ x. change-is (λ y. w y ≡ w x) x (h x) (λ e. refl)) xs
 
     -- nothing weighs where what passes and what does not weigh nothing
-    pub sum-changed-none : (w : A → ℕ) → ((x : A) → p x ≡ true → w (f x) ≡ 0) → ((x : A) → p x ≡ false → w x ≡ 0) → (xs : List A) → sumBy w (changed p f xs) ≡ 0
+    pub sum-changed-none : (w : A → ℕ) → ((x : A) → p x ≡ true → w (f x) ≡ 0) → ((x : A) → p x ≡ false → w x ≡ 0) →
+        (xs : List A) → sumBy w (changed p f xs) ≡ 0
     sum-changed-none w h g xs =
         sum-map w (change p f) xs ∙ sum-none (λ x. w (change p f x)) (λ x. change-is (λ y. w y ≡ 0) x (h x) (g x)) xs
 
-    pub all-changed : (P : A → Type 0) → ((x : A) → p x ≡ true → P x → P (f x)) → (xs : List A) → All P xs → All P (changed p f xs)
+    pub all-changed : (P : A → Type 0) → ((x : A) → p x ≡ true → P x → P (f x)) → (xs : List A) → All P xs →
+        All P (changed p f xs)
     unfolding All
     all-changed P h [] l = tt
     all-changed P h (x ∷ xs) l = (change-is P x (λ e. h x e (l .0)) (λ e. l .0), all-changed P h xs (l .1))
@@ -190,7 +196,8 @@ module _ {A : Type 0} (live : A → Bool) (num : A → ℕ) where
         facts = let h = and-true _ _ (l .passing) in (h .0, eqb-true _ _ (h .1))
 
         old : has k (getD xs i d) ≡ has k x
-        old = ap (λ b. b && eqb (num (getD xs i d)) k) (facts .0 ∙ sym lives) ∙ ap (λ (n : ℕ). live x && eqb n k) (facts .1)
+        old = ap (λ b. b && eqb (num (getD xs i d)) k) (facts .0 ∙ sym lives)
+            ∙ ap (λ (n : ℕ). live x && eqb n k) (facts .1)
     counts-at k i (new l none) =
         more (omega (arith, sum-set (λ y. one (has k y)) x d xs i (l .inside), ap one old)) none
       where
@@ -227,7 +234,8 @@ module _ {A : Type 0} (live : A → Bool) (num : A → ℕ) where
 module _ {A : Type 0} (live : A → Bool) (num : A → ℕ) (xs : List A) where
   live-or-free : howMany live xs + howMany (λ y. not (live y)) xs ≡ length xs
   live-or-free =
-      sym (sum-add (λ y. one (live y)) (λ y. one (not (live y))) xs) ∙ sum-ones (λ y. one (live y) + one (not (live y))) each xs
+      sym (sum-add (λ y. one (live y)) (λ y. one (not (live y))) xs)
+      ∙ sum-ones (λ y. one (live y) + one (not (live y))) each xs
     where
       each : (y : A) → one (live y) + one (not (live y)) ≡ 1
       each y = one-of (live y)

@@ -13,12 +13,18 @@ use Rattle.session.specs.declared.Stmt.{Stmt}
 use Rattle.session.specs.declared.Cursor.{Cursor}
 use Rattle.session.specs.Session.{Session, withStmts, withCursors, withClosed, isClosed}
 use Rattle.session.specs.Lists.{put, entryAt, changed, always, howMany}
-use Rattle.session.specs.Entry.{noStmt, noCursor, newStmt, newCursor, isLiveStmt, isLiveCursor, isStmt, isCursor, onStmt, raise}
-use Rattle.session.specs.Tables.{maxStmts, maxCursors, fresh, stmtAt, cursorOn, stmtPlace, cursorPlace, stmtCount, cursorCount, liveStmt, carried, ends, endedBy, ended, endedOn, prepared, freed, opened, fetched, reset, closedNow}
+use Rattle.session.specs.Entry.{noStmt, noCursor, newStmt, newCursor, isLiveStmt, isLiveCursor, isStmt, isCursor}
+use Rattle.session.specs.Entry.{onStmt, raise}
+use Rattle.session.specs.Tables.{maxStmts, maxCursors, fresh, stmtAt, cursorOn, stmtPlace, cursorPlace, stmtCount}
+use Rattle.session.specs.Tables.{cursorCount, liveStmt, carried, ends, endedBy, ended, endedOn, prepared, freed}
+use Rattle.session.specs.Tables.{opened, fetched, reset, closedNow}
 use Rattle.session.specs.Sound.{maxNumber, maxPlaceholders, ProperStmt, ProperCursor, Sound, Openable}
 use Rattle.session.proofs.OnceLaws.{first-changed}
 use Rattle.session.proofs.PlaceLaws.{found, none-from}
-use Rattle.session.proofs.SumLaws.{one, sum-le, sum-add, sum-set, sum-put-le, length-put, sum-replicate, count-le, counted, sum-changed-le, sum-changed-same, sum-changed-none, all-changed, all-put, all-replicate, and-true, has-other, put-more, put-once, no-place-full, full-no-place}
+use Rattle.session.proofs.SumLaws.{one, sum-le, sum-add, sum-set, sum-put-le, length-put, sum-replicate}
+use Rattle.session.proofs.SumLaws.{count-le, counted, sum-changed-le, sum-changed-same, sum-changed-none}
+use Rattle.session.proofs.SumLaws.{all-changed, all-put, all-replicate, and-true, has-other, put-more, put-once}
+use Rattle.session.proofs.SumLaws.{no-place-full, full-no-place}
 
 empty-stmt : ProperStmt noStmt
 empty-stmt = record { empty = λ e. refl; flagged = omega arith; id = omega arith; placeholders = omega arith }
@@ -77,14 +83,16 @@ pub stmts-full : (s : Session) (id : ℕ) → stmtPlace s id ≡ Place.Nothing �
     (howMany (isStmt id) (s .stmts) ≡ 0) × (stmtCount s ≡ length (s .stmts))
 stmts-full s id = no-place-full isLiveStmt (λ t. t .id) (s .stmts) id
 
-pub full-stmts : (s : Session) (id : ℕ) → howMany (isStmt id) (s .stmts) ≡ 0 → stmtCount s ≡ length (s .stmts) → stmtPlace s id ≡ Place.Nothing
+pub full-stmts : (s : Session) (id : ℕ) → howMany (isStmt id) (s .stmts) ≡ 0 → stmtCount s ≡ length (s .stmts) →
+    stmtPlace s id ≡ Place.Nothing
 full-stmts s id = full-no-place isLiveStmt (λ t. t .id) (s .stmts) id
 
 pub cursors-full : (s : Session) (id : ℕ) → cursorPlace s id ≡ Place.Nothing →
     (howMany (isCursor id) (s .cursors) ≡ 0) × (cursorCount s ≡ length (s .cursors))
 cursors-full s id = no-place-full isLiveCursor (λ c. c .id) (s .cursors) id
 
-pub full-cursors : (s : Session) (id : ℕ) → howMany (isCursor id) (s .cursors) ≡ 0 → cursorCount s ≡ length (s .cursors) → cursorPlace s id ≡ Place.Nothing
+pub full-cursors : (s : Session) (id : ℕ) → howMany (isCursor id) (s .cursors) ≡ 0 →
+    cursorCount s ≡ length (s .cursors) → cursorPlace s id ≡ Place.Nothing
 full-cursors s id = full-no-place isLiveCursor (λ c. c .id) (s .cursors) id
 
 -- the numbers of a cursor that is opened
@@ -96,7 +104,8 @@ pub record Small (id stmt rows : ℕ) : Type 0 where
 -- an ending leaves no cursor that passes
 pub none-on : (s : Session) (stmt : ℕ) → howMany (onStmt stmt) (ends (onStmt stmt) (s .cursors)) ≡ 0
 none-on s stmt =
-    sum-changed-none (onStmt stmt) (λ c. noCursor) (λ c. one (onStmt stmt c)) (λ c h. refl) (λ c h. ap one h) (s .cursors)
+    sum-changed-none (onStmt stmt) (λ c. noCursor) (λ c. one (onStmt stmt c)) (λ c h. refl) (λ c h. ap one h)
+    (s .cursors)
 
 module _ {s : Session} (sound : Sound s) where
   -- any ending
@@ -106,7 +115,8 @@ module _ {s : Session} (sound : Sound s) where
         stmtPlaces = sound .stmtPlaces;
         cursorPlaces = length-map (s .cursors) _ ∙ sound .cursorPlaces;
         stmtsProper = sound .stmtsProper;
-        cursorsProper = all-changed p (λ c. noCursor) ProperCursor (λ c e l. empty-cursor) (s .cursors) (sound .cursorsProper);
+        cursorsProper = all-changed p (λ c. noCursor) ProperCursor (λ c e l. empty-cursor) (s .cursors)
+            (sound .cursorsProper);
         stmtOnce = sound .stmtOnce;
         cursorOnce = λ k. le-trans (ends-less p (isCursor k) refl (s .cursors)) (sound .cursorOnce k);
         carries = λ k. le-trans (ends-less p (onStmt k) refl (s .cursors)) (sound .carries k);
@@ -121,7 +131,8 @@ module _ {s : Session} (sound : Sound s) where
   endedOn-sound stmt = endedBy-sound (onStmt stmt)
 
   -- a statement is stored in an open session
-  module _ (id placeholders : ℕ) (unclosed : isClosed s ≡ false) (few : placeholders ≤ maxPlaceholders) (small : id ≤ maxNumber) where
+  module _ (id placeholders : ℕ) (unclosed : isClosed s ≡ false) (few : placeholders ≤ maxPlaceholders)
+      (small : id ≤ maxNumber) where
     abbrev stored : Stmt
     stored = newStmt id placeholders
 
@@ -165,7 +176,8 @@ module _ {s : Session} (sound : Sound s) where
         record {
           stmtPlaces = length-map (s .stmts) _ ∙ sound .stmtPlaces;
           cursorPlaces = sound .cursorPlaces;
-          stmtsProper = all-changed (isStmt id) (λ t. noStmt) ProperStmt (λ t e l. empty-stmt) (s .stmts) (sound .stmtsProper);
+          stmtsProper = all-changed (isStmt id) (λ t. noStmt) ProperStmt (λ t e l. empty-stmt) (s .stmts)
+              (sound .stmtsProper);
           cursorsProper = sound .cursorsProper;
           stmtOnce = λ k. le-trans (fewer (isStmt k) refl) (sound .stmtOnce k);
           cursorOnce = sound .cursorOnce;
@@ -205,7 +217,8 @@ module _ {s : Session} (sound : Sound s) where
           stmtPlaces = sound .stmtPlaces;
           cursorPlaces = length-map (s .cursors) _ ∙ sound .cursorPlaces;
           stmtsProper = sound .stmtsProper;
-          cursorsProper = all-changed (isCursor id) (raise count) ProperCursor raise-proper (s .cursors) (sound .cursorsProper);
+          cursorsProper = all-changed (isCursor id) (raise count) ProperCursor raise-proper (s .cursors)
+              (sound .cursorsProper);
           stmtOnce = sound .stmtOnce;
           cursorOnce = λ k. omega (arith, sound .cursorOnce k, same-count (isCursor k) (λ c. refl));
           carries = λ k. omega (arith, sound .carries k, same-count (onStmt k) (λ c. refl));
@@ -218,10 +231,12 @@ module _ {s : Session} (sound : Sound s) where
 
   -- everything ends
   no-stmt : (q : Stmt → Bool) → q noStmt ≡ false → howMany q (changed always (λ t. noStmt) (s .stmts)) ≡ 0
-  no-stmt q e = sum-changed-none always (λ t. noStmt) (λ t. one (q t)) (λ t h. ap one e) (λ t h. absurd (true≢false h)) (s .stmts)
+  no-stmt q e = sum-changed-none always (λ t. noStmt) (λ t. one (q t)) (λ t h. ap one e)
+      (λ t h. absurd (true≢false h)) (s .stmts)
 
   no-cursor : (q : Cursor → Bool) → q noCursor ≡ false → howMany q (ends always (s .cursors)) ≡ 0
-  no-cursor q e = sum-changed-none always (λ c. noCursor) (λ c. one (q c)) (λ c h. ap one e) (λ c h. absurd (true≢false h)) (s .cursors)
+  no-cursor q e = sum-changed-none always (λ c. noCursor) (λ c. one (q c)) (λ c h. ap one e)
+      (λ c h. absurd (true≢false h)) (s .cursors)
 
   emptied-sound : (closed : ℕ) → closed ≤ 1 → Sound (withClosed (reset s) closed)
   emptied-sound closed h =
@@ -229,7 +244,8 @@ module _ {s : Session} (sound : Sound s) where
         stmtPlaces = length-map (s .stmts) _ ∙ sound .stmtPlaces;
         cursorPlaces = length-map (s .cursors) _ ∙ sound .cursorPlaces;
         stmtsProper = all-changed always (λ t. noStmt) ProperStmt (λ t e l. empty-stmt) (s .stmts) (sound .stmtsProper);
-        cursorsProper = all-changed always (λ c. noCursor) ProperCursor (λ c e l. empty-cursor) (s .cursors) (sound .cursorsProper);
+        cursorsProper = all-changed always (λ c. noCursor) ProperCursor (λ c e l. empty-cursor) (s .cursors)
+            (sound .cursorsProper);
         stmtOnce = λ k. omega (arith, no-stmt (isStmt k) refl);
         cursorOnce = λ k. omega (arith, no-cursor (isCursor k) refl);
         carries = λ k. omega (arith, no-cursor (onStmt k) refl);
@@ -266,7 +282,8 @@ module _ {s : Session} (sound : Sound s) where
             let it : carried s stmt ≡ c = ap (λ x. entryAt (s .cursors) x noCursor) h in
             let alive : isLiveCursor c ≡ true = and-true (isLiveCursor c) (eqb (c .stmt) stmt) (l .passing) .0 in
             let named : c .id ≡ id = sym (ap (λ y. y .id) it) ∙ can .sole (ap isLiveCursor it ∙ alive) in
-            let own : other c ≡ false = ap (λ b. b && not (eqb (c .id) id)) (l .passing) ∙ ap not (eq-eqb (c .id) id named) in
+            let own : other c ≡ false = ap (λ b. b && not (eqb (c .id) id)) (l .passing)
+            ∙ ap not (eq-eqb (c .id) id named) in
             omega (
               arith,
               sum-set (λ y. one (onStmt stmt y)) noCursor noCursor (s .cursors) i (l .inside),
@@ -304,7 +321,13 @@ module _ {s : Session} (sound : Sound s) where
         subst (λ (n : ℕ). howMany (onStmt n) now ≤ howMany (isStmt n) (s .stmts)) (eqb-true stmt k e)
         (le-trans one-on (stmt-live s stmt (can .live)))
     still-on k false e =
-        omega (arith, sum-put-le (λ c. one (onStmt k c)) new (s .cursors) (cursorPlace s id), ap one e, sound .carries k)
+        omega (
+          arith,
+          sum-put-le (λ c. one (onStmt k c)) new (s .cursors) (cursorPlace s id),
+          ap one e,
+          sound .carries
+              k,
+        )
 
     pub opened-sound : Sound (opened s id stmt rows sent)
     opened-sound =
@@ -327,7 +350,13 @@ module _ {s : Session} (sound : Sound s) where
           cursorOnce = once;
           carries = λ k. still-on k (eqb stmt k) refl;
           flagged = sound .flagged;
-          shut = λ e. absurd (omega (arith, sound .shut e .0, stmt-live s stmt (can .live), count-le (isStmt stmt) isLiveStmt (λ t h. and-true (isLiveStmt t) (eqb (t .id) stmt) h .0) (s .stmts)));
+          shut = λ e. absurd (omega (
+            arith,
+            sound .shut e .0,
+            stmt-live s stmt (can .live),
+            count-le (isStmt stmt)
+                isLiveStmt (λ t h. and-true (isLiveStmt t) (eqb (t .id) stmt) h .0) (s .stmts),
+          ));
         }
 
 module _ {s : Session} (sound : Sound s) where

@@ -9,7 +9,8 @@ use Rattle.session.specs.declared.Cursor.{Cursor}
 use Rattle.session.specs.declared.Place.{Place}
 use Rattle.session.specs.Session.{Session, withStmts, withCursors, withClosed}
 use Rattle.session.specs.Lists.{first, put, entryAt, changed, always, sumBy, howMany, orPlace}
-use Rattle.session.specs.Entry.{noStmt, noCursor, newStmt, newCursor, isStmt, freeStmt, isCursor, onStmt, freeCursor, raise, owes, isLiveStmt, isLiveCursor}
+use Rattle.session.specs.Entry.{noStmt, noCursor, newStmt, newCursor, isStmt, freeStmt, isCursor, onStmt}
+use Rattle.session.specs.Entry.{freeCursor, raise, owes, isLiveStmt, isLiveCursor}
 
 abbrev pub maxStmts : ℕ
 maxStmts = 64

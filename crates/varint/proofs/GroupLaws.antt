@@ -74,7 +74,8 @@ module _ {s : List ℕ} {at value weight i k : ℕ} (r : Reading s at value weig
       ∙ ap low64
       (sym (ap (onto value weight) (one-more (10 - k) refl ∙ groups-last (9 - k) s i h b)) ∙ r .whole)
 
-  pub goes-on : i < length s → 128 ≤ getD s i 0 → Reading s at (value + getD s i 0 % 128 * weight) (weight * 128) (i + 1) (k + 1)
+  pub goes-on : i < length s → 128 ≤ getD s i 0 → Reading s at (value + getD s i 0 % 128 * weight) (weight * 128)
+      (i + 1) (k + 1)
   goes-on h b =
       record {
         few = omega arith;
@@ -111,15 +112,18 @@ module _ (low : ℕ) (s : List ℕ) (at : ℕ) (in-s : at < length s) where
       ap (λ (x : Varint). low64 (onto low (2 ^ 63) x))
       (sym (groups-more 0 s at in-s h ∙ ap (onto (getD s at 0 % 128) 128) (groups-none s (at + 1))))
 
-  pub tenth-last : getD s at 0 < 128 → low < 2 ^ 63 → Number (low + getD s at 0 % 2 * 2 ^ 63) (at + 1) ≡ low64 (onto low (2 ^ 63) (groups 1 s at))
+  pub tenth-last : getD s at 0 < 128 → low < 2 ^ 63 →
+      Number (low + getD s at 0 % 2 * 2 ^ 63) (at + 1) ≡ low64 (onto low (2 ^ 63) (groups 1 s at))
   tenth-last h l =
       ap (λ (m : ℕ). Number m (at + 1)) (omega arith)
       ∙ ap (λ (x : Varint). low64 (onto low (2 ^ 63) x)) (sym (groups-last 0 s at in-s h))
 
 -- a varint of one byte, and none at the end of the bytes
-pub varint-one : (s : List ℕ) (at : ℕ) → at < length s → getD s at 0 < 128 → Number (getD s at 0) (at + 1) ≡ varintAt s at
+pub varint-one : (s : List ℕ) (at : ℕ) → at < length s → getD s at 0 < 128 →
+    Number (getD s at 0) (at + 1) ≡ varintAt s at
 varint-one s at h b =
-    ap (λ (m : ℕ). Number m (at + 1)) (sym (mod-eq-of-lt {m = 2 ^ 64} (omega arith))) ∙ ap low64 (sym (groups-last 9 s at h b))
+    ap (λ (m : ℕ). Number m (at + 1)) (sym (mod-eq-of-lt {m = 2 ^ 64} (omega arith)))
+    ∙ ap low64 (sym (groups-last 9 s at h b))
 
 pub varint-none : (s : List ℕ) (at : ℕ) → length s ≤ at → Bad ≡ varintAt s at
 varint-none s at h = ap low64 (sym (groups-end 10 s at h))

@@ -47,7 +47,8 @@ shortest-at-most (suc n) (suc m) v h =
 
 -- at least one byte, and at most the n that are allowed
 pub shortest-some : (n v : ℕ) → 0 < length (shortest (suc n) v)
-shortest-some n v = below-or-not v (λ a. rw (shortest-last n v a) (omega arith)) (λ a. rw (shortest-more n v a) (omega arith))
+shortest-some n v = below-or-not v (λ a. rw (shortest-last n v a) (omega arith))
+    (λ a. rw (shortest-more n v a) (omega arith))
 
 pub shortest-within : (n v : ℕ) → length (shortest n v) ≤ n
 unfolding shortest
@@ -63,7 +64,8 @@ shortest-bytes zero v k = omega arith
 shortest-bytes (suc n) v zero =
     below-or-not v (λ a. rw (shortest-last n v a) (omega arith)) (λ a. rw (shortest-more n v a) (omega arith))
 shortest-bytes (suc n) v (suc k) =
-    below-or-not v (λ a. rw (shortest-last n v a) (omega arith)) (λ a. rw (shortest-more n v a) (shortest-bytes n (v / 128) k))
+    below-or-not v (λ a. rw (shortest-last n v a) (omega arith))
+    (λ a. rw (shortest-more n v a) (shortest-bytes n (v / 128) k))
 
 -- enough bytes for the number are no limit
 shortest-same : (m j k v : ℕ) → v < 128 ^ suc m → m < j → m < k → shortest j v ≡ shortest k v

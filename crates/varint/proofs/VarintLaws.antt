@@ -1,4 +1,5 @@
--- Reading and writing a varint together: what is written reads back, and no varint of the number is shorter. Assumes nothing.
+-- Reading and writing a varint together: what is written reads back, and no varint of the number is shorter. Assumes
+-- nothing.
 use Prim.Native.Nat.{ℕ, zero, suc, _+_, _*_, _/_, _%_, _^_, _≤_, _<_}
 use mathlib.Core.Path.{_≡_, refl, sym, ap, _∙_}
 use mathlib.Core.Bool.{cond}
@@ -16,11 +17,13 @@ use Rattle.varint.specs.Varint.{groups, onto, low64, varintAt}
 use Rattle.varint.specs.Shortest.{shortest, varintBytes}
 use Rattle.varint.specs.VarintRules.{ReadsBack, NoneShorter}
 use Rattle.varint.proofs.GroupLaws.{groups-last, groups-more}
-use Rattle.varint.proofs.ShortestLaws.{below-or-not, shortest-last, shortest-more, shortest-at-most, shortest-some, shortest-within, shortest-bytes}
+use Rattle.varint.proofs.ShortestLaws.{below-or-not, shortest-last, shortest-more, shortest-at-most}
+use Rattle.varint.proofs.ShortestLaws.{shortest-some, shortest-within, shortest-bytes}
 
 -- ---- a group at a place
 
--- what is left of a list from a place on begins with a byte: the place is inside, the byte stands there, and the others from the next place on
+-- what is left of a list from a place on begins with a byte: the place is inside, the byte stands there, and the
+-- others from the next place on
 module _ (s : List ℕ) (at b : ℕ) (t : List ℕ) (e : drop at s ≡ b ∷ t) where
   inside : at < length s
   inside = omega (arith, ap length e, length-drop at s)
@@ -45,7 +48,8 @@ groups-back : (n v at : ℕ) (s q : List ℕ) → v < 128 ^ suc n → drop at s 
     groups (suc n) s at ≡ Number v (at + length (shortest (suc n) v))
 groups-back zero v at s q h e = rw (shortest-last 0 v h) (head-last s at v q (rw (shortest-last 0 v h) at e) 0 h)
 groups-back (suc n) v at s q h e =
-    below-or-not v (λ a. rw (shortest-last (suc n) v a) (head-last s at v q (rw (shortest-last (suc n) v a) at e) (suc n) a))
+    below-or-not v (λ a. rw (shortest-last (suc n) v a)
+    (head-last s at v q (rw (shortest-last (suc n) v a) at e) (suc n) a))
     (λ a.
     let e′ = rw (shortest-more (suc n) v a) at e in
     let b = 128 + v % 128 in
@@ -56,11 +60,13 @@ groups-back (suc n) v at s q h e =
     rw (shortest-more (suc n) v a, head-more s at b (rest ++ q) e′ (suc n) (omega arith), back, same, end))
 
 -- wherever it stands in a byte string
-pub reads-there : (v at : ℕ) (s q : List ℕ) → v < 2 ^ 64 → drop at s ≡ varintBytes v ++ q → varintAt s at ≡ Number v (at + length (varintBytes v))
+pub reads-there : (v at : ℕ) (s q : List ℕ) → v < 2 ^ 64 → drop at s ≡ varintBytes v ++ q →
+    varintAt s at ≡ Number v (at + length (varintBytes v))
 reads-there v at s q h e = rw (groups-back 9 v at s q (omega arith) e, mod-eq-of-lt h)
 
 pub reads-back : ReadsBack
-reads-back v p q h = reads-there v (length p) (p ++ varintBytes v ++ q) q h (rw append-assoc (drop-at p (varintBytes v ++ q) (length p) refl))
+reads-back v p q h = reads-there v (length p) (p ++ varintBytes v ++ q) q h
+    (rw append-assoc (drop-at p (varintBytes v ++ q) (length p) refl))
 
 -- ---- none shorter
 

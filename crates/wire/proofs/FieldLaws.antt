@@ -50,7 +50,8 @@ module _ (s : List ℕ) (at b : ℕ) (inside : at < length s) (is : b ≡ getD s
   pub quick-wire : (wire : ℕ) → 8 ≤ b → b % 8 ≡ wire → wire < 6 → fieldOf s (b / 8) wire (at + 1) ≡ fieldAt s at
   quick-wire wire h e w =
       ap (λ (k : ℕ). fieldOf s (b / 8) k (at + 1)) (sym e)
-      ∙ sym (field-tagged s at (Tag.Field (b / 8) (b % 8) (at + 1)) (sym (tag-good b (at + 1) (omega arith) h (omega arith) ∙ ap tagOf one-byte)))
+      ∙ sym (field-tagged s at (Tag.Field (b / 8) (b % 8) (at + 1))
+      (sym (tag-good b (at + 1) (omega arith) h (omega arith) ∙ ap tagOf one-byte)))
 
 -- a tag of one byte
 module _ (s : List ℕ) (at b : ℕ) (inside : at < length s) (is : b ≡ getD s at 0) (short : b < 128) where

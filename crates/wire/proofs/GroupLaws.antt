@@ -35,7 +35,8 @@ pub shut : (s : List ℕ) (at number : ℕ) → groupEnd 0 s at number ≡ Skip.
 unfolding groupEnd
 shut s at number = refl
 
-opened : (depth : ℕ) (s : List ℕ) (at number : ℕ) → 0 < depth → rest depth (length s) s at number ≡ groupEnd depth s at number
+opened : (depth : ℕ) (s : List ℕ) (at number : ℕ) → 0 < depth →
+    rest depth (length s) s at number ≡ groupEnd depth s at number
 unfolding groupEnd
 opened zero s at number h = absurd (omega arith)
 opened (suc d) s at number h =
@@ -46,7 +47,8 @@ starts depth s at number h =
     record { deep = h; most = length s; enough = omega arith; whole = opened depth s at number h }
 
 unroll : (inner : ℕ → ℕ → Skip) (most : ℕ) (s : List ℕ) (p number : ℕ) → 0 < most →
-    groupFields inner most s p number ≡ groupField inner (λ q. groupFields inner (most - 1) s q number) s number (tagAt s p)
+    groupFields inner most s p number ≡ groupField inner (λ q. groupFields inner (most - 1) s q number) s number
+    (tagAt s p)
 unfolding groupFields
 unroll inner zero s p number h = absurd (omega arith)
 unroll inner (suc m) s p number h =
@@ -58,7 +60,8 @@ unfolding groupFields
 fields-end inner zero s p number h = refl
 fields-end inner (suc m) s p number h = rw (tag-end s p h)
 
-pub unended : {depth : ℕ} {s : List ℕ} {at number p : ℕ} → Skipping depth s at number p → length s ≤ p → Skip.Bad ≡ groupEnd depth s at number
+pub unended : {depth : ℕ} {s : List ℕ} {at number p : ℕ} → Skipping depth s at number p → length s ≤ p →
+    Skip.Bad ≡ groupEnd depth s at number
 unended {depth} {s} {at} {number} {p} k h =
     sym (fields-end (λ n q. groupEnd (depth - 1) s q n) (k .most) s p number h) ∙ k .whole
 
@@ -99,7 +102,8 @@ module _ {depth : ℕ} {s : List ℕ} {at number p : ℕ} (k : Skipping depth s 
         tag-inside = rw e (λ h. h .0)
 
     -- a skip from the tag's end on that answers for the group: a bad one, or the loop's next place
-    stops : (x : Skip) → andThen x more ≡ groupEnd depth s at number → x ≡ Skip.Bad → Skip.Bad ≡ groupEnd depth s at number
+    stops : (x : Skip) → andThen x more ≡ groupEnd depth s at number → x ≡ Skip.Bad →
+        Skip.Bad ≡ groupEnd depth s at number
     stops x h b = ap (λ (y : Skip). andThen y more) (sym b) ∙ h
 
     advances : (x : Skip) → PastSkip next (length s) x → {q : ℕ} → x ≡ Skip.At q → p < q
@@ -108,7 +112,8 @@ module _ {depth : ℕ} {s : List ℕ} {at number p : ℕ} (k : Skipping depth s 
         go : PastSkip next (length s) (Skip.At q) → p < q
         go g = omega (arith, next-past)
 
-    goes-on : (x : Skip) → andThen x more ≡ groupEnd depth s at number → PastSkip next (length s) x → {q : ℕ} → x ≡ Skip.At q →
+    goes-on : (x : Skip) → andThen x more ≡ groupEnd depth s at number → PastSkip next (length s) x → {q : ℕ} →
+        x ≡ Skip.At q →
         Skipping depth s at number q
     goes-on x h g {q} b =
         record {

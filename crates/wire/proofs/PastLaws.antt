@@ -53,7 +53,8 @@ fixed-past k s at = go (leb (at + k) (length s)) refl
 
 pub value-past : (s : List ℕ) (wire at : ℕ) → PastValue at (length s) (valueAt s wire at)
 value-past s wire at =
-    both (PastValue at (length s)) (eqb wire 0) _ _ (λ _. ofVarint-past at (length s) (varintAt s at) (varint-past s at))
+    both (PastValue at (length s)) (eqb wire 0) _ _
+    (λ _. ofVarint-past at (length s) (varintAt s at) (varint-past s at))
     (λ _.
     both (PastValue at (length s)) (eqb wire 1) _ _ (λ _. fixed-past 8 s at)
     (λ _.
@@ -77,30 +78,32 @@ andThen-past : (at end : ℕ) (x : Skip) (more : ℕ → Skip) → PastSkip at e
 andThen-past at end (Skip.At q) more h m = further at q end (h .0) (more q) (m q)
 andThen-past at end Skip.Bad more h m = tt
 
-module _ (inner : ℕ → ℕ → Skip) (s : List ℕ) (number : ℕ) (inner-past : (n p : ℕ) → PastSkip p (length s) (inner n p)) where
-  -- behind its tag
-  pub tagged-past : (more : ℕ → Skip) → ((q : ℕ) → PastSkip q (length s) (more q)) → (n w next : ℕ) → next ≤ length s →
-      PastSkip next (length s) (groupField inner more s number (Tag.Field n w next))
-  tagged-past more m n w next h =
-      both (PastSkip next (length s)) (eqb w 4) _ _
-      (λ _. both (PastSkip next (length s)) (eqb n number) _ _ (λ _. (omega arith, h)) (λ _. tt))
-      (λ _.
-      both (PastSkip next (length s)) (eqb w 3) _ _
-      (λ _. andThen-past next (length s) (inner n next) more (inner-past n next) m)
-      (λ _. andThen-past next (length s) (skipValue s w next) more (skip-past s w next) m))
+module _ (inner : ℕ → ℕ → Skip) (s : List ℕ) (number : ℕ) (inner-past : (n p : ℕ) → PastSkip p (length s) (inner n p))
+  where
+    -- behind its tag
+    pub tagged-past : (more : ℕ → Skip) → ((q : ℕ) → PastSkip q (length s) (more q)) →
+        (n w next : ℕ) → next ≤ length s →
+        PastSkip next (length s) (groupField inner more s number (Tag.Field n w next))
+    tagged-past more m n w next h =
+        both (PastSkip next (length s)) (eqb w 4) _ _
+        (λ _. both (PastSkip next (length s)) (eqb n number) _ _ (λ _. (omega arith, h)) (λ _. tt))
+        (λ _.
+        both (PastSkip next (length s)) (eqb w 3) _ _
+        (λ _. andThen-past next (length s) (inner n next) more (inner-past n next) m)
+        (λ _. andThen-past next (length s) (skipValue s w next) more (skip-past s w next) m))
 
-  groupField-past : (more : ℕ → Skip) → ((q : ℕ) → PastSkip q (length s) (more q)) → (at : ℕ) (t : Tag) →
-      PastTag at (length s) t → PastSkip at (length s) (groupField inner more s number t)
-  groupField-past more m at (Tag.Field n w next) h =
-      further at next (length s) (omega arith) (groupField inner more s number (Tag.Field n w next))
-      (tagged-past more m n w next (h .1))
-  groupField-past more m at Tag.Bad h = tt
+    groupField-past : (more : ℕ → Skip) → ((q : ℕ) → PastSkip q (length s) (more q)) → (at : ℕ) (t : Tag) →
+        PastTag at (length s) t → PastSkip at (length s) (groupField inner more s number t)
+    groupField-past more m at (Tag.Field n w next) h =
+        further at next (length s) (omega arith) (groupField inner more s number (Tag.Field n w next))
+        (tagged-past more m n w next (h .1))
+    groupField-past more m at Tag.Bad h = tt
 
-  pub groupFields-past : (most at : ℕ) → PastSkip at (length s) (groupFields inner most s at number)
-  unfolding groupFields
-  groupFields-past zero at = tt
-  groupFields-past (suc most) at =
-      groupField-past (λ q. groupFields inner most s q number) (groupFields-past most) at (tagAt s at) (tag-past s at)
+    pub groupFields-past : (most at : ℕ) → PastSkip at (length s) (groupFields inner most s at number)
+    unfolding groupFields
+    groupFields-past zero at = tt
+    groupFields-past (suc most) at =
+        groupField-past (λ q. groupFields inner most s q number) (groupFields-past most) at (tagAt s at) (tag-past s at)
 
 pub group-past : (depth : ℕ) (s : List ℕ) (at number : ℕ) → PastSkip at (length s) (groupEnd depth s at number)
 unfolding groupEnd
@@ -108,8 +111,10 @@ group-past zero s at number = tt
 group-past (suc depth) s at number =
     groupFields-past (λ n p. groupEnd depth s p n) s number (λ n p. group-past depth s p n) (length s) at
 
-ofValue-past : (number wire at p end : ℕ) → at < p → (v : Value) → PastValue p end v → PastField at end (ofValue number wire v)
-ofValue-past number wire at p end h (Value.Good n start len next) g = (omega arith, omega arith, omega arith, omega arith)
+ofValue-past : (number wire at p end : ℕ) → at < p → (v : Value) → PastValue p end v →
+    PastField at end (ofValue number wire v)
+ofValue-past number wire at p end h (Value.Good n start len next) g =
+    (omega arith, omega arith, omega arith, omega arith)
 ofValue-past number wire at p end h Value.Bad g = tt
 
 ofGroup-past : (number at p end : ℕ) → at < p → (x : Skip) → PastSkip p end x → PastField at end (ofGroup number p x)
@@ -119,7 +124,8 @@ ofGroup-past number at p end h Skip.Bad g = tt
 ofTag-past : (s : List ℕ) (at : ℕ) (t : Tag) → PastTag at (length s) t → PastField at (length s) (ofTag s t)
 ofTag-past s at (Tag.Field number wire next) h =
     both (PastField at (length s)) (eqb wire 3) _ _
-    (λ _. ofGroup-past number at next (length s) (h .0) (groupEnd maxDepth s next number) (group-past maxDepth s next number))
+    (λ _. ofGroup-past number at next (length s) (h .0) (groupEnd maxDepth s next number)
+    (group-past maxDepth s next number))
     (λ _. ofValue-past number wire at next (length s) (h .0) (valueAt s wire next) (value-past s wire next))
 ofTag-past s at Tag.Bad h = tt
 

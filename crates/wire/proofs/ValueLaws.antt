@@ -13,7 +13,8 @@ use Rattle.wire.specs.Value.{ofLength, asNumber, asLength, asFixed, valu
 use Rattle.wire.specs.declared.value.Value.{Value}
 
 -- a varint that was read ends past its first byte and within the bytes
-pub varint-ends : (s : List ℕ) (at : ℕ) {v next : ℕ} → Varint.Number v next ≡ varintAt s at → (at < next) × (next ≤ length s)
+pub varint-ends : (s : List ℕ) (at : ℕ) {v next : ℕ} → Varint.Number v next ≡ varintAt s at →
+    (at < next) × (next ≤ length s)
 varint-ends s at {v} {next} e = go (varint-past s at)
   where
     go : Past at (length s) (varintAt s at) → (at < next) × (next ≤ length s)

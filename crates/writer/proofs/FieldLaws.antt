@@ -116,7 +116,14 @@ pub reads-bytes : (rows : List (List ℕ)) (num : ℕ) (bs : List ℕ) → Use.K
 reads-bytes rows num bs u some few h =
     record {
       on = λ s from at q x k l.
-          goes-on l (omega (arith, stands-length k, bytes-sum num bs, prefix-parts num (length bs), varint-length (length bs)))
+          goes-on l (omega (
+            arith,
+            stands-length k,
+            bytes-sum num bs,
+            prefix-parts num (length bs),
+            varint-length
+                (length bs),
+          ))
           (bytes-reads num at s q some few bs h k) Use.Kept u;
     }
 

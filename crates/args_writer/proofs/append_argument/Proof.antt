@@ -44,7 +44,8 @@ returns-2 c =
     let a = f .before .before .before .args in
     did-full (a .a) (a .src .now) (a .buf .now) (a .at) (f .form-of .result) (f .form-of .ensures)
     (not-false _ (e .if1 .left)) _ refl (n .field-len .ensures)
-    (leb-false (a .at + n .field-len .result) (length (a .buf .now)) (sym (r .has-room .ensures) ∙ not-true _ (c .if2 .taken)))
+    (leb-false (a .at + n .field-len .result) (length (a .buf .now))
+    (sym (r .has-room .ensures) ∙ not-true _ (c .if2 .taken)))
 
 returns-3 : tie.Need-returns-3
 returns-3 c =
@@ -56,7 +57,8 @@ returns-3 c =
     let f = e .before .before in
     let a = f .before .before .before .args in
     let room =
-    leb-true (a .at + n .field-len .result) (length (a .buf .now)) (sym (r .has-room .ensures) ∙ not-false _ (t .if2 .left)) in
+    leb-true (a .at + n .field-len .result) (length (a .buf .now))
+    (sym (r .has-room .ensures) ∙ not-false _ (t .if2 .left)) in
     did-all (a .a) (a .src .now) (a .buf .now) (a .at) (f .form-of .result) (f .form-of .ensures)
     (not-false _ (e .if1 .left)) _ refl (omega (arith, n .field-len .ensures)) (w .put-field .ensures)
 

@@ -1,5 +1,6 @@
 -- What the code makes of an argument before it writes it: whether it can be written, its Scalar type, and the number,
--- wire type and value of the field that holds its value, or the place and length of its bytes. A null has no such field: its
+-- wire type and value of the field that holds its value, or the place and length of its bytes. A null has no such
+-- field: its
 -- wire type is 3, which no value has. These are of the private functions' contracts; what is promised does not cite
 -- them.
 use Prim.Native.Nat.{ℕ, _+_}

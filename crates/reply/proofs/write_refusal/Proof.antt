@@ -1,4 +1,5 @@
--- `reply::write_refusal` meets its contract: the text stands at the front of the array, and what is lent of it is the text. Assumes nothing.
+-- `reply::write_refusal` meets its contract: the text stands at the front of the array, and what is lent of it is the
+-- text. Assumes nothing.
 use borrow.Author.Needs.{needs}
 use native.Mathlib.Omega.{arith}
 use Prim.Native.Nat.{ℕ, _≤_}

@@ -2,7 +2,8 @@
 use borrow.Author.Needs.{needs}
 use native.Mathlib.Omega.{arith}
 use Rattle.encode.proofs.PutsLaws.{equations, puts-room, puts-nothing}
-use Rattle.reply.proofs.ReplyLaws.{reply-nothing, reply-ok, reply-suspended, reply-done, reply-executed, reply-error}
+use Rattle.reply.proofs.ReplyLaws.{reply-nothing, reply-ok, reply-suspended, reply-done, reply-executed}
+use Rattle.reply.proofs.ReplyLaws.{reply-error}
 use Rattle.reply.proofs.write_reply.Statement.{statement}
 use Rattle.reply.proofs.write_reply.Tie as tie
 

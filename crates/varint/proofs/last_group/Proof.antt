@@ -10,7 +10,8 @@ use Rattle.varint.proofs.last_group.Statement.{statement}
 use Rattle.varint.proofs.last_group.Tie as tie
 
 returns : tie.Need-returns
-returns c = let a = c .before .before .args in ap (λ x. low64 (onto (a .low) (2 ^ 63) x)) (sym (groups-end 1 (a .s .now) (a .at) (c .if1 .taken)))
+returns c = let a = c .before .before .args in ap (λ x. low64 (onto (a .low) (2 ^ 63) x))
+    (sym (groups-end 1 (a .s .now) (a .at) (c .if1 .taken)))
 
 returns-2 : tie.Need-returns-2
 returns-2 c =
@@ -22,7 +23,8 @@ returns-3 : tie.Need-returns-3
 returns-3 c =
     let a = c .before .before .before .before .before .args in
     let e : c .before .wide .result ≡ getD (a .s .now) (a .at) 0 = c .before .wide .ensures in
-    rw e (tenth-last (a .low) (a .s .now) (a .at) (c .before .before .before .if1 .left) (omega arith) (c .before .before .before .before .before .pre))
+    rw e (tenth-last (a .low) (a .s .now) (a .at) (c .before .before .before .if1 .left) (omega arith)
+    (c .before .before .before .before .before .pre))
 
 pub last-group-spec : {M : Type 1} → statement M
 last-group-spec =

@@ -17,10 +17,12 @@ returns-2 : tie.Need-returns-2
 returns-2 c =
     let a = c .before .before .before .before .before .args in
     rw (c .before .wide .ensures)
-    (varint-one (a .s .now) (a .at) (c .before .before .before .if1 .left) (rw (c .before .wide .ensures) at (c .if2 .taken)))
+    (varint-one (a .s .now) (a .at) (c .before .before .before .if1 .left)
+    (rw (c .before .wide .ensures) at (c .if2 .taken)))
 
 slice-aggregate-read-varint : tie.Need-slice-aggregate-read-varint
-slice-aggregate-read-varint c = let a = c .before .before .before .before .before .before .args in sym (ap length (take-length (a .s .now)))
+slice-aggregate-read-varint c = let a = c .before .before .before .before .before .before .args in sym
+    (ap length (take-length (a .s .now)))
 
 returns-3 : tie.Need-returns-3
 returns-3 c =

@@ -3,7 +3,8 @@ use borrow.Author.Needs.{needs}
 use Prim.Native.Nat.{_-_, _%_}
 use native.Mathlib.Omega.{arith}
 use mathlib.Core.Path.{_∙_}
-use Rattle.varint.proofs.GroupLaws.{Reading, starts, whole-end, room, light, whole-last, goes-on, below-top, whole-tenth}
+use Rattle.varint.proofs.GroupLaws.{Reading, starts, whole-end, room, light, whole-last, goes-on, below-top}
+use Rattle.varint.proofs.GroupLaws.{whole-tenth}
 use Rattle.varint.proofs.read_varint.Statement.{statement}
 use Rattle.varint.proofs.read_varint.Tie as tie
 
@@ -20,29 +21,53 @@ returns : tie.Need-returns Inv-loop μ-loop
 returns c = whole-end (c .before .before .loop .inv) (c .before .loop-test .taken) (c .if1 .taken)
 
 mul-t12 : tie.Need-mul-t12 Inv-loop μ-loop
-mul-t12 c = omega (arith, room (c .before .before .before .before .before .loop .inv) (c .before .before .before .before .loop-test .taken) (c .before .wide .result) (c .if2 .taken))
+mul-t12 c = omega (
+  arith,
+  room (c .before .before .before .before .before .loop .inv)
+      (c .before .before .before .before .loop-test .taken) (c .before .wide .result) (c .if2 .taken),
+)
 
 add-t13 : tie.Need-add-t13 Inv-loop μ-loop
-add-t13 c = omega (arith, room (c .before .before .before .before .before .loop .inv) (c .before .before .before .before .loop-test .taken) (c .before .wide .result) (c .if2 .taken))
+add-t13 c = omega (
+  arith,
+  room (c .before .before .before .before .before .loop .inv)
+      (c .before .before .before .before .loop-test .taken) (c .before .wide .result) (c .if2 .taken),
+)
 
 returns-2 : tie.Need-returns-2 Inv-loop μ-loop
 returns-2 c =
     rw (c .before .wide .ensures)
-    (whole-last (c .before .before .before .before .before .loop .inv) (c .before .before .before .before .loop-test .taken) (c .before .before .before .if1 .left) (rw (c .before .wide .ensures) at (c .if2 .taken)))
+    (whole-last (c .before .before .before .before .before .loop .inv)
+    (c .before .before .before .before .loop-test .taken) (c .before .before .before .if1 .left)
+    (rw (c .before .wide .ensures) at (c .if2 .taken)))
 
 mul-value : tie.Need-mul-value Inv-loop μ-loop
-mul-value c = omega (arith, room (c .before .before .before .before .before .loop .inv) (c .before .before .before .before .loop-test .taken) (c .before .wide .result % 128) (omega arith))
+mul-value c = omega (
+  arith,
+  room (c .before .before .before .before .before .loop .inv)
+      (c .before .before .before .before .loop-test .taken) (c .before .wide .result % 128) (omega arith),
+)
 
 add-value : tie.Need-add-value Inv-loop μ-loop
-add-value c = omega (arith, room (c .before .before .before .before .before .loop .inv) (c .before .before .before .before .loop-test .taken) (c .before .wide .result % 128) (omega arith))
+add-value c = omega (
+  arith,
+  room (c .before .before .before .before .before .loop .inv)
+      (c .before .before .before .before .loop-test .taken) (c .before .wide .result % 128) (omega arith),
+)
 
 mul-weight : tie.Need-mul-weight Inv-loop μ-loop
-mul-weight c = omega (arith, light (c .before .before .before .before .before .loop .inv) (c .before .before .before .before .loop-test .taken))
+mul-weight c = omega (
+  arith,
+  light (c .before .before .before .before .before .loop .inv)
+      (c .before .before .before .before .loop-test .taken),
+)
 
 loop-again : tie.Need-loop-again Inv-loop μ-loop
 loop-again c =
     rw (c .before .wide .ensures)
-    (goes-on (c .before .before .before .before .before .loop .inv) (c .before .before .before .before .loop-test .taken) (c .before .before .before .if1 .left) (rw (c .before .wide .ensures) at (c .if2 .left)))
+    (goes-on (c .before .before .before .before .before .loop .inv)
+    (c .before .before .before .before .loop-test .taken) (c .before .before .before .if1 .left)
+    (rw (c .before .wide .ensures) at (c .if2 .left)))
 
 last-group-requires : tie.Need-last-group-requires Inv-loop μ-loop
 last-group-requires c κs = below-top (c .before .loop .inv) (c .loop-test .left)

@@ -10,7 +10,8 @@ returns : tie.Need-returns
 returns c =
     let a = c .before .before .before .before .before .before .args in
     ap (λ x. NextArgument.Found x (c .before .before .start .given .0 .1 .1 .0)) (c .quick-argument .ensures)
-    ∙ next-placed (a .s .now) (a .at) _ (sym (c .before .before .start .given .1) ∙ c .before .before .before .before .next-place .ensures)
+    ∙ next-placed (a .s .now) (a .at) _ (sym (c .before .before .start .given .1)
+    ∙ c .before .before .before .before .next-place .ensures)
 
 returns-2 : tie.Need-returns-2
 returns-2 c =

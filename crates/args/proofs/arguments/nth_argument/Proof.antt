@@ -5,7 +5,8 @@ use native.Mathlib.Nat.{pos-of-ne-zero}
 use native.Mathlib.Omega.{arith}
 use lib.ListN.{length}
 use Rattle.args.specs.Arguments.{asked}
-use Rattle.args.proofs.ArgumentsLaws.{Counting, count-starts, count-none, count-end, count-hit, count-on, advances}
+use Rattle.args.proofs.ArgumentsLaws.{Counting, count-starts, count-none, count-end, count-hit, count-on}
+use Rattle.args.proofs.ArgumentsLaws.{advances}
 use mathlib.Core.Path.{sym, ap, _∙_}
 use Rattle.args.proofs.arguments.nth_argument.Statement.{statement}
 use Rattle.args.proofs.arguments.nth_argument.Tie as tie
@@ -21,19 +22,33 @@ loop-holds c = let a = c .before .args in count-starts (a .s .now) (a .from) (a 
 
 returns : tie.Need-returns Inv-loop μ-loop
 returns c =
-    ap asked (count-none (c .before .before .before .before .loop .inv) (sym (c .before .before .next-argument .ensures) ∙ c .enum-told .given .1))
+    ap asked (count-none (c .before .before .before .before .loop .inv)
+    (sym (c .before .before .next-argument .ensures) ∙ c .enum-told .given .1))
 
 returns-2 : tie.Need-returns-2 Inv-loop μ-loop
-returns-2 c = c .handed .ensures ∙ ap asked (count-hit (c .before .before .before .before .before .before .before .loop .inv) (c .before .before .before .before .before .before .loop-test .taken) (sym (c .before .before .before .before .before .next-argument .ensures) ∙ c .before .before .before .value .given .1) (c .before .if1 .taken))
+returns-2 c = c .handed .ensures ∙ ap asked (count-hit
+    (c .before .before .before .before .before .before .before .loop .inv)
+    (c .before .before .before .before .before .before .loop-test .taken)
+    (sym (c .before .before .before .before .before .next-argument .ensures)
+    ∙ c .before .before .before .value .given .1) (c .before .if1 .taken))
 
 sub-left : tie.Need-sub-left Inv-loop μ-loop
 sub-left c = pos-of-ne-zero (c .if1 .left)
 
 loop-less : tie.Need-loop-less Inv-loop μ-loop
-loop-less c = let a = c .before .before .before .before .before .before .before .before .args in omega (arith, c .before .before .before .before .before .loop-test .taken, advances (a .s .now) (c .before .before .before .before .before .before .loop .p) (sym (c .before .before .before .before .next-argument .ensures) ∙ c .before .before .value .given .1))
+loop-less c = let a = c .before .before .before .before .before .before .before .before .args in omega (
+  arith,
+  c .before .before .before .before .before .loop-test .taken,
+  advances (a .s .now)
+      (c .before .before .before .before .before .before .loop .p)
+      (sym (c .before .before .before .before .next-argument .ensures) ∙ c .before .before .value .given .1),
+)
 
 loop-again : tie.Need-loop-again Inv-loop μ-loop
-loop-again c = count-on (c .before .before .before .before .before .before .loop .inv) (c .before .before .before .before .before .loop-test .taken) (sym (c .before .before .before .before .next-argument .ensures) ∙ c .before .before .value .given .1) (c .if1 .left)
+loop-again c = count-on (c .before .before .before .before .before .before .loop .inv)
+    (c .before .before .before .before .before .loop-test .taken)
+    (sym (c .before .before .before .before .next-argument .ensures) ∙ c .before .before .value .given .1)
+    (c .if1 .left)
 
 returns-3 : tie.Need-returns-3 Inv-loop μ-loop
 returns-3 c = ap asked (count-end (c .before .loop .inv) (c .loop-test .left))

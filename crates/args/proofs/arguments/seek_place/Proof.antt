@@ -23,19 +23,42 @@ returns c =
     (sym (c .before .before .read-field .ensures) ∙ c .enum-told .given .1)
 
 returns-2 : tie.Need-returns-2 Inv-loop μ-loop
-returns-2 c = found (c .before .before .before .before .before .before .before .loop .inv) (c .before .before .before .before .before .before .loop-test .taken) (sym (c .before .before .before .before .before .read-field .ensures) ∙ c .before .before .before .number .given .1) (c .before .if1 .taken) (c .if2 .taken)
+returns-2 c = found (c .before .before .before .before .before .before .before .loop .inv)
+    (c .before .before .before .before .before .before .loop-test .taken)
+    (sym (c .before .before .before .before .before .read-field .ensures)
+    ∙ c .before .before .before .number .given .1) (c .before .if1 .taken) (c .if2 .taken)
 
 loop-less : tie.Need-loop-less Inv-loop μ-loop
-loop-less c = omega (arith, c .before .before .before .before .before .before .loop-test .taken, advances (c .before .before .before .before .before .before .before .loop .inv) (c .before .before .before .before .before .before .loop-test .taken) (sym (c .before .before .before .before .before .read-field .ensures) ∙ c .before .before .before .number .given .1))
+loop-less c = omega (
+  arith,
+  c .before .before .before .before .before .before .loop-test .taken,
+  advances
+      (c .before .before .before .before .before .before .before .loop .inv)
+      (c .before .before .before .before .before .before .loop-test .taken)
+      (sym (c .before .before .before .before .before .read-field .ensures)
+      ∙ c .before .before .before .number .given .1),
+)
 
 loop-again : tie.Need-loop-again Inv-loop μ-loop
-loop-again c = other-wire (c .before .before .before .before .before .before .before .loop .inv) (c .before .before .before .before .before .before .loop-test .taken) (sym (c .before .before .before .before .before .read-field .ensures) ∙ c .before .before .before .number .given .1) (c .before .if1 .taken) (c .if2 .left)
+loop-again c = other-wire (c .before .before .before .before .before .before .before .loop .inv)
+    (c .before .before .before .before .before .before .loop-test .taken)
+    (sym (c .before .before .before .before .before .read-field .ensures)
+    ∙ c .before .before .before .number .given .1) (c .before .if1 .taken) (c .if2 .left)
 
 loop-less-2 : tie.Need-loop-less-2 Inv-loop μ-loop
-loop-less-2 c = omega (arith, c .before .before .before .before .before .loop-test .taken, advances (c .before .before .before .before .before .before .loop .inv) (c .before .before .before .before .before .loop-test .taken) (sym (c .before .before .before .before .read-field .ensures) ∙ c .before .before .number .given .1))
+loop-less-2 c = omega (
+  arith,
+  c .before .before .before .before .before .loop-test .taken,
+  advances
+      (c .before .before .before .before .before .before .loop .inv)
+      (c .before .before .before .before .before .loop-test .taken)
+      (sym (c .before .before .before .before .read-field .ensures) ∙ c .before .before .number .given .1),
+)
 
 loop-again-2 : tie.Need-loop-again-2 Inv-loop μ-loop
-loop-again-2 c = other-number (c .before .before .before .before .before .before .loop .inv) (c .before .before .before .before .before .loop-test .taken) (sym (c .before .before .before .before .read-field .ensures) ∙ c .before .before .number .given .1) (c .if1 .left)
+loop-again-2 c = other-number (c .before .before .before .before .before .before .loop .inv)
+    (c .before .before .before .before .before .loop-test .taken)
+    (sym (c .before .before .before .before .read-field .ensures) ∙ c .before .before .number .given .1) (c .if1 .left)
 
 returns-3 : tie.Need-returns-3 Inv-loop μ-loop
 returns-3 c = ends (c .before .loop .inv) (c .loop-test .left)

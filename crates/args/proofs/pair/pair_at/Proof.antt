@@ -13,22 +13,26 @@ returns-2 : tie.Need-returns-2
 returns-2 c = let a = c .before .before .before .args in at-short (a .s .now) (a .at) (omega arith)
 
 returns-3 : tie.Need-returns-3
-returns-3 c = let a = c .before .before .before .before .before .args in at-other (a .s .now) (a .at) (omega arith) (c .if3 .taken)
+returns-3 c = let a = c .before .before .before .before .before .args in at-other (a .s .now) (a .at) (omega arith)
+    (c .if3 .taken)
 
 returns-4 : tie.Need-returns-4
 returns-4 c =
     let a = c .before .before .before .before .before .before .before .before .args in
-    at-long-first (a .s .now) (a .at) (omega arith) (omega arith) (c .before .wide .result) (c .before .wide .ensures) (c .if4 .taken)
+    at-long-first (a .s .now) (a .at) (omega arith) (omega arith) (c .before .wide .result) (c .before .wide .ensures)
+    (c .if4 .taken)
 
 returns-5 : tie.Need-returns-5
 returns-5 c =
     let a = c .before .before .before .before .before .before .before .before .before .before .before .args in
     let first = c .before .before .before .before .wide in
-    at-long-tag (a .s .now) (a .at) (omega arith) (omega arith) (first .result) (first .ensures) (omega arith) (c .before .wide2 .result) (c .before .wide2 .ensures) (c .if5 .taken)
+    at-long-tag (a .s .now) (a .at) (omega arith) (omega arith) (first .result) (first .ensures) (omega arith)
+    (c .before .wide2 .result) (c .before .wide2 .ensures) (c .if5 .taken)
 
 returns-6 : tie.Need-returns-6
 returns-6 c =
-    let a = c .before .before .before .before .before .before .before .before .before .before .before .before .before .args in
+    let far = c .before .before .before .before .before .before in
+    let a = far .before .before .before .before .before .before .before .args in
     let first = c .before .before .before .before .before .before .wide in
     let tag = c .before .before .before .wide2 in
     c .paired .ensures

@@ -8,10 +8,12 @@ use Rattle.args.proofs.pair.paired.Statement.{statement}
 use Rattle.args.proofs.pair.paired.Tie as tie
 
 returns : tie.Need-returns
-returns c = let a = c .before .before .before .before .args in pair-ends (a .first) (a .tag) (a .end) (c .before .before .read .given .1) (omega (arith, c .if1 .taken))
+returns c = let a = c .before .before .before .before .args in pair-ends (a .first) (a .tag) (a .end)
+    (c .before .before .read .given .1) (omega (arith, c .if1 .taken))
 
 returns-2 : tie.Need-returns-2
-returns-2 c = let a = c .before .before .before .before .args in pair-goes-on (a .first) (a .tag) (a .end) (c .before .before .read .given .1) (c .if1 .left)
+returns-2 c = let a = c .before .before .before .before .args in pair-goes-on (a .first) (a .tag) (a .end)
+    (c .before .before .read .given .1) (c .if1 .left)
 
 returns-3 : tie.Need-returns-3
 returns-3 c = let a = c .before .before .args in ap (pairOf (a .first) (a .tag) (a .end)) (sym (c .enum-told .given .1))

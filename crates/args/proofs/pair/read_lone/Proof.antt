@@ -9,10 +9,12 @@ returns : tie.Need-returns
 returns c = let a = c .before .before .args in lone-longer (a .s .now) (a .at) (a .n) (c .if1 .taken)
 
 returns-2 : tie.Need-returns-2
-returns-2 c = let a = c .before .before .before .args in lone-past (a .s .now) (a .at) (a .n) (omega arith) (omega arith)
+returns-2 c = let a = c .before .before .before .args in lone-past (a .s .now) (a .at) (a .n) (omega arith)
+    (omega arith)
 
 returns-3 : tie.Need-returns-3
-returns-3 c = let a = c .before .before .before .before .args in lone-past (a .s .now) (a .at) (a .n) (omega arith) (omega arith)
+returns-3 c = let a = c .before .before .before .before .args in lone-past (a .s .now) (a .at) (a .n) (omega arith)
+    (omega arith)
 
 returns-4 : tie.Need-returns-4
 returns-4 c =
@@ -23,13 +25,15 @@ returns-5 : tie.Need-returns-5
 returns-5 c =
     let a = c .before .before .before .before .before .before .before .before .before .args in
     let first = c .before .wide in
-    lone-long (a .s .now) (a .at) (a .n) (omega arith) (omega arith) (omega arith) (first .result) (first .ensures) (c .if5 .taken)
+    lone-long (a .s .now) (a .at) (a .n) (omega arith) (omega arith) (omega arith) (first .result) (first .ensures)
+    (c .if5 .taken)
 
 returns-6 : tie.Need-returns-6
 returns-6 c =
     let a = c .before .before .before .before .before .before .before .before .before .args in
     let first = c .before .wide in
-    lone-found (a .s .now) (a .at) (a .n) (omega arith) (omega arith) (omega arith) (first .result) (first .ensures) (omega arith)
+    lone-found (a .s .now) (a .at) (a .n) (omega arith) (omega arith) (omega arith) (first .result) (first .ensures)
+    (omega arith)
 
 pub read-lone-spec : {M : Type 1} → statement M
 read-lone-spec =

@@ -26,4 +26,5 @@ returns-3 c =
 pub read-pair-spec : {M : Type 1} → statement M
 read-pair-spec =
     tie.close
-    (tie.spec returns (λ c. search needs) returns-2 (λ c. search needs) slice-aggregate-pair-at (λ c κs. search needs) returns-3)
+    (tie.spec returns (λ c. search needs) returns-2 (λ c. search needs) slice-aggregate-pair-at (λ c κs. search needs)
+    returns-3)

@@ -8,12 +8,18 @@ use Rattle.args.proofs.part.fill_part.Tie as tie
 returns : tie.Need-returns
 returns c =
     let a = c .before .before .before .before .before .before .args in
-    holds-past (a .rows .now) (a .s .now) (a .start) (a .len) (omega (arith, c .before .before .before .before .if1 .taken)) (c .clear .ensures)
+    holds-past (a .rows .now) (a .s .now) (a .start) (a .len)
+    (omega (arith, c .before .before .before .before .if1 .taken)) (c .clear .ensures)
 
 returns-2 : tie.Need-returns-2
 returns-2 c =
     let a = c .before .before .before .before .before .before .before .args in
-    holds-past (a .rows .now) (a .s .now) (a .start) (a .len) (omega (arith, c .before .before .before .before .before .if1 .left, c .before .before .before .before .if2 .taken)) (c .clear2 .ensures)
+    holds-past (a .rows .now) (a .s .now) (a .start) (a .len)
+    (omega (
+      arith,
+      c .before .before .before .before .before .if1 .left,
+      c .before .before .before .before .if2 .taken,
+    )) (c .clear2 .ensures)
 
 pub fill-part-spec : {M : Type 1} → statement M
 fill-part-spec =

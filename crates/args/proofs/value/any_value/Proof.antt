@@ -40,7 +40,8 @@ returns-4 : tie.Need-returns-4
 returns-4 c =
     let a = c .before .before .before .args in
     let x = fromArrays true (a .seen .now) (a .values .now) (a .starts .now) in
-    any-type-none (a .s .now) x _ (c .match .rest .0 .0 .1) (c .match .rest .0 .1) (c .match .rest .1) ∙ any-good (a .s .now) x refl
+    any-type-none (a .s .now) x _ (c .match .rest .0 .0 .1) (c .match .rest .0 .1) (c .match .rest .1)
+    ∙ any-good (a .s .now) x refl
 
 pub any-value-spec : {M : Type 1} → statement M
 any-value-spec =

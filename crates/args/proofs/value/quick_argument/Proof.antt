@@ -33,12 +33,20 @@ returns-2 c =
 mul-if3 : tie.Need-mul-if3
 mul-if3 c =
     let a = c .before .before .before .before .before .before .before .before .args in
-    omega (arith, named-short (a .s .now) (a .at) (a .n) (c .before .first .given .1) (c .before .before .before .read-pair .ensures))
+    omega (
+      arith,
+      named-short (a .s .now) (a .at) (a .n) (c .before .first .given .1)
+          (c .before .before .before .read-pair .ensures),
+    )
 
 add-if3 : tie.Need-add-if3
 add-if3 c =
     let a = c .before .before .before .before .before .before .before .before .args in
-    omega (arith, named-short (a .s .now) (a .at) (a .n) (c .before .first .given .1) (c .before .before .before .read-pair .ensures))
+    omega (
+      arith,
+      named-short (a .s .now) (a .at) (a .n) (c .before .first .given .1)
+          (c .before .before .before .read-pair .ensures),
+    )
 
 returns-3 : tie.Need-returns-3
 unfolding rowsOf rowFor hasRequired anyOf ofAnyType
@@ -46,7 +54,8 @@ returns-3 c =
     let a = c .before .before .before .before .before .before .before .before .before .before .args in
     c .read-scalar .ensures
     ∙ ap (anyOf (a .s .now))
-    (pair-bytes (a .s .now) (a .at) (a .n) (c .before .before .before .first .given .1) (c .before .before .before .before .before .read-pair .ensures)
+    (pair-bytes (a .s .now) (a .at) (a .n) (c .before .before .before .first .given .1)
+    (c .before .before .before .before .before .read-pair .ensures)
     (rowsOf any) 1 18 (c .before .if3 .taken) (omega arith) refl refl refl)
 
 slice-aggregate-read-argument : tie.Need-slice-aggregate-read-argument

@@ -10,7 +10,8 @@ returns : tie.Need-returns
 returns c =
     let r = c .before .before .before .before .before .before in
     let a = r .before .before .args in
-    any-refused (a .s .now) (a .at) (a .n) (rw (r .any-rows .ensures) at (c .before .fill-part .ensures)) (not-true _ (c .if1 .taken))
+    any-refused (a .s .now) (a .at) (a .n) (rw (r .any-rows .ensures) at (c .before .fill-part .ensures))
+    (not-true _ (c .if1 .taken))
 
 returns-2 : tie.Need-returns-2
 returns-2 c =
@@ -18,7 +19,8 @@ returns-2 c =
     let r = e .before .before .before .before .before .before in
     let a = r .before .before .args in
     c .any-value .ensures
-    ∙ any-held (a .s .now) (a .at) (a .n) (rw (r .any-rows .ensures) at (e .before .fill-part .ensures)) (not-false _ (e .if1 .left))
+    ∙ any-held (a .s .now) (a .at) (a .n) (rw (r .any-rows .ensures) at (e .before .fill-part .ensures))
+    (not-false _ (e .if1 .left))
 
 pub read-argument-spec : {M : Type 1} → statement M
 read-argument-spec =

@@ -98,7 +98,9 @@ returns-9 : tie.Need-returns-9
 returns-9 c =
     let a = c .before .before .before .args in
     let x = fromArrays true (a .seen .now) (a .values .now) (a .starts .now) in
-    type-none (a .s .now) x _ (c .match .rest .0 .0 .0 .0 .0 .0 .0 .1) (c .match .rest .0 .0 .0 .0 .0 .0 .1) (c .match .rest .0 .0 .0 .0 .0 .1) (c .match .rest .0 .0 .0 .0 .1) (c .match .rest .0 .0 .0 .1) (c .match .rest .0 .0 .1) (c .match .rest .0 .1) (c .match .rest .1) ∙ scalar-good (a .s .now) x refl
+    type-none (a .s .now) x _ (c .match .rest .0 .0 .0 .0 .0 .0 .0 .1) (c .match .rest .0 .0 .0 .0 .0 .0 .1)
+    (c .match .rest .0 .0 .0 .0 .0 .1) (c .match .rest .0 .0 .0 .0 .1) (c .match .rest .0 .0 .0 .1)
+    (c .match .rest .0 .0 .1) (c .match .rest .0 .1) (c .match .rest .1) ∙ scalar-good (a .s .now) x refl
 
 pub scalar-value-spec : {M : Type 1} → statement M
 scalar-value-spec =

@@ -12,7 +12,8 @@ use Rattle.args_writer.proofs.form.double_form.Tie as tie
 returns : tie.Need-returns
 returns c =
     let x = c .before .before .args .x in
-    c .no-form .ensures ∙ yes noForm (valueForm Scalars.double Scalars.doubleField 1 (toBits binary64 x)) (nan-told x (c .before .if1 .taken))
+    c .no-form .ensures ∙ yes noForm (valueForm Scalars.double Scalars.doubleField 1 (toBits binary64 x))
+    (nan-told x (c .before .if1 .taken))
 
 float-to-bits-value-form : tie.Need-float-to-bits-value-form
 float-to-bits-value-form c =
@@ -22,7 +23,8 @@ float-to-bits-value-form c =
 returns-2 : tie.Need-returns-2
 returns-2 c =
     let x = c .before .before .args .x in
-    c .value-form .ensures ∙ no noForm (valueForm Scalars.double Scalars.doubleField 1 (toBits binary64 x)) (nan-not x (c .before .if1 .left))
+    c .value-form .ensures ∙ no noForm (valueForm Scalars.double Scalars.doubleField 1 (toBits binary64 x))
+    (nan-not x (c .before .if1 .left))
 
 pub double-form-spec : {M : Type 1} → statement M
 double-form-spec =

@@ -12,12 +12,14 @@ use Rattle.args_writer.proofs.form.double_nan_form.Tie as tie
 returns : tie.Need-returns
 returns c =
     let n = c .before .before .args .bits in
-    c .no-form .ensures ∙ no (valueForm Scalars.double Scalars.doubleField 1 n) noForm (no-nan binary64 n (c .before .if1 .taken))
+    c .no-form .ensures ∙ no (valueForm Scalars.double Scalars.doubleField 1 n) noForm
+    (no-nan binary64 n (c .before .if1 .taken))
 
 returns-2 : tie.Need-returns-2
 returns-2 c =
     let n = c .before .before .args .bits in
-    c .value-form .ensures ∙ yes (valueForm Scalars.double Scalars.doubleField 1 n) noForm (is-nan binary64 n (c .before .if1 .left))
+    c .value-form .ensures ∙ yes (valueForm Scalars.double Scalars.doubleField 1 n) noForm
+    (is-nan binary64 n (c .before .if1 .left))
 
 pub double-nan-form-spec : {M : Type 1} → statement M
 double-nan-form-spec =

@@ -13,7 +13,8 @@ use Rattle.args_writer.proofs.form.float_form.Tie as tie
 returns : tie.Need-returns
 returns c =
     let x = c .before .before .args .x in
-    c .no-form .ensures ∙ yes noForm (valueForm Scalars.float Scalars.floatField 5 (toBits binary32 x)) (nan-told x (c .before .if1 .taken))
+    c .no-form .ensures ∙ yes noForm (valueForm Scalars.float Scalars.floatField 5 (toBits binary32 x))
+    (nan-told x (c .before .if1 .taken))
 
 float-to-bits-wide : tie.Need-float-to-bits-wide
 float-to-bits-wide c =
@@ -25,7 +26,8 @@ returns-2 c =
     let x = c .before .before .before .args .x in
     c .value-form .ensures
     ∙ ap (λ (n : ℕ). valueForm Scalars.float Scalars.floatField 5 n) (c .before .wide .ensures)
-    ∙ no noForm (valueForm Scalars.float Scalars.floatField 5 (toBits binary32 x)) (nan-not x (c .before .before .if1 .left))
+    ∙ no noForm (valueForm Scalars.float Scalars.floatField 5 (toBits binary32 x))
+    (nan-not x (c .before .before .if1 .left))
 
 pub float-form-spec : {M : Type 1} → statement M
 float-form-spec =

@@ -12,12 +12,14 @@ use Rattle.args_writer.proofs.form.float_nan_form.Tie as tie
 returns : tie.Need-returns
 returns c =
     let n = c .before .before .args .bits in
-    c .no-form .ensures ∙ no (valueForm Scalars.float Scalars.floatField 5 n) noForm (no-nan binary32 n (c .before .if1 .taken))
+    c .no-form .ensures ∙ no (valueForm Scalars.float Scalars.floatField 5 n) noForm
+    (no-nan binary32 n (c .before .if1 .taken))
 
 returns-2 : tie.Need-returns-2
 returns-2 c =
     let n = c .before .before .args .bits in
-    c .value-form .ensures ∙ yes (valueForm Scalars.float Scalars.floatField 5 n) noForm (is-nan binary32 n (c .before .if1 .left))
+    c .value-form .ensures ∙ yes (valueForm Scalars.float Scalars.floatField 5 n) noForm
+    (is-nan binary32 n (c .before .if1 .left))
 
 pub float-nan-form-spec : {M : Type 1} → statement M
 float-nan-form-spec =

@@ -15,7 +15,9 @@ returns : tie.Need-returns
 returns c =
     let n = c .before .before .before .before .before .args .n in
     c .value-form .ensures
-    ∙ ap (λ (v : ℕ). valueForm Scalars.sint Scalars.sintField 0 v) (c .before .zigzag-encode .ensures ∙ ap zigzag (toZ-ofZ w64 (c .before .before .before .a .given .0 .0) (search needs)))
+    ∙ ap (λ (v : ℕ). valueForm Scalars.sint Scalars.sintField 0 v)
+    (c .before .zigzag-encode .ensures ∙ ap zigzag
+    (toZ-ofZ w64 (c .before .before .before .a .given .0 .0) (search needs)))
     ∙ ap (λ (a : Argument). formOf a n) (sym (c .before .before .before .a .given .1))
 
 returns-2 : tie.Need-returns-2

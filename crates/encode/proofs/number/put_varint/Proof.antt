@@ -1,4 +1,5 @@
--- `encode::number::put_varint` meets its contract: seven bits a turn, and the number of the others is left. Assumes nothing.
+-- `encode::number::put_varint` meets its contract: seven bits a turn, and the number of the others is left. Assumes
+-- nothing.
 use borrow.Author.Needs.{needs}
 use native.Mathlib.Omega.{arith}
 use mathlib.Core.Path.{ap}

@@ -1,4 +1,5 @@
--- `encode::number::varint_len` meets its contract: zero takes one byte, and of any other number the leading zeros tell. Assumes nothing.
+-- `encode::number::varint_len` meets its contract: zero takes one byte, and of any other number the leading zeros
+-- tell. Assumes nothing.
 use native.Mathlib.Omega.{arith}
 use borrow.Author.Needs.{needs}
 use lib.Count.{leading-le}

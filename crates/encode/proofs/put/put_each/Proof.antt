@@ -25,7 +25,8 @@ loop-again c =
     let t = w .before .before .before in
     let l = t .before .loop in
     rw (add-one (l .i))
-    (putting-goes-on (l .inv) (drop-cons (t .before .before .before .before .args .src .now) (l .i) 0 (t .loop-test .taken))
+    (putting-goes-on (l .inv) (drop-cons (t .before .before .before .before .args .src .now) (l .i) 0
+    (t .loop-test .taken))
     (w .put-byte .ensures))
 
 same-length : tie.Need-same-length Inv-loop μ-loop

@@ -21,7 +21,8 @@ loop-holds c =
     let h = c .before in
     let a = h .before .before .before .args in
     copy-starts (a .buf .now) (a .at) (a .src .now)
-    (leb-true (a .at + length (a .src .now)) (length (a .buf .now)) (sym (h .has-room .ensures) ∙ not-false _ (c .if1 .left)))
+    (leb-true (a .at + length (a .src .now)) (length (a .buf .now))
+    (sym (h .has-room .ensures) ∙ not-false _ (c .if1 .left)))
 
 loop-again : tie.Need-loop-again Inv-loop μ-loop
 loop-again c = copy-goes-on (c .before .before .loop .inv) (c .before .loop-test .taken)

@@ -13,7 +13,8 @@ returns : tie.Need-returns
 returns c =
     let h = c .before in
     let a = h .before .before .before .args in
-    let none = leb-false (a .at + length (a .src .now)) (length (a .buf .now)) (sym (h .has-room .ensures) ∙ not-true _ (c .if1 .taken)) in
+    let none = leb-false (a .at + length (a .src .now)) (length (a .buf .now))
+    (sym (h .has-room .ensures) ∙ not-true _ (c .if1 .taken)) in
     equations {at = a .at} refl (puts-none (a .src .now) none)
 
 returns-2 : tie.Need-returns-2
@@ -22,7 +23,8 @@ returns-2 c =
     let e = w .before .before in
     let h = e .before in
     let a = h .before .before .before .args in
-    let room = leb-true (a .at + length (a .src .now)) (length (a .buf .now)) (sym (h .has-room .ensures) ∙ not-false _ (e .if1 .left)) in
+    let room = leb-true (a .at + length (a .src .now)) (length (a .buf .now))
+    (sym (h .has-room .ensures) ∙ not-false _ (e .if1 .left)) in
     equations refl (puts-room room (w .put-slice .ensures))
 
 pub write-bytes-spec : {M : Type 1} → statement M

@@ -52,7 +52,8 @@ returns-2 : tie.Need-returns-2 Inv-loop μ-loop
 returns-2 c =
     let l = c .before .loop in
     let a = c .before .before .before .before .before .args in
-    move-ends (l .inv .0) (l .inv .1) (c .loop-test .left) ∙ sym (moved-front (a .buf .now) (a .start) (a .len) (l .inv .0))
+    move-ends (l .inv .0) (l .inv .1) (c .loop-test .left)
+    ∙ sym (moved-front (a .buf .now) (a .start) (a .len) (l .inv .0))
 
 pub move-front-spec : {M : Type 1} → statement M
 move-front-spec =

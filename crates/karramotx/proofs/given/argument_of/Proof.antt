@@ -8,7 +8,8 @@ use Rattle.karramotx.proofs.given.argument_of.Tie as tie
 
 returns : tie.Need-returns
 unfolding ofKind
-returns c = let a = c .before .before .args in c .signed-of-bits .ensures ∙ of-kind 1 (a .scalar .kind) (a .scalar .value) (a .n) (c .before .match .keys1)
+returns c = let a = c .before .before .args in c .signed-of-bits .ensures
+    ∙ of-kind 1 (a .scalar .kind) (a .scalar .value) (a .n) (c .before .match .keys1)
 
 returns-2 : tie.Need-returns-2
 unfolding ofKind
@@ -24,11 +25,13 @@ returns-4 c = let a = c .before .args in of-kind 4 (a .scalar .kind) (a .scalar 
 
 returns-5 : tie.Need-returns-5
 unfolding ofKind
-returns-5 c = let a = c .before .before .args in c .double-argument .ensures ∙ of-kind 5 (a .scalar .kind) (a .scalar .value) (a .n) (c .before .match .keys5)
+returns-5 c = let a = c .before .before .args in c .double-argument .ensures
+    ∙ of-kind 5 (a .scalar .kind) (a .scalar .value) (a .n) (c .before .match .keys5)
 
 returns-6 : tie.Need-returns-6
 unfolding ofKind
-returns-6 c = let a = c .before .before .args in c .float-of-bits .ensures ∙ of-kind 6 (a .scalar .kind) (a .scalar .value) (a .n) (c .before .match .keys6)
+returns-6 c = let a = c .before .before .args in c .float-of-bits .ensures
+    ∙ of-kind 6 (a .scalar .kind) (a .scalar .value) (a .n) (c .before .match .keys6)
 
 returns-7 : tie.Need-returns-7
 unfolding ofKind
@@ -39,7 +42,10 @@ unfolding ofKind
 returns-8 c = let a = c .before .args in of-kind 8 (a .scalar .kind) (a .scalar .value) (a .n) (c .match .keys8)
 
 returns-9 : tie.Need-returns-9
-returns-9 c = let a = c .before .args in of-no-kind (a .scalar .kind) (a .scalar .value) (a .n) (c .match .rest .0 .0 .0 .0 .0 .0 .0 .1) (c .match .rest .0 .0 .0 .0 .0 .0 .1) (c .match .rest .0 .0 .0 .0 .0 .1) (c .match .rest .0 .0 .0 .0 .1) (c .match .rest .0 .0 .0 .1) (c .match .rest .0 .0 .1) (c .match .rest .0 .1) (c .match .rest .1)
+returns-9 c = let a = c .before .args in of-no-kind (a .scalar .kind) (a .scalar .value) (a .n)
+    (c .match .rest .0 .0 .0 .0 .0 .0 .0 .1) (c .match .rest .0 .0 .0 .0 .0 .0 .1) (c .match .rest .0 .0 .0 .0 .0 .1)
+    (c .match .rest .0 .0 .0 .0 .1) (c .match .rest .0 .0 .0 .1) (c .match .rest .0 .0 .1) (c .match .rest .0 .1)
+    (c .match .rest .1)
 
 pub argument-of-spec : {M : Type 1} → statement M
 argument-of-spec =

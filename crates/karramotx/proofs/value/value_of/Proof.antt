@@ -39,7 +39,8 @@ returns-8 : tie.Need-returns-8
 returns-8 c = c .numbered5 .ensures ∙ ap valueOf (sym (c .before .before .a7 .given .1))
 
 returns-9 : tie.Need-returns-9
-returns-9 c = c .numbered6 .ensures ∙ ap (numbered 7) (bool-byte (c .before .before .a8 .given .0 .0)) ∙ ap valueOf (sym (c .before .before .a8 .given .1))
+returns-9 c = c .numbered6 .ensures ∙ ap (numbered 7) (bool-byte (c .before .before .a8 .given .0 .0))
+    ∙ ap valueOf (sym (c .before .before .a8 .given .1))
 
 returns-10 : tie.Need-returns-10
 returns-10 c = c .placed2 .ensures ∙ ap valueOf (sym (c .before .before .a9 .given .1))

@@ -18,8 +18,10 @@ returns c =
     let w = n .before in
     let a = w .before .before .args in
     answers-as (refusing (a .used) (a .reason))
-    (error-as (a .reason) (a .names) (a .report) (w .wire-code .ensures) (n .number-of .ensures) (k .kind-named .ensures))
+    (error-as (a .reason) (a .names) (a .report) (w .wire-code .ensures) (n .number-of .ensures)
+    (k .kind-named .ensures))
     (p .put-reply .ensures)
 
 pub refuse-spec : {M : Type 1} → statement M
-refuse-spec = tie.close (tie.spec (λ c κs. search needs) (λ c κs. search needs) (λ c κs. search needs) (λ c κs. search needs) (λ c. search needs) returns)
+refuse-spec = tie.close (tie.spec (λ c κs. search needs) (λ c κs. search needs) (λ c κs. search needs)
+    (λ c κs. search needs) (λ c. search needs) returns)

@@ -1,4 +1,5 @@
--- `keeper::answer::wire_code` meets its contract: a failure has the engine's code, any other the table's. Assumes nothing.
+-- `keeper::answer::wire_code` meets its contract: a failure has the engine's code, any other the table's. Assumes
+-- nothing.
 use borrow.Author.Needs.{needs}
 use mathlib.Core.Path.{_∙_}
 use Rattle.keeper.proofs.AnswerLaws.{code-own, code-listed}

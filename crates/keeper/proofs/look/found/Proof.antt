@@ -6,7 +6,8 @@ use Rattle.keeper.proofs.look.found.Statement.{statement}
 use Rattle.keeper.proofs.look.found.Tie as tie
 
 returns : tie.Need-returns
-returns c = let a = c .before .before .args in c .refused .ensures ∙ found-not (a .reason) (a .work) (c .before .if1 .taken)
+returns c = let a = c .before .before .args in c .refused .ensures
+    ∙ found-not (a .reason) (a .work) (c .before .if1 .taken)
 
 returns-2 : tie.Need-returns-2
 returns-2 c = let a = c .before .args in found-work (a .reason) (a .work) (c .if1 .left)

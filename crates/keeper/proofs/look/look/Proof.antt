@@ -20,7 +20,8 @@ returns-2 c =
     let f = t .before .before in
     let a = f .before .before .args in
     let s = sessionOf (a .words .now) in
-    look-read s (a .frame .now) (f .read-frame .ensures) (t .enum-told2 .given .1) (c .refused2 .ensures ∙ length-look s)
+    look-read s (a .frame .now) (f .read-frame .ensures) (t .enum-told2 .given .1)
+    (c .refused2 .ensures ∙ length-look s)
 
 returns-3 : tie.Need-returns-3
 returns-3 c =
@@ -28,7 +29,8 @@ returns-3 c =
     let f = t .before .before in
     let a = f .before .before .args in
     let s = sessionOf (a .words .now) in
-    look-read s (a .frame .now) (f .read-frame .ensures) (t .enum-told3 .given .1) (c .refused3 .ensures ∙ unknown-look s _ (c .before .closed-or .ensures))
+    look-read s (a .frame .now) (f .read-frame .ensures) (t .enum-told3 .given .1)
+    (c .refused3 .ensures ∙ unknown-look s _ (c .before .closed-or .ensures))
 
 returns-4 : tie.Need-returns-4
 returns-4 c =
@@ -36,7 +38,8 @@ returns-4 c =
     let f = t .before .before in
     let a = f .before .before .args in
     let s = sessionOf (a .words .now) in
-    look-read s (a .frame .now) (f .read-frame .ensures) (t .enum-told4 .given .1) (c .refused4 .ensures ∙ payload-look s _ _ (c .before .closed-or2 .ensures))
+    look-read s (a .frame .now) (f .read-frame .ensures) (t .enum-told4 .given .1)
+    (c .refused4 .ensures ∙ payload-look s _ _ (c .before .closed-or2 .ensures))
 
 returns-5 : tie.Need-returns-5
 returns-5 c =

@@ -1,10 +1,13 @@
--- `keeper::look::look_at` meets its contract: closed comes first, then each request by its own entries. Assumes nothing.
+-- `keeper::look::look_at` meets its contract: closed comes first, then each request by its own entries. Assumes
+-- nothing.
 use mathlib.Core.Path.{sym, _∙_}
 use borrow.Author.Needs.{needs}
 use Rattle.message.specs.declared.request.Request.{Request}
 use Rattle.session.specs.Words.{sessionOf}
-use Rattle.keeper.proofs.RequestLaws.{reset-looks, session-close-looks, prepare-looks, deallocate-looks, close-looks, stmt-found, cursor-found}
-use Rattle.keeper.proofs.LookLaws.{closed-look, found-look, as-look, reset-wants, session-close-wants, prepare-wants, execute-wants, deallocate-wants, close-wants}
+use Rattle.keeper.proofs.RequestLaws.{reset-looks, session-close-looks, prepare-looks, deallocate-looks}
+use Rattle.keeper.proofs.RequestLaws.{close-looks, stmt-found, cursor-found}
+use Rattle.keeper.proofs.LookLaws.{closed-look, found-look, as-look, reset-wants, session-close-wants}
+use Rattle.keeper.proofs.LookLaws.{prepare-wants, execute-wants, deallocate-wants, close-wants}
 use Rattle.keeper.proofs.look.look_at.Statement.{statement}
 use Rattle.keeper.proofs.look.look_at.Tie as tie
 
@@ -12,7 +15,8 @@ returns : tie.Need-returns
 returns c =
     let k = c .before .before in
     let a = k .before .args in
-    c .refused .ensures ∙ closed-look (sessionOf (a .words .now)) (a .request) (sym (k .is-closed .ensures) ∙ c .before .if1 .taken)
+    c .refused .ensures ∙ closed-look (sessionOf (a .words .now)) (a .request)
+    (sym (k .is-closed .ensures) ∙ c .before .if1 .taken)
 
 returns-2 : tie.Need-returns-2
 returns-2 c =
@@ -45,7 +49,8 @@ returns-4 c =
     let s = sessionOf (a .words .now) in
     let unclosed = sym (k .is-closed .ensures) ∙ t .if1 .left in
     as-look s (a .request) (q .request .given .1)
-    (c .found3 .ensures ∙ found-look s (Request.Prepare _) unclosed (prepare-looks s _ (c .before .before .stmt-place .ensures) (c .before .full .ensures)) _ (prepare-wants s _))
+    (c .found3 .ensures ∙ found-look s (Request.Prepare _) unclosed
+    (prepare-looks s _ (c .before .before .stmt-place .ensures) (c .before .full .ensures)) _ (prepare-wants s _))
 
 returns-5 : tie.Need-returns-5
 returns-5 c =
@@ -67,7 +72,9 @@ returns-6 c =
     let s = sessionOf (a .words .now) in
     let unclosed = sym (k .is-closed .ensures) ∙ t .if1 .left in
     as-look s (a .request) (q .request3 .given .1)
-    (c .found5 .ensures ∙ found-look s (Request.Deallocate _) unclosed (deallocate-looks s _ (stmt-found s _ (c .before .before .before .find-stmt .ensures) (c .before .before .stmt-at .ensures)) (c .before .dead-stmt .ensures)) _ (deallocate-wants s _))
+    (c .found5 .ensures ∙ found-look s (Request.Deallocate _) unclosed
+    (deallocate-looks s _ (stmt-found s _ (c .before .before .before .find-stmt .ensures)
+    (c .before .before .stmt-at .ensures)) (c .before .dead-stmt .ensures)) _ (deallocate-wants s _))
 
 look-open-requires : tie.Need-look-open-requires
 look-open-requires c κs =
@@ -94,7 +101,9 @@ returns-8 c =
     let s = sessionOf (a .words .now) in
     let unclosed = sym (k .is-closed .ensures) ∙ t .if1 .left in
     as-look s (a .request) (q .request5 .given .1)
-    (c .found6 .ensures ∙ found-look s (Request.Close _) unclosed (close-looks s _ (cursor-found s _ (c .before .before .before .find-cursor .ensures) (c .before .before .cursor-at .ensures)) (c .before .dead-cursor .ensures)) _ (close-wants s _))
+    (c .found6 .ensures ∙ found-look s (Request.Close _) unclosed
+    (close-looks s _ (cursor-found s _ (c .before .before .before .find-cursor .ensures)
+    (c .before .before .cursor-at .ensures)) (c .before .dead-cursor .ensures)) _ (close-wants s _))
 
 look-fetch-requires : tie.Need-look-fetch-requires
 look-fetch-requires c κs =

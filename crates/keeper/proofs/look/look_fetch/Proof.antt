@@ -17,7 +17,8 @@ returns c =
     let a = st .args in
     let s = sessionOf (a .words .now) in
     c .refused .ensures
-    ∙ fetch-refused s (a .f) (st .pre) (cursor-found s (a .f .cursor) (g .find-cursor .ensures) (k .cursor-at .ensures)) (e .fetch .ensures) (c .before .if1 .taken)
+    ∙ fetch-refused s (a .f) (st .pre) (cursor-found s (a .f .cursor) (g .find-cursor .ensures)
+    (k .cursor-at .ensures)) (e .fetch .ensures) (c .before .if1 .taken)
 
 returns-2 : tie.Need-returns-2
 returns-2 c =
@@ -28,7 +29,8 @@ returns-2 c =
     let st = g .before in
     let a = st .args in
     let s = sessionOf (a .words .now) in
-    fetch-wanted s (a .f) (st .pre) (cursor-found s (a .f .cursor) (g .find-cursor .ensures) (k .cursor-at .ensures)) (e .fetch .ensures) (t .if1 .left)
+    fetch-wanted s (a .f) (st .pre) (cursor-found s (a .f .cursor) (g .find-cursor .ensures) (k .cursor-at .ensures))
+    (e .fetch .ensures) (t .if1 .left)
     (c .fetch-count .ensures)
 
 pub look-fetch-spec : {M : Type 1} → statement M

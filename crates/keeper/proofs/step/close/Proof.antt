@@ -18,9 +18,11 @@ returns c =
     let g = k .before .before in
     let st = g .before .before .before in
     let a = st .args in
-    refuses (sessionOf (a .words .now)) (a .used) (Request.Close (a .cursor)) (a .report) (a .buf .now) (st .pre .room) (st .pre .read)
+    refuses (sessionOf (a .words .now)) (a .used) (Request.Close (a .cursor)) (a .report) (a .buf .now)
+    (st .pre .room) (st .pre .read)
     (close-decides (sessionOf (a .words .now)) (st .pre .unclosed) (a .used) (a .report) (a .cursor)
-    (cursor-found (sessionOf (a .words .now)) (a .cursor) (g .find-cursor .ensures) (k .cursor-at .ensures)) (o .dead-cursor .ensures))
+    (cursor-found (sessionOf (a .words .now)) (a .cursor) (g .find-cursor .ensures) (k .cursor-at .ensures))
+    (o .dead-cursor .ensures))
     (t .if1 .taken) (w .before .unbound .ensures) (w .refuse .ensures)
 
 returns-2 : tie.Need-returns-2
@@ -33,9 +35,11 @@ returns-2 c =
     let g = k .before .before in
     let st = g .before .before .before in
     let a = st .args in
-    accepts (sessionOf (a .words .now)) (a .used) (Request.Close (a .cursor)) (a .report) (a .buf .now) (st .pre .room) (st .pre .read)
+    accepts (sessionOf (a .words .now)) (a .used) (Request.Close (a .cursor)) (a .report) (a .buf .now)
+    (st .pre .room) (st .pre .read)
     (close-decides (sessionOf (a .words .now)) (st .pre .unclosed) (a .used) (a .report) (a .cursor)
-    (cursor-found (sessionOf (a .words .now)) (a .cursor) (g .find-cursor .ensures) (k .cursor-at .ensures)) (o .dead-cursor .ensures))
+    (cursor-found (sessionOf (a .words .now)) (a .cursor) (g .find-cursor .ensures) (k .cursor-at .ensures))
+    (o .dead-cursor .ensures))
     (t .if1 .left) (close-sends (sessionOf (a .words .now)) (a .cursor) (a .report))
     (close-after (sessionOf (a .words .now)) (a .cursor) (a .report) (u .end .ensures)) (w .accept .ensures)
 

@@ -18,9 +18,11 @@ returns c =
     let g = k .before .before in
     let st = g .before .before .before in
     let a = st .args in
-    refuses (sessionOf (a .words .now)) (a .used) (Request.Deallocate (a .stmt)) (a .report) (a .buf .now) (st .pre .room) (st .pre .read)
+    refuses (sessionOf (a .words .now)) (a .used) (Request.Deallocate (a .stmt)) (a .report) (a .buf .now)
+    (st .pre .room) (st .pre .read)
     (deallocate-decides (sessionOf (a .words .now)) (st .pre .unclosed) (a .used) (a .report) (a .stmt)
-    (stmt-found (sessionOf (a .words .now)) (a .stmt) (g .find-stmt .ensures) (k .stmt-at .ensures)) (o .dead-stmt .ensures))
+    (stmt-found (sessionOf (a .words .now)) (a .stmt) (g .find-stmt .ensures) (k .stmt-at .ensures))
+    (o .dead-stmt .ensures))
     (t .if1 .taken) (w .before .unbound .ensures) (w .refuse .ensures)
 
 returns-2 : tie.Need-returns-2
@@ -33,11 +35,14 @@ returns-2 c =
     let g = k .before .before in
     let st = g .before .before .before in
     let a = st .args in
-    accepts (sessionOf (a .words .now)) (a .used) (Request.Deallocate (a .stmt)) (a .report) (a .buf .now) (st .pre .room) (st .pre .read)
+    accepts (sessionOf (a .words .now)) (a .used) (Request.Deallocate (a .stmt)) (a .report) (a .buf .now)
+    (st .pre .room) (st .pre .read)
     (deallocate-decides (sessionOf (a .words .now)) (st .pre .unclosed) (a .used) (a .report) (a .stmt)
-    (stmt-found (sessionOf (a .words .now)) (a .stmt) (g .find-stmt .ensures) (k .stmt-at .ensures)) (o .dead-stmt .ensures))
+    (stmt-found (sessionOf (a .words .now)) (a .stmt) (g .find-stmt .ensures) (k .stmt-at .ensures))
+    (o .dead-stmt .ensures))
     (t .if1 .left) (deallocate-sends (sessionOf (a .words .now)) (a .stmt) (a .report))
-    (deallocate-after (sessionOf (a .words .now)) (a .stmt) (a .report) (g .find-stmt .ensures) (u .free .ensures)) (w .accept .ensures)
+    (deallocate-after (sessionOf (a .words .now)) (a .stmt) (a .report) (g .find-stmt .ensures) (u .free .ensures))
+    (w .accept .ensures)
 
 pub deallocate-spec : {M : Type 1} → statement M
 deallocate-spec =

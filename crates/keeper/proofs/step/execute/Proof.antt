@@ -1,4 +1,5 @@
--- `keeper::step::execute` meets its contract: the statement and the arguments decide, and its cursor ends. Assumes nothing.
+-- `keeper::step::execute` meets its contract: the statement and the arguments decide, and its cursor ends. Assumes
+-- nothing.
 use native.Mathlib.Omega.{arith}
 use mathlib.Core.Path.{refl}
 use borrow.Author.Needs.{needs}
@@ -19,8 +20,10 @@ returns c =
     let e = d .before in
     let st = e .before .before .before in
     let a = st .args in
-    refuses (sessionOf (a .words .now)) (a .used) (Request.Execute (a .x)) (a .report) (a .buf .now) (st .pre .room) (st .pre .read)
-    (execute-decides (sessionOf (a .words .now)) (st .pre .unclosed) (a .used) (a .report) (a .x) (e .execute .ensures) (d .is-result .ensures)
+    refuses (sessionOf (a .words .now)) (a .used) (Request.Execute (a .x)) (a .report) (a .buf .now) (st .pre .room)
+    (st .pre .read)
+    (execute-decides (sessionOf (a .words .now)) (st .pre .unclosed) (a .used) (a .report) (a .x)
+    (e .execute .ensures) (d .is-result .ensures)
     (p .report .ensures) (o .or-else .ensures))
     (t .if1 .taken) (w .before .before .bound .ensures) (w .refuse .ensures)
 
@@ -36,8 +39,10 @@ returns-2 c =
     let e = d .before in
     let st = e .before .before .before in
     let a = st .args in
-    accepts (sessionOf (a .words .now)) (a .used) (Request.Execute (a .x)) (a .report) (a .buf .now) (st .pre .room) (st .pre .read)
-    (execute-decides (sessionOf (a .words .now)) (st .pre .unclosed) (a .used) (a .report) (a .x) (e .execute .ensures) (d .is-result .ensures)
+    accepts (sessionOf (a .words .now)) (a .used) (Request.Execute (a .x)) (a .report) (a .buf .now) (st .pre .room)
+    (st .pre .read)
+    (execute-decides (sessionOf (a .words .now)) (st .pre .unclosed) (a .used) (a .report) (a .x)
+    (e .execute .ensures) (d .is-result .ensures)
     (p .report .ensures) (o .or-else .ensures))
     (t .if1 .left) (execute-sends (sessionOf (a .words .now)) (a .x) (a .report) (h .all .ensures))
     (execute-after (sessionOf (a .words .now)) (a .x) (a .report) (u .end .ensures)) (w .accept .ensures)

@@ -1,4 +1,5 @@
--- `keeper::step::fetch` meets its contract: the cursor looked up decides, and its rows sent are the one word that changes.
+-- `keeper::step::fetch` meets its contract: the cursor looked up decides, and its rows sent are the one word that
+-- changes.
 -- Assumes nothing.
 use native.Mathlib.Omega.{arith}
 use mathlib.Core.Path.{refl, sym, _∙_}
@@ -23,9 +24,12 @@ returns c =
     let g = k .before .before in
     let st = g .before .before .before in
     let a = st .args in
-    let found = cursor-found (sessionOf (a .words .now)) (a .f .cursor) (g .find-cursor .ensures) (k .cursor-at .ensures) in
-    refuses (sessionOf (a .words .now)) (a .used) (Request.Fetch (a .f)) (a .report) (a .buf .now) (st .pre .room) (st .pre .read)
-    (fetch-decides (sessionOf (a .words .now)) (st .pre .unclosed) (a .used) (a .report) (a .f) found (e .fetch .ensures) (d .is-done .ensures) (p .report .ensures) (o .or-else .ensures))
+    let found = cursor-found (sessionOf (a .words .now)) (a .f .cursor) (g .find-cursor .ensures)
+    (k .cursor-at .ensures) in
+    refuses (sessionOf (a .words .now)) (a .used) (Request.Fetch (a .f)) (a .report) (a .buf .now) (st .pre .room)
+    (st .pre .read)
+    (fetch-decides (sessionOf (a .words .now)) (st .pre .unclosed) (a .used) (a .report) (a .f) found
+    (e .fetch .ensures) (d .is-done .ensures) (p .report .ensures) (o .or-else .ensures))
     (t .if1 .taken) (u .unbound .ensures) (w .refuse .ensures)
 
 -- the rows that go out are within those of the cursor
@@ -36,7 +40,8 @@ sent-after-requires c κs =
     let p = o .before in
     let e = p .before .before in
     let k = e .before in
-    fetch-within (k .cursor-at .result) (k .before .before .before .before .before .args .f .rows) (o .before .report .result)
+    fetch-within (k .cursor-at .result) (k .before .before .before .before .before .args .f .rows)
+    (o .before .report .result)
     (e .fetch .ensures) (o .or-else .ensures) (n .before .before .if1 .left) (n .fetch-count .ensures)
 
 fetched-requires : tie.Need-fetched-requires
@@ -45,7 +50,8 @@ fetched-requires c κs =
     let o = n .before .before .before in
     let e = o .before .before .before in
     let k = e .before in
-    fetch-within (k .cursor-at .result) (k .before .before .before .before .before .args .f .rows) (o .before .report .result)
+    fetch-within (k .cursor-at .result) (k .before .before .before .before .before .args .f .rows)
+    (o .before .report .result)
     (e .fetch .ensures) (o .or-else .ensures) (n .before .before .if1 .left) (n .fetch-count .ensures)
 
 returns-2 : tie.Need-returns-2
@@ -66,9 +72,11 @@ returns-2 c =
     let s = sessionOf (a .words .now) in
     let found = cursor-found s (a .f .cursor) (g .find-cursor .ensures) (k .cursor-at .ensures) in
     accepts s (a .used) (Request.Fetch (a .f)) (a .report) (a .buf .now) (st .pre .room) (st .pre .read)
-    (fetch-decides s (st .pre .unclosed) (a .used) (a .report) (a .f) found (e .fetch .ensures) (d .is-done .ensures) (p .report .ensures) (o .or-else .ensures))
+    (fetch-decides s (st .pre .unclosed) (a .used) (a .report) (a .f) found (e .fetch .ensures) (d .is-done .ensures)
+    (p .report .ensures) (o .or-else .ensures))
     (t .if1 .left) (fetch-sends s (a .f) (a .report) found (n .fetch-count .ensures) (h .fetched .ensures))
-    (fetch-after s (a .f) (a .report) (g .find-cursor .ensures) found (n .fetch-count .ensures) (u .put-sent .ensures) (u .before .sent-after .ensures))
+    (fetch-after s (a .f) (a .report) (g .find-cursor .ensures) found (n .fetch-count .ensures) (u .put-sent .ensures)
+    (u .before .sent-after .ensures))
     (w .accept .ensures)
 
 pub fetch-spec : {M : Type 1} → statement M

@@ -1,4 +1,5 @@
--- `keeper::step::open` meets its contract: the statement, the arguments and the cursors decide, and the cursor is stored. Assumes nothing.
+-- `keeper::step::open` meets its contract: the statement, the arguments and the cursors decide, and the cursor is
+-- stored. Assumes nothing.
 use native.Mathlib.Omega.{arith}
 use mathlib.Core.Path.{refl}
 use borrow.Author.Needs.{needs}
@@ -20,8 +21,10 @@ returns c =
     let g = e .before .before in
     let st = g .before .before .before .before in
     let a = st .args in
-    refuses (sessionOf (a .words .now)) (a .used) (Request.Open (a .o)) (a .report) (a .buf .now) (st .pre .room) (st .pre .read)
-    (open-decides (sessionOf (a .words .now)) (st .pre .unclosed) (a .used) (a .report) (a .o) (e .«open» .ensures) (d .is-result .ensures)
+    refuses (sessionOf (a .words .now)) (a .used) (Request.Open (a .o)) (a .report) (a .buf .now) (st .pre .room)
+    (st .pre .read)
+    (open-decides (sessionOf (a .words .now)) (st .pre .unclosed) (a .used) (a .report) (a .o) (e .«open» .ensures)
+    (d .is-result .ensures)
     (p .report .ensures) (o .or-else .ensures))
     (t .if1 .taken) (w .before .before .bound .ensures) (w .refuse .ensures)
 
@@ -32,7 +35,13 @@ cast-open c =
     let p = o .before in
     let d = p .before in
     let r = d .before .before .before .before .before .before .before .args .report in
-    record { fits = omega (arith, result-within r (d .before .«open» .result) (d .is-result .ensures) (p .report .ensures) (o .or-else .ensures) (t .if1 .left)) }
+    record {
+      fits = omega (
+        arith,
+        result-within r (d .before .«open» .result) (d .is-result .ensures)
+            (p .report .ensures) (o .or-else .ensures) (t .if1 .left),
+      );
+    }
 
 cast-open-2 : tie.Need-cast-open-2
 cast-open-2 c =
@@ -47,7 +56,8 @@ cast-open-2 c =
           omega (
             arith,
             open-within (a .report) (a .o .rows) (n .open-count .ensures),
-            result-within (a .report) (d .before .«open» .result) (d .is-result .ensures) (p .report .ensures) (o .or-else .ensures) (t .if1 .left),
+            result-within (a .report) (d .before .«open» .result) (d .is-result .ensures) (p .report .ensures)
+                (o .or-else .ensures) (t .if1 .left),
           );
     }
 
@@ -71,11 +81,15 @@ returns-2 c =
     let g = e .before .before in
     let st = g .before .before .before .before in
     let a = st .args in
-    accepts (sessionOf (a .words .now)) (a .used) (Request.Open (a .o)) (a .report) (a .buf .now) (st .pre .room) (st .pre .read)
-    (open-decides (sessionOf (a .words .now)) (st .pre .unclosed) (a .used) (a .report) (a .o) (e .«open» .ensures) (d .is-result .ensures)
+    accepts (sessionOf (a .words .now)) (a .used) (Request.Open (a .o)) (a .report) (a .buf .now) (st .pre .room)
+    (st .pre .read)
+    (open-decides (sessionOf (a .words .now)) (st .pre .unclosed) (a .used) (a .report) (a .o) (e .«open» .ensures)
+    (d .is-result .ensures)
     (p .report .ensures) (o .or-else .ensures))
-    (t .if1 .left) (open-sends (sessionOf (a .words .now)) (a .o) (a .report) (n .open-count .ensures) (h .opened .ensures))
-    (open-after (sessionOf (a .words .now)) (a .o) (a .report) (g .cursor-place .ensures) (n .open-count .ensures) (u .open2 .ensures))
+    (t .if1 .left) (open-sends (sessionOf (a .words .now)) (a .o) (a .report) (n .open-count .ensures)
+    (h .opened .ensures))
+    (open-after (sessionOf (a .words .now)) (a .o) (a .report) (g .cursor-place .ensures) (n .open-count .ensures)
+    (u .open2 .ensures))
     (w .accept .ensures)
 
 pub open-spec : {M : Type 1} → statement M

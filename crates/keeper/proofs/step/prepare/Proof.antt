@@ -1,4 +1,5 @@
--- `keeper::step::prepare` meets its contract: the place that the statement takes decides, and it is stored there. Assumes nothing.
+-- `keeper::step::prepare` meets its contract: the place that the statement takes decides, and it is stored there.
+-- Assumes nothing.
 use native.Mathlib.Omega.{arith}
 use mathlib.Core.Path.{refl}
 use borrow.Author.Needs.{needs}
@@ -20,8 +21,10 @@ returns c =
     let g = e .before in
     let st = g .before .before .before in
     let a = st .args in
-    refuses (sessionOf (a .words .now)) (a .used) (Request.Prepare (a .p)) (a .report) (a .buf .now) (st .pre .room) (st .pre .read)
-    (prepare-decides (sessionOf (a .words .now)) (st .pre .unclosed) (a .used) (a .report) (a .p) (g .stmt-place .ensures) (e .full .ensures)
+    refuses (sessionOf (a .words .now)) (a .used) (Request.Prepare (a .p)) (a .report) (a .buf .now) (st .pre .room)
+    (st .pre .read)
+    (prepare-decides (sessionOf (a .words .now)) (st .pre .unclosed) (a .used) (a .report) (a .p)
+    (g .stmt-place .ensures) (e .full .ensures)
     (d .is-prepared .ensures) (p .report .ensures) (o .or-else .ensures))
     (t .if1 .taken) (w .before .before .bound .ensures) (w .refuse .ensures)
 
@@ -32,7 +35,13 @@ cast-prepare c =
     let p = o .before in
     let d = p .before in
     let r = d .before .before .before .before .before .args .report in
-    record { fits = omega (arith, prepared-within r (d .before .full .result) (d .is-prepared .ensures) (p .report .ensures) (o .or-else .ensures) (t .if1 .left)) }
+    record {
+      fits = omega (
+        arith,
+        prepared-within r (d .before .full .result) (d .is-prepared .ensures)
+            (p .report .ensures) (o .or-else .ensures) (t .if1 .left),
+      );
+    }
 
 returns-2 : tie.Need-returns-2
 returns-2 c =
@@ -46,11 +55,14 @@ returns-2 c =
     let g = e .before in
     let st = g .before .before .before in
     let a = st .args in
-    accepts (sessionOf (a .words .now)) (a .used) (Request.Prepare (a .p)) (a .report) (a .buf .now) (st .pre .room) (st .pre .read)
-    (prepare-decides (sessionOf (a .words .now)) (st .pre .unclosed) (a .used) (a .report) (a .p) (g .stmt-place .ensures) (e .full .ensures)
+    accepts (sessionOf (a .words .now)) (a .used) (Request.Prepare (a .p)) (a .report) (a .buf .now) (st .pre .room)
+    (st .pre .read)
+    (prepare-decides (sessionOf (a .words .now)) (st .pre .unclosed) (a .used) (a .report) (a .p)
+    (g .stmt-place .ensures) (e .full .ensures)
     (d .is-prepared .ensures) (p .report .ensures) (o .or-else .ensures))
     (t .if1 .left) (prepare-sends (sessionOf (a .words .now)) (a .p) (a .report))
-    (prepare-after (sessionOf (a .words .now)) (a .p) (a .report) (g .stmt-place .ensures) (u .prepare .ensures)) (w .accept .ensures)
+    (prepare-after (sessionOf (a .words .now)) (a .p) (a .report) (g .stmt-place .ensures) (u .prepare .ensures))
+    (w .accept .ensures)
 
 pub prepare-spec : {M : Type 1} → statement M
 prepare-spec =

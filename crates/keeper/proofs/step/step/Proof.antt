@@ -1,10 +1,12 @@
--- `keeper::step::step` meets its contract: room comes first, then what the frame is by itself, then its request. Assumes
+-- `keeper::step::step` meets its contract: room comes first, then what the frame is by itself, then its request.
+-- Assumes
 -- nothing.
 use mathlib.Core.Path.{refl}
 use borrow.Author.Needs.{needs}
 use Rattle.message.specs.Frame.{frameOf}
 use Rattle.session.specs.Words.{sessionOf}
-use Rattle.keeper.proofs.FrameLaws.{short-step, cut-step, length-step, unknown-refuses, payload-refuses, does-read, readable, sym-answer}
+use Rattle.keeper.proofs.FrameLaws.{short-step, cut-step, length-step, unknown-refuses, payload-refuses}
+use Rattle.keeper.proofs.FrameLaws.{does-read, readable, sym-answer}
 use Rattle.keeper.proofs.step.step.Statement.{statement}
 use Rattle.keeper.proofs.step.step.Tie as tie
 
@@ -12,7 +14,8 @@ returns : tie.Need-returns
 returns c =
     let a = c .before .before .before .before .args in
     let d = sym-answer (c .refuse-silently .ensures)
-    (short-step (sessionOf (a .words .now)) (a .report) (a .reply .now) (frameOf (a .frame .now)) (c .before .if1 .taken)) in
+    (short-step (sessionOf (a .words .now)) (a .report) (a .reply .now) (frameOf (a .frame .now))
+    (c .before .if1 .taken)) in
     (d .answered, (d .kept, d .replied))
 
 returns-2 : tie.Need-returns-2
@@ -44,7 +47,8 @@ returns-4 c =
     let a = f .before .before .before .before .args in
     let s = sessionOf (a .words .now) in
     let d = does-read s (a .frame .now) (a .report) (a .reply .now) (f .read-frame .ensures) (u .used .given .1)
-    (unknown-refuses s _ (a .report) (a .reply .now) (f .before .if1 .left) (k .closed-or .ensures) (w .refuse .ensures)) in
+    (unknown-refuses s _ (a .report) (a .reply .now) (f .before .if1 .left) (k .closed-or .ensures)
+    (w .refuse .ensures)) in
     (d .answered, (d .kept, d .replied))
 
 returns-5 : tie.Need-returns-5
@@ -56,7 +60,8 @@ returns-5 c =
     let a = f .before .before .before .before .args in
     let s = sessionOf (a .words .now) in
     let d = does-read s (a .frame .now) (a .report) (a .reply .now) (f .read-frame .ensures) (u .used2 .given .1)
-    (payload-refuses s _ (a .report) (a .reply .now) (f .before .if1 .left) _ (k .closed-or2 .ensures) (w .refuse2 .ensures)) in
+    (payload-refuses s _ (a .report) (a .reply .now) (f .before .if1 .left) _ (k .closed-or2 .ensures)
+    (w .refuse2 .ensures)) in
     (d .answered, (d .kept, d .replied))
 
 step-on-requires : tie.Need-step-on-requires
@@ -72,7 +77,8 @@ returns-6 c =
     let u = w .before .before .before .before in
     let f = u .before .before in
     let a = f .before .before .before .before .args in
-    let d = does-read (sessionOf (a .words .now)) (a .frame .now) (a .report) (a .reply .now) (f .read-frame .ensures) (u .used3 .given .1) (w .step-on .ensures) in
+    let d = does-read (sessionOf (a .words .now)) (a .frame .now) (a .report) (a .reply .now) (f .read-frame .ensures)
+    (u .used3 .given .1) (w .step-on .ensures) in
     (d .answered, (d .kept, d .replied))
 
 pub step-spec : {M : Type 1} → statement M

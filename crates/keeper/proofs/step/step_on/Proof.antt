@@ -1,11 +1,13 @@
--- `keeper::step::step_on` meets its contract: closed comes first, then each request has its own function. Assumes nothing.
+-- `keeper::step::step_on` meets its contract: closed comes first, then each request has its own function. Assumes
+-- nothing.
 use mathlib.Core.Path.{refl, sym, subst, _∙_}
 use borrow.Author.Needs.{needs}
 use Rattle.message.specs.declared.request.Request.{Request}
 use Rattle.session.specs.Words.{sessionOf}
 use Rattle.rules.specs.Read.{Read}
 use Rattle.keeper.proofs.StepLaws.{closed-refuses, ready, does-as, accepts}
-use Rattle.keeper.proofs.RequestLaws.{reset-decides, reset-sends, reset-after, session-close-decides, session-close-sends, session-close-after}
+use Rattle.keeper.proofs.RequestLaws.{reset-decides, reset-sends, reset-after, session-close-decides}
+use Rattle.keeper.proofs.RequestLaws.{session-close-sends, session-close-after}
 use Rattle.keeper.proofs.step.step_on.Statement.{statement}
 use Rattle.keeper.proofs.step.step_on.Tie as tie
 
@@ -17,7 +19,8 @@ returns c =
     let k = t .before in
     let st = k .before .before .before in
     let a = st .args in
-    closed-refuses (sessionOf (a .words .now)) (a .used) (a .request) (a .report) (a .buf .now) (st .pre .room) (st .pre .read)
+    closed-refuses (sessionOf (a .words .now)) (a .used) (a .request) (a .report) (a .buf .now) (st .pre .room)
+    (st .pre .read)
     (sym (k .is-closed .ensures) ∙ t .if1 .taken) (w .refuse .ensures)
 
 fetch-requires : tie.Need-fetch-requires
@@ -50,7 +53,8 @@ returns-3 c =
     let q = w .before .before .before .before in
     let st = q .before .before .before .before .before .before in
     let a = st .args in
-    does-as (sessionOf (a .words .now)) (a .used) (a .report) (a .buf .now) (q .request2 .given .1) (w .execute .ensures)
+    does-as (sessionOf (a .words .now)) (a .used) (a .report) (a .buf .now) (q .request2 .given .1)
+    (w .execute .ensures)
 
 prepare-requires : tie.Need-prepare-requires
 prepare-requires c κs =
@@ -66,7 +70,8 @@ returns-4 c =
     let q = w .before .before .before .before in
     let st = q .before .before .before .before .before .before in
     let a = st .args in
-    does-as (sessionOf (a .words .now)) (a .used) (a .report) (a .buf .now) (q .request3 .given .1) (w .prepare .ensures)
+    does-as (sessionOf (a .words .now)) (a .used) (a .report) (a .buf .now) (q .request3 .given .1)
+    (w .prepare .ensures)
 
 open-requires : tie.Need-open-requires
 open-requires c κs =
@@ -114,7 +119,8 @@ returns-7 c =
     let q = w .before .before .before .before in
     let st = q .before .before .before .before .before .before in
     let a = st .args in
-    does-as (sessionOf (a .words .now)) (a .used) (a .report) (a .buf .now) (q .request6 .given .1) (w .deallocate .ensures)
+    does-as (sessionOf (a .words .now)) (a .used) (a .report) (a .buf .now) (q .request6 .given .1)
+    (w .deallocate .ensures)
 
 returns-8 : tie.Need-returns-8
 returns-8 c =
@@ -127,8 +133,10 @@ returns-8 c =
     let a = st .args in
     let s = sessionOf (a .words .now) in
     does-as s (a .used) (a .report) (a .buf .now) (q .enum-told .given .1)
-    (accepts s (a .used) Request.Reset (a .report) (a .buf .now) (st .pre .room) (subst Read (q .enum-told .given .1) (st .pre .read))
-    (reset-decides s (sym (k .is-closed .ensures) ∙ t .if1 .left) (a .used) (a .report)) refl (reset-sends s (a .report))
+    (accepts s (a .used) Request.Reset (a .report) (a .buf .now) (st .pre .room)
+    (subst Read (q .enum-told .given .1) (st .pre .read))
+    (reset-decides s (sym (k .is-closed .ensures) ∙ t .if1 .left) (a .used) (a .report)) refl
+    (reset-sends s (a .report))
     (reset-after s (a .report) (u .clear .ensures)) (w .accept .ensures))
 
 returns-9 : tie.Need-returns-9
@@ -142,8 +150,10 @@ returns-9 c =
     let a = st .args in
     let s = sessionOf (a .words .now) in
     does-as s (a .used) (a .report) (a .buf .now) (q .enum-told2 .given .1)
-    (accepts s (a .used) Request.SessionClose (a .report) (a .buf .now) (st .pre .room) (subst Read (q .enum-told2 .given .1) (st .pre .read))
-    (session-close-decides s (sym (k .is-closed .ensures) ∙ t .if1 .left) (a .used) (a .report)) refl (session-close-sends s (a .report))
+    (accepts s (a .used) Request.SessionClose (a .report) (a .buf .now) (st .pre .room)
+    (subst Read (q .enum-told2 .given .1) (st .pre .read))
+    (session-close-decides s (sym (k .is-closed .ensures) ∙ t .if1 .left) (a .used) (a .report)) refl
+    (session-close-sends s (a .report))
     (session-close-after s (a .report) (u .close2 .ensures)) (w .accept2 .ensures))
 
 pub step-on-spec : {M : Type 1} → statement M

@@ -15,25 +15,38 @@ returns c =
 
 slice-aggregate-list-fields : tie.Need-slice-aggregate-list-fields
 slice-aggregate-list-fields c =
-    let a = c .before .before .before .before .before .before .before .args in omega (arith, length-take (a .end) (a .s .now), c .before .if1 .left)
+    let a = c .before .before .before .before .before .before .before .args in omega
+    (arith, length-take (a .end) (a .s .now), c .before .if1 .left)
 
 returns-2 : tie.Need-returns-2
 returns-2 c =
-    let a = c .before .before .before .before .before .before .before .before .before .before .before .before .before .before .before .before .args in
-    holds-bad (a .rows .now) (a .s .now) (a .from) (a .end) (c .before .before .before .before .before .before .before .before .before .before .if1 .left) (c .before .before .before .before .before .list-fields .ensures)
+    let far = c .before .before .before .before .before .before .before .before in
+    let a = far .before .before .before .before .before .before .before .before .args in
+    holds-bad (a .rows .now) (a .s .now) (a .from) (a .end)
+    (c .before .before .before .before .before .before .before .before .before .before .if1 .left)
+    (c .before .before .before .before .before .list-fields .ensures)
     (not-true _ (c .before .before .before .before .if2 .taken)) (c .clear2 .ensures)
 
 returns-3 : tie.Need-returns-3
 returns-3 c =
-    let a = c .before .before .before .before .before .before .before .before .before .before .before .before .before .before .before .before .before .before .before .before .args in
-    holds-missing (a .rows .now) (a .s .now) (a .from) (a .end) (c .before .before .before .before .before .before .before .before .before .before .before .before .before .before .if1 .left) (c .before .before .before .before .before .before .before .before .before .list-fields .ensures)
-    (not-false _ (c .before .before .before .before .before .before .before .before .if2 .left)) (sym (c .before .before .before .before .before .has-required .ensures) ∙ not-true _ (c .before .before .before .before .if3 .taken)) (c .clear3 .ensures)
+    let far = c .before .before .before .before .before .before .before .before .before .before in
+    let a = far .before .before .before .before .before .before .before .before .before .before .args in
+    holds-missing (a .rows .now) (a .s .now) (a .from) (a .end)
+    (far .before .before .before .before .if1 .left)
+    (c .before .before .before .before .before .before .before .before .before .list-fields .ensures)
+    (not-false _ (c .before .before .before .before .before .before .before .before .if2 .left))
+    (sym (c .before .before .before .before .before .has-required .ensures)
+    ∙ not-true _ (c .before .before .before .before .if3 .taken)) (c .clear3 .ensures)
 
 returns-4 : tie.Need-returns-4
 returns-4 c =
-    let a = c .before .before .before .before .before .before .before .before .before .before .before .before .before .before .before .before .args in
-    holds-good (a .rows .now) (a .s .now) (a .from) (a .end) (c .before .before .before .before .before .before .before .before .before .before .if1 .left) (c .before .before .before .before .before .list-fields .ensures)
-    (not-false _ (c .before .before .before .before .if2 .left)) (sym (c .before .has-required .ensures) ∙ not-false _ (c .if3 .left))
+    let far = c .before .before .before .before .before .before .before .before in
+    let a = far .before .before .before .before .before .before .before .before .args in
+    holds-good (a .rows .now) (a .s .now) (a .from) (a .end)
+    (c .before .before .before .before .before .before .before .before .before .before .if1 .left)
+    (c .before .before .before .before .before .list-fields .ensures)
+    (not-false _ (c .before .before .before .before .if2 .left))
+    (sym (c .before .has-required .ensures) ∙ not-false _ (c .if3 .left))
 
 pub fill-fields-spec : {M : Type 1} → statement M
 fill-fields-spec =

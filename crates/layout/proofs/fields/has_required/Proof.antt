@@ -34,7 +34,8 @@ loop-again c =
     )
 
 returns-2 : tie.Need-returns-2 Inv-loop μ-loop
-returns-2 c = let a = c .before .before .before .args in need-end (a .rows .now) (a .seen .now) (c .before .loop .i) (c .loop-test .left) ∙ c .before .loop .inv .1
+returns-2 c = let a = c .before .before .before .args in need-end (a .rows .now) (a .seen .now) (c .before .loop .i)
+    (c .loop-test .left) ∙ c .before .loop .inv .1
 
 pub has-required-spec : {M : Type 1} → statement M
 has-required-spec =

@@ -11,7 +11,8 @@ returns c = let a = c .before .args in takes-no-slot (a .t1) (a .number) (a .wir
 returns-2 : tie.Need-returns-2
 returns-2 c =
     let a = c .before .before .before .args in
-    takes-other (a .t1) (a .number) (a .wire) (a .value) (c .before .before .if1 .left) (λ e. c .if2 .taken (c .before .wide .ensures ∙ e))
+    takes-other (a .t1) (a .number) (a .wire) (a .value) (c .before .before .if1 .left)
+    (λ e. c .if2 .taken (c .before .wide .ensures ∙ e))
 
 returns-3 : tie.Need-returns-3
 returns-3 c =

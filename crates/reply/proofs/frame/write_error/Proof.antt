@@ -1,4 +1,5 @@
--- `reply::frame::write_error` meets its contract: the head states the length that is counted, and the payload stands behind it. Assumes nothing.
+-- `reply::frame::write_error` meets its contract: the head states the length that is counted, and the payload stands
+-- behind it. Assumes nothing.
 use borrow.Author.Needs.{needs}
 use native.Mathlib.Omega.{arith}
 use lib.ListN.{length}

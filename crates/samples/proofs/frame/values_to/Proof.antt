@@ -10,4 +10,5 @@ slice-aggregate-values c =
     let a = c .before .before .before .args in sym (length-take-le (a .end) (a .s .now) (c .before .if1 .taken))
 
 pub values-to-spec : {M : Type 1} → statement M
-values-to-spec = tie.close (tie.spec slice-aggregate-values (λ c κs. search needs) (λ c. search needs) (λ c. search needs))
+values-to-spec = tie.close (tie.spec slice-aggregate-values (λ c κs. search needs) (λ c. search needs)
+    (λ c. search needs))

@@ -20,7 +20,8 @@ cast-result : tie.Need-cast-result
 cast-result c = let p = plain (back (c .before)) (back-fits (c .before)) (c .if1 .taken) in (p .0, p .1)
 
 returns : tie.Need-returns
-returns c = plain (back (c .before)) (back-fits (c .before)) (c .if1 .taken) .2 ∙ same-bits (c .before .args .v) (c .before .fits .v)
+returns c = plain (back (c .before)) (back-fits (c .before)) (c .if1 .taken) .2
+    ∙ same-bits (c .before .args .v) (c .before .fits .v)
 
 below : (c : tie.Else1) → Flipped (back (c .before))
 below c = flipped (back (c .before)) (back-fits (c .before)) (c .if1 .left)

@@ -1,8 +1,8 @@
 -- `trace_line::printer::print_chunk` meets its contract: what is taken is put behind what is held, and what the lines
 -- leave of both is moved to the front. Assumes nothing.
-use Prim.Native.Nat.{_+_}
+use Prim.Native.Nat.{_+_, _-_}
 use native.Mathlib.Omega.{arith}
-use mathlib.Core.Path.{sym}
+use mathlib.Core.Path.{sym, _∙_}
 use lib.ListN.{length-take}
 use lib.Seq.{length-take-le}
 use borrow.Author.Needs.{needs}
@@ -60,10 +60,19 @@ returns c =
     let a = k .before .before .before .before .before .args in
     let n = k .before .lesser .result + k .lesser2 .result in
     let at = w .put-lines .result .at in
-    let there = omega (arith, w .put-lines .ensures .within, length-take n (b .write-bytes .last .0)) in
     printed (a .p) (sessionOf (a .words .now)) (a .store .now) (a .chunk .now) (a .out .now)
     (k .before .lesser .ensures) (k .lesser2 .ensures) (b .write-bytes .ensures .1) (w .put-lines .ensures)
-    (f .stands-first .ensures) (m .move-front .ensures ∙ moved-front (b .write-bytes .last .0) at (n - at) there)
+    (f .stands-first .ensures)
+    (m .move-front .ensures
+    ∙ moved-front (b .write-bytes .last .0) at (n - at)
+    (omega (
+      arith,
+      w .put-lines .ensures .within,
+      length-take n (b .write-bytes .last .0),
+      b .write-bytes .kept .0,
+      k .before .lesser .ensures,
+      k .lesser2 .ensures,
+    )))
 
 pub print-chunk-spec : {M : Type 1} → statement M
 print-chunk-spec =

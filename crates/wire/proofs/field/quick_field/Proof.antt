@@ -18,7 +18,8 @@ returns-2 : tie.Need-returns-2
 returns-2 c =
     let a = c .before .before .before .before .before .args in
     let b = c .before .wide in
-    quick-low (a .s .now) (a .at) (b .result) (c .before .before .before .if1 .left) (b .ensures) (omega arith) (c .if2 .taken)
+    quick-low (a .s .now) (a .at) (b .result) (c .before .before .before .if1 .left) (b .ensures) (omega arith)
+    (c .if2 .taken)
 
 returns-3 : tie.Need-returns-3
 returns-3 c =
@@ -26,8 +27,10 @@ returns-3 c =
     let b = c .before .before .before .before .before .wide in
     c .valued .ensures
     ∙ ap (ofValue (b .result / 8) 0) (c .before .number-value .ensures)
-    ∙ quick-wire (a .s .now) (a .at) (b .result) (c .before .before .before .before .before .before .before .if1 .left) (b .ensures)
-    (c .before .before .before .if3 .taken) 0 (c .before .before .before .before .if2 .left) (c .before .before .if4 .taken) (omega arith)
+    ∙ quick-wire (a .s .now) (a .at) (b .result)
+    (c .before .before .before .before .before .before .before .if1 .left) (b .ensures)
+    (c .before .before .before .if3 .taken) 0 (c .before .before .before .before .if2 .left)
+    (c .before .before .if4 .taken) (omega arith)
 
 returns-4 : tie.Need-returns-4
 returns-4 c =
@@ -35,8 +38,10 @@ returns-4 c =
     let b = c .before .before .before .before .before .before .wide in
     c .valued2 .ensures
     ∙ ap (ofValue (b .result / 8) 2) (c .before .length-value .ensures)
-    ∙ quick-wire (a .s .now) (a .at) (b .result) (c .before .before .before .before .before .before .before .before .if1 .left) (b .ensures)
-    (c .before .before .before .before .if3 .taken) 2 (c .before .before .before .before .before .if2 .left) (c .before .before .if5 .taken)
+    ∙ quick-wire (a .s .now) (a .at) (b .result)
+    (c .before .before .before .before .before .before .before .before .if1 .left) (b .ensures)
+    (c .before .before .before .before .if3 .taken) 2 (c .before .before .before .before .before .if2 .left)
+    (c .before .before .if5 .taken)
     (omega arith)
 
 slice-aggregate-read-field : tie.Need-slice-aggregate-read-field

@@ -12,7 +12,8 @@ use Rattle.wire.proofs.field.tagged.Tie as tie
 sub-t9 : tie.Need-sub-t9
 sub-t9 c =
     let a = c .before .before .before .before .before .before .args in
-    group-ends maxDepth (a .s .now) (a .at) (a .n) (sym (c .before .before .before .skip-group .ensures) ∙ c .before .next .given .1)
+    group-ends maxDepth (a .s .now) (a .at) (a .n) (sym (c .before .before .before .skip-group .ensures)
+    ∙ c .before .next .given .1)
 
 returns : tie.Need-returns
 returns c =

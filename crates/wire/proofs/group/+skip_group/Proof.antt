@@ -52,15 +52,22 @@ pub +skip-group-spec : {M : Type 1} → statement M
     skip-group-Inv-loop
     skip-group-μ-loop
     (λ c. let a = c .before .before .args in
-    sym (shut (a .s .now) (a .at) (a .number)) ∙ ap (λ (d : ℕ). groupEnd d (a .s .now) (a .at) (a .number)) (sym (c .if1 .taken)))
+    sym (shut (a .s .now) (a .at) (a .number)) ∙ ap (λ (d : ℕ). groupEnd d (a .s .now) (a .at) (a .number))
+    (sym (c .if1 .taken)))
     (λ c. starts _ _ _ _ (pos-of-ne-zero (c .if1 .left)))
     (λ c κs. tt)
     (λ c. search needs)
     (λ c. search needs)
     (λ c. no-tag (c .before .before .before .before .loop .inv) (c .before .before .before .loop-test .taken)
     (sym (c .before .before .read-tag .ensures) ∙ c .enum-told .given .1))
-    (λ c. ended (c .before .before .before .before .before .before .before .loop .inv) (c .before .before .before .before .before .before .loop-test .taken) (sym (c .before .before .before .before .before .read-tag .ensures) ∙ c .before .before .before .n .given .1) (c .before .if2 .taken) (c .if3 .taken))
-    (λ c. misended (c .before .before .before .before .before .before .before .loop .inv) (c .before .before .before .before .before .before .loop-test .taken) (sym (c .before .before .before .before .before .read-tag .ensures) ∙ c .before .before .before .n .given .1) (c .before .if2 .taken) (c .if3 .left))
+    (λ c. ended (c .before .before .before .before .before .before .before .loop .inv)
+    (c .before .before .before .before .before .before .loop-test .taken)
+    (sym (c .before .before .before .before .before .read-tag .ensures) ∙ c .before .before .before .n .given .1)
+    (c .before .if2 .taken) (c .if3 .taken))
+    (λ c. misended (c .before .before .before .before .before .before .before .loop .inv)
+    (c .before .before .before .before .before .before .loop-test .taken)
+    (sym (c .before .before .before .before .before .read-tag .ensures) ∙ c .before .before .before .n .given .1)
+    (c .before .if2 .taken) (c .if3 .left))
     (λ c. sym (ap length (take-length
     (c .before .before .before .before .before .before .before .before .before .before .before .args .s .now))))
     (λ c. (c .before .before .before .before .before .before .before .before .loop .inv) .deep)

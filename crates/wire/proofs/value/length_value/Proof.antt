@@ -10,21 +10,28 @@ use Rattle.wire.proofs.value.length_value.Tie as tie
 sub-if1 : tie.Need-sub-if1
 sub-if1 c =
     let a = c .before .before .before .before .before .args in
-    omega (arith, varint-ends (a .s .now) (a .at) (sym (c .before .value .given .1) ∙ c .before .before .before .read-small .ensures))
+    omega (
+      arith,
+      varint-ends (a .s .now) (a .at) (sym (c .before .value .given .1)
+          ∙ c .before .before .before .read-small .ensures),
+    )
 
 returns : tie.Need-returns
 returns c =
     let s = c .before .before .before .before .before .before .args .s .now in
-    length-long s _ _ (c .if1 .taken) ∙ ap (ofLength s) (sym (c .before .before .value .given .1) ∙ c .before .before .before .before .read-small .ensures)
+    length-long s _ _ (c .if1 .taken) ∙ ap (ofLength s)
+    (sym (c .before .before .value .given .1) ∙ c .before .before .before .before .read-small .ensures)
 
 returns-2 : tie.Need-returns-2
 returns-2 c =
     let s = c .before .before .before .before .before .before .args .s .now in
-    length-good s _ _ (c .if1 .left) ∙ ap (ofLength s) (sym (c .before .before .value .given .1) ∙ c .before .before .before .before .read-small .ensures)
+    length-good s _ _ (c .if1 .left) ∙ ap (ofLength s)
+    (sym (c .before .before .value .given .1) ∙ c .before .before .before .before .read-small .ensures)
 
 returns-3 : tie.Need-returns-3
 returns-3 c =
-    ap (ofLength (c .before .before .before .before .args .s .now)) (sym (c .enum-told .given .1) ∙ c .before .before .read-small .ensures)
+    ap (ofLength (c .before .before .before .before .args .s .now))
+    (sym (c .enum-told .given .1) ∙ c .before .before .read-small .ensures)
 
 pub length-value-spec : {M : Type 1} → statement M
 length-value-spec =

@@ -10,14 +10,20 @@ use Rattle.wire.proofs.value.number_value.Tie as tie
 sub-t7 : tie.Need-sub-t7
 sub-t7 c =
     let a = c .before .before .before .before .before .args in
-    omega (arith, varint-ends (a .s .now) (a .at) (sym (c .before .value .given .1) ∙ c .before .before .before .read-small .ensures))
+    omega (
+      arith,
+      varint-ends (a .s .now) (a .at) (sym (c .before .value .given .1)
+          ∙ c .before .before .before .read-small .ensures),
+    )
 
 returns : tie.Need-returns
-returns c = ap (ofVarint (c .before .before .before .before .before .args .at)) (sym (c .before .value .given .1) ∙ c .before .before .before .read-small .ensures)
+returns c = ap (ofVarint (c .before .before .before .before .before .args .at))
+    (sym (c .before .value .given .1) ∙ c .before .before .before .read-small .ensures)
 
 returns-2 : tie.Need-returns-2
 returns-2 c =
-    ap (ofVarint (c .before .before .before .before .args .at)) (sym (c .enum-told .given .1) ∙ c .before .before .read-small .ensures)
+    ap (ofVarint (c .before .before .before .before .args .at))
+    (sym (c .enum-told .given .1) ∙ c .before .before .read-small .ensures)
 
 pub number-value-spec : {M : Type 1} → statement M
 number-value-spec =

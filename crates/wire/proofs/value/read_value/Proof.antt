@@ -23,13 +23,16 @@ returns-3 c =
 returns-4 : tie.Need-returns-4
 returns-4 c =
     c .fixed-value2 .ensures
-    ∙ ap (ofFixed 4 (c .before .before .before .before .before .before .before .args .at)) (c .before .read-fixed32 .ensures)
-    ∙ value-four _ _ _ (c .before .before .before .before .before .if1 .left) (c .before .before .before .before .if2 .left)
+    ∙ ap (ofFixed 4 (c .before .before .before .before .before .before .before .args .at))
+    (c .before .read-fixed32 .ensures)
+    ∙ value-four _ _ _ (c .before .before .before .before .before .if1 .left)
+    (c .before .before .before .before .if2 .left)
     (c .before .before .before .if3 .left) (c .before .before .if4 .taken)
 
 returns-5 : tie.Need-returns-5
 returns-5 c =
-    value-none _ _ _ (c .before .before .before .if1 .left) (c .before .before .if2 .left) (c .before .if3 .left) (c .if4 .left)
+    value-none _ _ _ (c .before .before .before .if1 .left) (c .before .before .if2 .left) (c .before .if3 .left)
+    (c .if4 .left)
 
 pub read-value-spec : {M : Type 1} → statement M
 read-value-spec =

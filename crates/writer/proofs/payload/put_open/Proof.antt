@@ -16,7 +16,8 @@ returns c =
     let a = n .before .before .before .before .before .args in
     puts-then
     (puts-then (n .put-number .ensures)
-    (puts-counted 4 (openStmtPayload (a .draft) (a .args .now)) (p .before .open-stmt-len .ensures) (p .put-prefix .ensures)
+    (puts-counted 4 (openStmtPayload (a .draft) (a .args .now)) (p .before .open-stmt-len .ensures)
+    (p .put-prefix .ensures)
     (s .put-open-stmt .ensures)))
     (o .put-optional .ensures)
 

@@ -14,7 +14,8 @@ returns c =
     let n = p .before .before .before .before .before in
     let a = n .before .before .before .before .args in
     puts-then (n .put-number .ensures)
-    (puts-counted 2 (executePayload (a .draft) (a .args .now)) (p .before .execute-len .ensures) (p .put-prefix .ensures)
+    (puts-counted 2 (executePayload (a .draft) (a .args .now)) (p .before .execute-len .ensures)
+    (p .put-prefix .ensures)
     (s .put-execute .ensures))
 
 pub put-open-stmt-spec : {M : Type 1} → statement M

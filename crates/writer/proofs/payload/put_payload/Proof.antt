@@ -2,7 +2,8 @@
 use borrow.Author.Needs.{needs}
 use mathlib.Core.Path.{sym}
 use Rattle.encode.proofs.PutsLaws.{puts-as, puts-nothing}
-use Rattle.writer.proofs.PayloadLaws.{as-prepare, as-execute, as-deallocate, as-open, as-close, as-fetch, as-none}
+use Rattle.writer.proofs.PayloadLaws.{as-prepare, as-execute, as-deallocate, as-open, as-close, as-fetch}
+use Rattle.writer.proofs.PayloadLaws.{as-none}
 use Rattle.writer.proofs.payload.put_payload.Statement.{statement}
 use Rattle.writer.proofs.payload.put_payload.Tie as tie
 

@@ -14,7 +14,8 @@ returns c =
     let n = p .before .before .before .before .before in
     let a = n .before .before .before .before .before .args in
     puts-then (n .put-number .ensures)
-    (puts-counted 2 (prepareStmtPayload (a .draft) (a .body .now)) (p .before .prepare-stmt-len .ensures) (p .put-prefix .ensures)
+    (puts-counted 2 (prepareStmtPayload (a .draft) (a .body .now)) (p .before .prepare-stmt-len .ensures)
+    (p .put-prefix .ensures)
     (s .put-prepare-stmt .ensures))
 
 pub put-prepare-spec : {M : Type 1} → statement M

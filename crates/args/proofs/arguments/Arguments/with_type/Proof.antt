@@ -12,19 +12,23 @@ returns : tie.Need-returns
 returns c = let a = c .before .before .args in c .bad .ensures ∙ type-bad (a .self) (a .t) (c .before .if1 .taken)
 
 returns-2 : tie.Need-returns-2
-returns-2 c = let a = c .before .before .before .args in type-scalar (a .self) (a .t) (c .before .before .if1 .left) (c .if2 .taken)
+returns-2 c = let a = c .before .before .before .args in type-scalar (a .self) (a .t) (c .before .before .if1 .left)
+    (c .if2 .taken)
 
 returns-3 : tie.Need-returns-3
 returns-3 c =
     let a = c .before .before .before .before .before .args in
-    type-later (a .self) (a .t) (c .before .before .before .before .if1 .left) (c .before .before .if2 .left) (c .if3 .taken)
+    type-later (a .self) (a .t) (c .before .before .before .before .if1 .left) (c .before .before .if2 .left)
+    (c .if3 .taken)
 
 returns-4 : tie.Need-returns-4
 returns-4 c =
     let a = c .before .before .before .before .before .before .args in
     ap (λ (k : ℕ). counted (a .self) (a .t) k) (add-sub-cancel (a .self .count) 1)
-    ∙ type-first (a .self) (a .t) (c .before .before .before .before .before .if1 .left) (c .before .before .before .if2 .left) (c .before .if3 .left)
+    ∙ type-first (a .self) (a .t) (c .before .before .before .before .before .if1 .left)
+    (c .before .before .before .if2 .left) (c .before .if3 .left)
 
 pub with-type-spec : {M : Type 1} → statement M
 with-type-spec =
-    tie.close (tie.spec (λ c κs. search needs) returns (λ c. search needs) returns-2 returns-3 (λ c. search needs) returns-4)
+    tie.close (tie.spec (λ c κs. search needs) returns (λ c. search needs) returns-2 returns-3 (λ c. search needs)
+    returns-4)
