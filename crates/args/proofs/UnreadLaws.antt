@@ -36,7 +36,7 @@ use Rattle.args.specs.Value.{bad, present, bytesOf, bytesIn, ofType, sca
 use Rattle.args.specs.Moved.{moved}
 use Rattle.args.specs.Arguments.{isArgs, argPlace, nextArgument, andMore, argumentsFrom, argumentsAt}
 use Rattle.args.specs.UnreadRules.{typeIn, OnlyField, AnyUnread, ScalarUnread, OneField, ListUnread}
-use Rattle.args.specs.UnreadRules.{ObjectUnread}
+use Rattle.args.specs.UnreadRules.{ObjectUnread, UnchosenScalarUnread}
 use Rattle.args.specs.declared.arguments.ArgPlace.{ArgPlace}
 use Rattle.args.proofs.PartLaws.{part-within}
 use Rattle.args.proofs.MovedArgLaws.{argument-moved, field-inside, args-moved}
@@ -407,4 +407,36 @@ object-unread s t from to o =
       alike = λ _.
           any-unread f (take to t) (o .start) (o .n) (o .composite)
           (record { good = a .good; there = a .there; same = same-take (a .same) to });
+    }
+
+pub scalar-field-unread : UnchosenScalarUnread
+unfolding anyOf ofAnyType
+scalar-field-unread s t from to o =
+    let f = take to s in
+    let x = embedded (rowsOf any) f (o .start) (o .n) in
+    let k = fieldOf (o .octets) in
+    let c = scalar-field (o .octets) in
+    let a = o .only in
+    let i = field-in (rowsOf scalar) f (startOf x 2) (lenOf x 2) k (c .0) (c .1) (a .good) (a .there) in
+    let j = field-in (rowsOf any) f (o .start) (o .n) 2 (any-scalar .0) (any-scalar .1) (o .good) (o .there) in
+    let scalar-same = same-wider (a .same) (startOf x 2) (startOf x 2 + lenOf x 2) (omega (arith, i .0)) (i .1) in
+    record {
+      place = o .place;
+      number = o .number;
+      value = o .value;
+      start = o .start;
+      n = o .n;
+      next = o .next;
+      reached = o .reached;
+      field = o .field;
+      same = same-wider scalar-same (o .start) (o .start + o .n) (omega (arith, j .0)) (j .1);
+      alike = λ _.
+          ap (λ (y : Slots). cond (y .good) (ofAnyType (take to t) y (typeIn y)) bad)
+          (embedded-unread (rowsOf any) f (o .start) (o .n) 2 (any-scalar .0) (any-scalar .1) (o .good) (take to t)
+          (o .there) (same-take scalar-same to))
+          ∙ ap (λ (r : Argument). cond (x .good) r bad)
+          (subst (λ (d : ℕ). ofAnyType (take to t) x d ≡ ofAnyType f x d) (sym (o .scalarAny))
+          (ap (present (countOf x 2))
+          (scalar-unread f (take to t) (startOf x 2) (lenOf x 2) (o .octets) (o .unchosen)
+          (record { good = a .good; there = a .there; same = same-take (a .same) to }))));
     }

@@ -11,7 +11,7 @@ use Rattle.layout.specs.Reaches.{Reaches}
 use Rattle.layout.specs.Table.{rowsOf, any, scalar, len}
 use Rattle.layout.specs.FieldsRules.{startIn, endIn}
 use Rattle.layout.specs.declared.slots.Slots.{Slots}
-use Rattle.args.specs.Part.{embedded, absent, valueOf, low32}
+use Rattle.args.specs.Part.{embedded, absent, valueOf, startOf, lenOf, low32}
 use Rattle.args.specs.Value.{scalarIn, argumentIn}
 use Rattle.args.specs.Arguments.{isArgs, argumentsAt}
 
@@ -62,6 +62,12 @@ ListUnread =
     (isArgs number len value ≡ true → argumentIn t start n ≡ argumentIn s start n) →
     argumentsAt t from ≡ argumentsAt s from
 
+-- the Scalar of the Any in n bytes of s from the place `at` on
+abbrev pub scalarAt : List ℕ → ℕ → ℕ → Slots
+scalarAt s at n =
+    let x = embedded (rowsOf any) s at n in
+    embedded (rowsOf scalar) s (startOf x 2) (lenOf x 2)
+
 -- such are the bytes of the scalar of an args field that is an object or an array
 pub record ObjectField (s t : List ℕ) (from to : ℕ) : Type 0 where
   pub place : ℕ
@@ -77,3 +83,23 @@ pub record ObjectField (s t : List ℕ) (from to : ℕ) : Type 0 where
 
 abbrev pub ObjectUnread : Type 0
 ObjectUnread = (s t : List ℕ) (from to : ℕ) → ObjectField s t from to → OneField s t from to
+
+-- and such are the bytes of the octets or the string that the Scalar of an args field does not choose
+pub record ScalarField (s t : List ℕ) (from to : ℕ) : Type 0 where
+  pub place : ℕ
+  pub number : ℕ
+  pub value : ℕ
+  pub start : ℕ
+  pub n : ℕ
+  pub next : ℕ
+  pub octets : Bool
+  pub reached : Reaches (take to s) from place
+  pub field : fieldAt (take to s) place ≡ Field.Good number len value start n next
+  pub scalarAny : typeIn (embedded (rowsOf any) (take to s) start n) ≡ 1
+  pub good : embedded (rowsOf any) (take to s) start n .good ≡ true
+  pub there : absent (embedded (rowsOf any) (take to s) start n) 2 ≡ false
+  pub unchosen : typeIn (scalarAt (take to s) start n) ≡ cond octets 4 8 → ⊥
+  pub only : OnlyField (scalarAt (take to s) start n) (cond octets 5 9) s t
+
+abbrev pub UnchosenScalarUnread : Type 0
+UnchosenScalarUnread = (s t : List ℕ) (from to : ℕ) → ScalarField s t from to → OneField s t from to

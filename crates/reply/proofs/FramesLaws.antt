@@ -1,14 +1,16 @@
 -- Laws of the walk over the frames of a byte string. Assumes nothing.
-use Prim.Native.Nat.{ℕ, zero, suc, _+_, _*_, _/_, _%_, _^_, _<_}
+use Prim.Native.Nat.{ℕ, zero, suc, _+_, _*_, _/_, _%_, _^_, _≤_, _<_}
 use mathlib.Core.Path.{_≡_, refl, sym, ap, _∙_}
+use mathlib.Core.Bool.{cond}
 use mathlib.Core.List.{List, [], _∷_, _++_, append-nil}
 use native.Mathlib.Omega.{arith}
 use native.Mathlib.Nat.{div-div-eq-div-mul, mod-eq-of-lt}
 use borrow.Author.Tests.{lt-ltb, le-leb}
-use lib.ListN.{length, drop, length-append}
+use lib.ListN.{length, getD, drop, length-append, length-drop}
 use lib.Seq.{drop-append-seam}
 use Rattle.encode.specs.Frame.{frame}
-use Rattle.reply.specs.Frames.{sizeOf, typesIn, frameTypes}
+use Rattle.reply.specs.Frames.{sizeOf, frameFirst, typesIn, frameTypes}
+use Rattle.reply.specs.FramesRules.{EnoughFrames}
 
 -- a number below 2 ^ 32 is the number of its four bytes
 four-sum : (n a b c : ℕ) → n / 256 ≡ a → a / 256 ≡ b → b / 256 ≡ c → n < 2 ^ 32 →
@@ -60,3 +62,21 @@ types-one kind payload h =
     ap frameTypes (sym (append-nil (frame kind payload)))
     ∙ types-frame n kind payload [] h
     ∙ ap (λ (l : List ℕ). kind ∷ l) (types-none n)
+
+-- ---- the number of frames is no limit
+
+types-short : (n : ℕ) (s : List ℕ) → length s ≤ 0 → typesIn n s ≡ []
+types-short n [] h = types-none n
+types-short n (x ∷ s) h = absurd (omega arith)
+
+types-same : (m n : ℕ) (s : List ℕ) → length s ≤ m → length s ≤ n → typesIn m s ≡ typesIn n s
+unfolding typesIn
+types-same zero n s h i = sym (types-short n s h)
+types-same (suc m) zero s h i = types-short (suc m) s i
+types-same (suc m) (suc n) s h i =
+    ap (λ (l : List ℕ). cond (frameFirst s) (getD s 4 0 ∷ l) [])
+    (types-same m n (drop (4 + sizeOf s) s) (omega (arith, length-drop (4 + sizeOf s) s))
+    (omega (arith, length-drop (4 + sizeOf s) s)))
+
+pub enough-frames : EnoughFrames
+enough-frames n s h = types-same n (length s) s h (omega arith)

@@ -12,6 +12,7 @@ use Rattle.wire.specs.Past.{PastField}
 use Rattle.wire.specs.declared.field.Field.{Field}
 use Rattle.wire.proofs.PastLaws.{field-past}
 use Rattle.args.specs.Value.{argumentIn}
+use Rattle.args.specs.Arguments.{isArgs}
 use Rattle.writer.specs.Judge.{isGood, onArg, argsFrom}
 use Rattle.writer.specs.JudgeRules.{EnoughFields}
 
@@ -20,9 +21,7 @@ module _ (s : List ℕ) where
   field-same : (at : ℕ) (z : Field) → PastField at (length s) z → (f g : ℕ → Bool) → ((q : ℕ) → at < q → f q ≡ g q) →
       onArg s f z ≡ onArg s g z
   field-same at (Field.Good number wire v start len next) h f g e =
-      ap
-      (λ (x : Bool).
-      cond (eqb number 2) (cond (eqb wire 2) (cond (isGood (argumentIn s start len)) x false) false) false)
+      ap (λ (x : Bool). cond (isArgs number wire v) (cond (isGood (argumentIn s start len)) x false) false)
       (e next (h .2))
   field-same at Field.Bad h f g e = refl
 

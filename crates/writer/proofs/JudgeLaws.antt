@@ -1,7 +1,7 @@
 -- Judging a stretch of args fields, one turn of the loop at a time; the types. Assumes nothing.
 use Prim.Native.Nat.{ℕ, zero, suc, _+_, _-_, _≤_, _<_}
 use native.Mathlib.Omega.{arith}
-use mathlib.Core.Bool.{true, false, not, cond}
+use mathlib.Core.Bool.{Bool, true, false, not, cond}
 use mathlib.Core.Path.{_≡_, refl, sym, ap, _∙_}
 use mathlib.Core.List.{List}
 use lib.ListN.{length}
@@ -14,7 +14,8 @@ use Rattle.wire.specs.Past.{PastField}
 use Rattle.wire.specs.declared.field.Field.{Field}
 use Rattle.wire.proofs.PastLaws.{field-past}
 use Rattle.args.specs.Value.{argumentIn}
-use Rattle.args.specs.Arguments.{anyTypeOf}
+use Rattle.args.specs.Arguments.{isArgs, anyTypeOf}
+use Rattle.args.proofs.ArgsFieldLaws.{is-args, no-wire, no-number}
 use Rattle.message.specs.Operation as Operation
 use Rattle.writer.specs.Judge.{isGood, onArg, argsFrom, goodStretch, isType, goodPrepare, acceptedAs}
 
@@ -60,19 +61,22 @@ module _ {s : List ℕ} {p : ℕ} (k : Judging s p) (inside : p < length s) wher
         go : PastField p (length s) (fieldAt s p) → p < next
         go = rw e (λ h. h .2)
 
+    abbrev rest : Bool
+    rest = cond (isGood (argumentIn s start len)) (argsFrom (k .most - 1) s next) false
+
+    by-args : (b : Bool) → b ≡ isArgs number wire v → cond b rest false ≡ goodStretch s
+    by-args b h = ap (λ (c : Bool). cond c rest false) h ∙ turn (Field.Good number wire v start len next) e
+
     pub other-number : (number ≡ 2 → ⊥) → false ≡ goodStretch s
-    other-number h = sym (simp (ne-eqb number 2 h)) ∙ turn (Field.Good number wire v start len next) e
+    other-number h = by-args false (no-number number wire v h)
 
     pub other-wire : number ≡ 2 → (wire ≡ 2 → ⊥) → false ≡ goodStretch s
-    other-wire h g = sym (simp (eq-eqb number 2 h, ne-eqb wire 2 g)) ∙ turn (Field.Good number wire v start len next) e
+    other-wire h g = by-args false (no-wire number wire v h g)
 
     pub bad-argument : number ≡ 2 → wire ≡ 2 → anyTypeOf (argumentIn s start len) ≡ 0 → false ≡ goodStretch s
     bad-argument h g b =
         without (argsFrom (k .most - 1) s next) false (ap not (eq-eqb (anyTypeOf (argumentIn s start len)) 0 b))
-        ∙ yes (cond (isGood (argumentIn s start len)) (argsFrom (k .most - 1) s next) false) false (eq-eqb wire 2 g)
-        ∙ yes (cond (eqb wire 2) (cond (isGood (argumentIn s start len)) (argsFrom (k .most - 1) s next) false) false)
-        false (eq-eqb number 2 h)
-        ∙ turn (Field.Good number wire v start len next) e
+        ∙ by-args true (is-args number wire v h g)
 
     pub goes-on : number ≡ 2 → wire ≡ 2 → (anyTypeOf (argumentIn s start len) ≡ 0 → ⊥) → Judging s next
     goes-on h g b =
@@ -81,11 +85,7 @@ module _ {s : List ℕ} {p : ℕ} (k : Judging s p) (inside : p < length s) wher
           enough = omega (arith, k .enough, advances);
           whole =
               yes (argsFrom (k .most - 1) s next) false (ap not (ne-eqb (anyTypeOf (argumentIn s start len)) 0 b))
-              ∙ yes (cond (isGood (argumentIn s start len)) (argsFrom (k .most - 1) s next) false) false
-              (eq-eqb wire 2 g)
-              ∙ yes (cond (eqb wire 2) (cond (isGood (argumentIn s start len)) (argsFrom (k .most - 1) s next) false)
-              false) false (eq-eqb number 2 h)
-              ∙ turn (Field.Good number wire v start len next) e;
+              ∙ by-args true (is-args number wire v h g);
         }
 
 -- a type of a Prepare's statement that is none of the five

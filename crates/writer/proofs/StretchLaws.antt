@@ -16,7 +16,8 @@ use Rattle.layout.specs.declared.slots.Slots.{Slots}
 use Rattle.layout.specs.declared.fields.Use.{Use}
 use Rattle.layout.proofs.FieldsLaws.{Listing, goes-on}
 use Rattle.args.specs.Value.{argumentIn}
-use Rattle.args.specs.Arguments.{anyTypeOf}
+use Rattle.args.specs.Arguments.{isArgs, anyTypeOf}
+use Rattle.args.proofs.ArgsFieldLaws.{args-number}
 use Rattle.writer.specs.Judge.{onArg, argsFrom, goodStretch}
 use Rattle.varint.proofs.TailLaws.{Stands, stands-length}
 use Rattle.wire.proofs.MovedLaws.{movedField, field-moved}
@@ -38,19 +39,17 @@ module _ (a : List ℕ) where
       onArg a (λ next. argsFrom m a next) f ≡ true → Stretch a i
   stretch-on m i on Field.Bad e g = absurd (let z : _≡_ {A = ℕ} 0 1 = cc in omega arith)
   stretch-on m i on (Field.Good n w v st ln next) e g =
-      go (eqb n 2) refl (eqb w 2) refl (eqb (anyTypeOf (argumentIn a st ln)) 0) refl g
+      go (isArgs n w v) refl (eqb (anyTypeOf (argumentIn a st ln)) 0) refl g
     where
-      go : (b : Bool) → eqb n 2 ≡ b → (c : Bool) → eqb w 2 ≡ c → (z : Bool) →
-          eqb (anyTypeOf (argumentIn a st ln)) 0 ≡ z →
-          cond b (cond c (cond (not z) (argsFrom m a next) false) false) false ≡ true → Stretch a i
-      go true en true ew false ez h =
+      go : (b : Bool) → isArgs n w v ≡ b → (z : Bool) → eqb (anyTypeOf (argumentIn a st ln)) 0 ≡ z →
+          cond b (cond (not z) (argsFrom m a next) false) false ≡ true → Stretch a i
+      go true eb false ez h =
           let inside = field-inside a i e in
-          let args : Field.Good n w v st ln next ≡ Field.Good 2 2 v st ln next = rw
-          (eqb-true n 2 en, eqb-true w 2 ew) in
+          let two = args-number n w v eb in
+          let args : Field.Good n w v st ln next ≡ Field.Good 2 2 v st ln next = rw (two .0, two .1) in
           more (e ∙ args) (eqb-false (anyTypeOf (argumentIn a st ln)) 0 ez) (on next (inside .1) (inside .2) h)
-      go true en true ew true ez h = absurd (let z : _≡_ {A = ℕ} 0 1 = cc in omega arith)
-      go true en false ew z ez h = absurd (let z : _≡_ {A = ℕ} 0 1 = cc in omega arith)
-      go false en c ew z ez h = absurd (let z : _≡_ {A = ℕ} 0 1 = cc in omega arith)
+      go true eb true ez h = absurd (let z : _≡_ {A = ℕ} 0 1 = cc in omega arith)
+      go false eb z ez h = absurd (let z : _≡_ {A = ℕ} 0 1 = cc in omega arith)
 
   stretch-from : (m i : ℕ) → length a ≤ i + m → i ≤ length a → argsFrom m a i ≡ true → Stretch a i
   unfolding argsFrom

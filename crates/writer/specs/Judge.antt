@@ -10,7 +10,7 @@ use Rattle.wire.specs.declared.field.Field.{Field}
 use Rattle.scalar.specs.declared.argument.Argument.{Argument}
 use Rattle.protocol.specs.Client as Client
 use Rattle.args.specs.Value.{argumentIn}
-use Rattle.args.specs.Arguments.{anyTypeOf}
+use Rattle.args.specs.Arguments.{isArgs, anyTypeOf}
 use Rattle.message.specs.Operation as Operation
 use Rattle.message.specs.Prepare.{bodyIn}
 use Rattle.writer.specs.declared.Draft.{Draft}
@@ -19,10 +19,10 @@ use Rattle.writer.specs.declared.Draft.{Draft}
 abbrev pub isGood : Argument → Bool
 isGood a = not (eqb (anyTypeOf a) 0)
 
--- one field of a stretch: an args field (number 2, wire type 2) that holds a good argument, and `more` behind it
+-- one field of a stretch: an args field that holds a good argument, and `more` behind it
 abbrev pub onArg : List ℕ → (ℕ → Bool) → Field → Bool
 onArg s more (Field.Good number wire v start len next) =
-    cond (eqb number 2) (cond (eqb wire 2) (cond (isGood (argumentIn s start len)) (more next) false) false) false
+    cond (isArgs number wire v) (cond (isGood (argumentIn s start len)) (more next) false) false
 onArg s more Field.Bad = false
 
 -- at most `most` fields from the place `at` on, up to the end of s
