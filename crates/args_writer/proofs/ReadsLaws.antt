@@ -11,7 +11,7 @@ use lib.Dec.{leb}
 use borrow.Author.Tests.{lt-ltb, le-ltb, le-leb, leb-true, ne-eqb}
 use lib.Ieee.{binary32, binary64, nanBits, ofBits}
 use lib.Ieee.Bits.{ofBits-fits, nanBits-is}
-use Rattle.prelude.proofs.Cases.{both}
+use Rattle.prelude.proofs.Cases.{both, yes}
 use Rattle.scalar.specs.Argument.{typeOf}
 use Rattle.scalar.specs.declared.argument.Argument.{Argument}
 use Rattle.scalar.specs.declared.argument.Argument.the-variants as Va
@@ -20,7 +20,8 @@ use Rattle.wire.specs.declared.field.Field.{Field}
 use Rattle.args.specs.Value.{argumentIn}
 use Rattle.args.specs.Arguments.{anyTypeOf, argumentsFrom, argumentsAt}
 use Rattle.args.proofs.PlaceLaws.{next-end}
-use Rattle.writer.specs.Judge.{argsFrom, goodStretch}
+use Rattle.args.proofs.ArgsFieldLaws.{is-args}
+use Rattle.writer.specs.Judge.{isGood, argsFrom, goodStretch}
 use Rattle.args.specs.Moved.{moved}
 use Rattle.varint.proofs.TailLaws.{Stands, stands-length}
 use Rattle.writer.proofs.FieldLaws.{bytes-reads, stands-inside}
@@ -52,10 +53,14 @@ judged : (a : List ℕ) (m i : ℕ) → length a ≤ i + m → Stretch a i → a
 unfolding argsFrom
 judged a zero i h g = refl
 judged a (suc m) i h (done e) = rw (le-ltb i (length a) (omega arith)) refl
-judged a (suc m) i h (more {st = st} {ln = ln} {next = next} e b g) =
+judged a (suc m) i h (more {v = v} {st = st} {ln = ln} {next = next} e b g) =
     let inside = field-inside a i e in
-    rw (lt-ltb i (length a) (omega arith), e, ne-eqb (anyTypeOf (argumentIn a st ln)) 0 b)
-    (judged a m next (omega arith) g)
+    let rest : cond (isGood (argumentIn a st ln)) (argsFrom m a next) false ≡ true =
+    rw (ne-eqb (anyTypeOf (argumentIn a st ln)) 0 b) (judged a m next (omega arith) g) in
+    rw (lt-ltb i (length a) (omega arith), e)
+    (sym
+    (yes (cond (isGood (argumentIn a st ln)) (argsFrom m a next) false) false (sym (is-args 2 2 v refl refl)))
+    ∙ rest)
 
 module _ (s f : List ℕ) where
   front : Stands (s ++ f) 0 s f
