@@ -1,18 +1,19 @@
 #!/usr/bin/env python3
-"""Writes the input and the expected output of the program trace_samples.
+"""Writes the runs that the program trace is run on, and what it must print of them.
 
-The input is a list of runs, each four bytes of length, least first, and the bytes of a trace. The
+runs.bin is a list of runs, each four bytes of length, least first, and the bytes of a trace. The
 expected output comes from the keeper below, which is written from the rules alone and shares no code
 with the library. The runs reach each refusal that a record can reach (all but 3: the reply buffer has
 128 bytes) and each mark; they cut a record at each place, and stand on both sides of each limit.
 
-    python3 tests/trace/vectors.py        writes crates/trace_samples/stdin and stdout
+tests/differential/tests/trace_program.rs runs them.
+
+    python3 tests/trace/vectors.py        writes tests/trace/runs.bin and runs.out
 """
 import os
 from collections import namedtuple
 
 HERE = os.path.dirname(os.path.abspath(__file__))
-CRATE = os.path.join(HERE, "..", "..", "crates", "trace_samples")
 HEADER = "n reason first rows mark stmts cursors owed"
 
 # A report, and the numbers that each kind has in a record.
@@ -407,10 +408,10 @@ def main():
     told = {line.split()[1] for line in out if line[0].isdigit()}
     assert told == {str(k) for k in range(17) if k != 3}, told
     assert {line.split()[4] for line in out if line[0].isdigit()} == set("OSDXEN")
-    with open(os.path.join(CRATE, "stdin"), "wb") as f:
+    with open(os.path.join(HERE, "runs.bin"), "wb") as f:
         for run in RUNS:
             f.write(len(run).to_bytes(4, "little") + run)
-    with open(os.path.join(CRATE, "stdout"), "w") as f:
+    with open(os.path.join(HERE, "runs.out"), "w") as f:
         f.write("".join(line + "\n" for line in out))
 
 

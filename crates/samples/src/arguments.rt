@@ -19,6 +19,11 @@ fn print_argument(a: Argument, src: &[u8]) {
     print_sent(r, buf);
 }
 
+// One that has no bytes beside it.
+fn print_value(a: Argument) {
+    print_argument(a, b"");
+}
+
 // The whole buffer, after a null behind its first two bytes.
 fn print_room(buf: &mut [u8]) {
     let r = args_writer::append_argument(Argument::Null, b"", buf, 2);
@@ -29,25 +34,25 @@ fn print_room(buf: &mut [u8]) {
 
 // Each of the eight types.
 fn print_scalars() {
-    print_argument(Argument::Signed(-1), b"");
-    print_argument(Argument::Signed(-9223372036854775808), b"");
-    print_argument(Argument::Unsigned(7), b"");
-    print_argument(Argument::Null, b"");
+    print_value(Argument::Signed(-1));
+    print_value(Argument::Signed(-9223372036854775808));
+    print_value(Argument::Unsigned(7));
+    print_value(Argument::Null);
     print_argument(Argument::Octets { start: 1, len: 2 }, b"xaby");
-    print_argument(Argument::Double(1.0), b"");
-    print_argument(double_argument(0x7ff8_0000_0000_0001), b"");
-    print_argument(Argument::Float(1.0), b"");
-    print_argument(float_argument(0xffc0_0001), b"");
-    print_argument(Argument::Bool(true), b"");
-    print_argument(Argument::Bool(false), b"");
+    print_value(Argument::Double(1.0));
+    print_value(double_argument(0x7ff8_0000_0000_0001));
+    print_value(Argument::Float(1.0));
+    print_value(float_argument(0xffc0_0001));
+    print_value(Argument::Bool(true));
+    print_value(Argument::Bool(false));
     print_argument(Argument::String { start: 4, len: 0 }, b"xaby");
 }
 
 // Refused 6: no scalar, bytes past the end, a NaN itself, bits that are no NaN's.
 fn print_bad() {
-    print_argument(Argument::Object, b"");
-    print_argument(Argument::Array, b"");
-    print_argument(Argument::Refused(0), b"");
+    print_value(Argument::Object);
+    print_value(Argument::Array);
+    print_value(Argument::Refused(0));
     print_argument(Argument::String { start: 4, len: 1 }, b"xaby");
     print_argument(
         Argument::Octets {
@@ -56,9 +61,9 @@ fn print_bad() {
         },
         b"xaby",
     );
-    print_argument(Argument::Double(0.0 / 0.0), b"");
-    print_argument(Argument::DoubleNan(0x7ff0_0000_0000_0000), b"");
-    print_argument(Argument::FloatNan(0x7f80_0000), b"");
+    print_value(Argument::Double(0.0 / 0.0));
+    print_value(Argument::DoubleNan(0x7ff0_0000_0000_0000));
+    print_value(Argument::FloatNan(0x7f80_0000));
 }
 
 // An Execute of statement 1 with these arguments.

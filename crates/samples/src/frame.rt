@@ -112,9 +112,15 @@ fn ids(kind: u64, stmt: u32, cursor: u32) {
     out::number(b" cursor ", cursor as u64);
 }
 
-fn optional(label: &[u8], o: Optional) {
+fn rows(o: Optional) {
     if o.present {
-        out::number(label, o.value);
+        out::number(b" rows ", o.value);
+    }
+}
+
+fn compact(o: Optional) {
+    if o.present {
+        out::number(b" compact ", o.value);
     }
 }
 
@@ -126,19 +132,19 @@ fn fields(q: Request) {
         Request::Prepare(p) => ids(client::PREPARE, p.stmt, 0),
         Request::Execute(x) => {
             ids(client::EXECUTE, x.stmt, 0);
-            optional(b" compact ", x.compact);
+            compact(x.compact);
         }
         Request::Deallocate(stmt) => ids(client::DEALLOCATE, stmt, 0),
         Request::Open(o) => {
             let x = o.execute;
             ids(client::OPEN, x.stmt, o.cursor);
-            optional(b" rows ", o.rows);
-            optional(b" compact ", x.compact);
+            rows(o.rows);
+            compact(x.compact);
         }
         Request::Close(cursor) => ids(client::CLOSE, 0, cursor),
         Request::Fetch(f) => {
             ids(client::FETCH, 0, f.cursor);
-            optional(b" rows ", f.rows);
+            rows(f.rows);
         }
     }
 }

@@ -1,5 +1,6 @@
 // Messages as they are written: a line each with the reason, the length and the frame's bytes in hex.
 use crate::out;
+use message::operation;
 use protocol::client;
 use writer::Draft;
 use writer::Sent;
@@ -30,62 +31,75 @@ fn print_message(d: Draft, body: &[u8], args: &[u8]) {
     print_sent(r, buf, 64);
 }
 
+// With no body and no arguments.
+fn print_bare(d: Draft) {
+    print_message(d, b"", b"");
+}
+
+// With arguments alone.
+fn print_args(d: Draft, args: &[u8]) {
+    print_message(d, b"", args);
+}
+
+fn print_ids(kind: u64, stmt: u32, cursor: u32) {
+    print_bare(draft(kind, stmt, cursor));
+}
+
+// A draft of these ids, with this number of rows.
+fn with_rows(kind: u64, stmt: u32, cursor: u32, rows: u64) -> Draft {
+    let mut d = draft(kind, stmt, cursor);
+    d.hasrows = true;
+    d.rows = rows;
+    d
+}
+
 // The kinds that are written from ids and rows.
 fn print_plain() {
-    print_message(draft(client::RESET, 9, 9), b"", b"");
-    print_message(draft(client::SESSION_CLOSE, 9, 9), b"", b"");
-    print_message(draft(client::DEALLOCATE, 4294967295, 9), b"", b"");
-    print_message(draft(client::CLOSE, 9, 128), b"", b"");
-    print_message(draft(client::FETCH, 9, 1), b"", b"");
-    let mut d = draft(client::FETCH, 9, 1);
-    d.hasrows = true;
-    d.rows = 2;
-    print_message(d, b"", b"");
-    d.rows = 0;
-    print_message(d, b"", b"");
+    print_ids(client::RESET, 9, 9);
+    print_ids(client::SESSION_CLOSE, 9, 9);
+    print_ids(client::DEALLOCATE, 4294967295, 9);
+    print_ids(client::CLOSE, 9, 128);
+    print_ids(client::FETCH, 9, 1);
+    print_bare(with_rows(client::FETCH, 9, 1, 2));
+    print_bare(with_rows(client::FETCH, 9, 1, 0));
 }
 
 // Execute and Open, with no argument and with the uint 7.
 fn print_execute(seven: &[u8]) {
     let mut d = draft(client::EXECUTE, 300, 9);
-    print_message(d, b"", b"");
+    print_bare(d);
     d.hascompact = true;
     d.compact = true;
-    print_message(d, b"", seven);
+    print_args(d, seven);
     d.compact = false;
-    print_message(d, b"", seven);
-    let mut o = draft(client::OPEN, 1, 1);
-    o.hasrows = true;
-    o.rows = 1;
-    print_message(o, b"", b"");
+    print_args(d, seven);
+    let mut o = with_rows(client::OPEN, 1, 1, 1);
+    print_bare(o);
     o.hascompact = true;
-    print_message(o, b"", seven);
+    print_args(o, seven);
+}
+
+// A Prepare of statement 1, of this type and with this body.
+fn print_body(operation: u64, body: &[u8]) {
+    let mut d = draft(client::PREPARE, 1, 9);
+    d.operation = operation;
+    print_message(d, body, b"");
 }
 
 fn print_prepare() {
-    let mut d = draft(client::PREPARE, 1, 9);
-    d.operation = 5;
-    print_message(d, b"\x0a\x01S", b"");
-    d.operation = 0;
-    print_message(d, b"", b"");
-    d.operation = 4;
-    print_message(d, b"\x08\x01", b"");
+    print_body(operation::STMT_EXECUTE, b"\x0a\x01S");
+    print_body(operation::FIND, b"");
+    print_body(operation::DELETE, b"\x08\x01");
 }
 
 // Refused 6: an unknown kind, an unlisted type, a bad body, another field in the stretch, a cut one.
 fn print_bad() {
-    print_message(draft(8, 1, 1), b"", b"");
-    let mut d = draft(client::PREPARE, 1, 9);
-    d.operation = 3;
-    print_message(d, b"", b"");
-    d.operation = 5;
-    print_message(d, b"", b"");
-    print_message(draft(client::EXECUTE, 1, 1), b"", b"\x18\x01");
-    print_message(
-        draft(client::EXECUTE, 1, 1),
-        b"",
-        b"\x12\x08\x08\x01\x12\x04\x08\x02\x18",
-    );
+    print_ids(8, 1, 1);
+    print_body(3, b"");
+    print_body(operation::STMT_EXECUTE, b"");
+    let d = draft(client::EXECUTE, 1, 1);
+    print_args(d, b"\x18\x01");
+    print_args(d, b"\x12\x08\x08\x01\x12\x04\x08\x02\x18");
 }
 
 // A Find body of one field, as long as `body` is, that meets or passes the frame's limit.

@@ -10,6 +10,17 @@ pub fn number(label: &[u8], n: u64) {
     io::print_decimal(STDOUT_FILENO, n);
 }
 
+// The place and the length of some bytes.
+pub fn place(start: usize, len: usize) {
+    number(b"@", start as u64);
+    number(b"+", len as u64);
+}
+
+pub fn letter(b: u8) {
+    let one = [b];
+    text(&one);
+}
+
 pub fn flag(label: &[u8], b: bool) {
     if b {
         text(label);

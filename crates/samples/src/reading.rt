@@ -32,6 +32,12 @@ fn print_zigzag(s: &[u8]) {
     out::text(b"\n");
 }
 
+fn print_field(number: u64, wire: u64, value: u64) {
+    out::number(b" ", number);
+    out::number(b":", wire);
+    out::number(b"=", value);
+}
+
 // Each field of the list: number, wire type, value, place and length.
 fn print_fields(s: &[u8]) {
     let mut p = 0;
@@ -47,11 +53,8 @@ fn print_fields(s: &[u8]) {
                 len,
                 next,
             } => {
-                out::number(b" ", number);
-                out::number(b":", wire);
-                out::number(b"=", value);
-                out::number(b"@", start as u64);
-                out::number(b"+", len as u64);
+                print_field(number, wire, value);
+                out::place(start, len);
                 p = next;
             }
             Field::Bad => {
@@ -67,21 +70,13 @@ fn print_fields(s: &[u8]) {
 }
 
 fn print_record(letter: u8, s: &[u8]) {
-    if letter == b'V' {
-        out::text(b"V");
-        print_varint(s);
-    }
-    if letter == b'Z' {
-        out::text(b"Z");
-        print_zigzag(s);
-    }
-    if letter == b'F' {
-        out::text(b"F");
-        print_fields(s);
-    }
-    if letter == b'M' {
-        out::text(b"M");
-        frame::print(s);
+    out::letter(letter);
+    match letter {
+        b'V' => print_varint(s),
+        b'Z' => print_zigzag(s),
+        b'F' => print_fields(s),
+        b'M' => frame::print(s),
+        _ => {}
     }
 }
 

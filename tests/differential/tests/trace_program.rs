@@ -13,6 +13,8 @@ use std::process::{Command, Output, Stdio};
 
 const PROGRAM: &str = concat!(env!("CARGO_MANIFEST_DIR"), "/../../target/bin/trace");
 const SAMPLES: &str = concat!(env!("CARGO_MANIFEST_DIR"), "/../../samples");
+const RUNS: &[u8] = include_bytes!("../../trace/runs.bin");
+const RUNS_OUT: &str = include_str!("../../trace/runs.out");
 
 /// Runs the program on an input that is written in pieces of so many bytes.
 fn run(bytes: &[u8], piece: usize) -> Output {
@@ -28,6 +30,18 @@ fn run(bytes: &[u8], piece: usize) -> Output {
     let output = child.wait_with_output().unwrap();
     writer.join().unwrap();
     output
+}
+
+/// The stored runs, each behind four bytes of length.
+fn stored_runs() -> Vec<&'static [u8]> {
+    let (mut runs, mut rest) = (Vec::new(), RUNS);
+    while let Some((len, behind)) = rest.split_first_chunk::<4>() {
+        let (run, next) = behind.split_at(u32::from_le_bytes(*len) as usize);
+        runs.push(run);
+        rest = next;
+    }
+    assert!(rest.is_empty());
+    runs
 }
 
 /// The program's output is the model's, and nothing is on standard error.
@@ -68,6 +82,15 @@ fn random_records(seed: u64, bytes: usize) -> Vec<u8> {
         }
     }
     out
+}
+
+/// Every refusal and mark, cuts, and both sides of each limit: what is expected comes from tests/trace/vectors.py.
+#[test]
+fn the_stored_runs() {
+    for piece in [7, 65_536] {
+        let told: Vec<u8> = stored_runs().iter().flat_map(|bytes| run(bytes, piece).stdout).collect();
+        assert_eq!(String::from_utf8(told).unwrap(), RUNS_OUT);
+    }
 }
 
 #[test]

@@ -1,13 +1,13 @@
--- `samples::reading::print_fields` meets its contract. Assumes nothing.
+-- `samples::reading::print_fields` is safe and ends: the number of turns left falls. Assumes nothing.
 use borrow.Author.Needs.{needs}
 use Rattle.samples.proofs.reading.print_fields.Statement.{statement}
 use Rattle.samples.proofs.reading.print_fields.Tie as tie
 
 abbrev Inv-loop : tie.InvT-loop
-Inv-loop s p₀ left₀ t10 t11 t12 t13 t14 t15 t16 p left = Unit {0}
+Inv-loop s p₀ left₀ t10 t11 p left = Unit {0}
 
 abbrev μ-loop : tie.MeasureT-loop
-μ-loop s p₀ left₀ t10 t11 t12 t13 t14 t15 t16 p left = left
+μ-loop s p₀ left₀ t10 t11 p left = left
 
 pub print-fields-spec : {M : Type 1} → statement M
 print-fields-spec =
@@ -19,15 +19,7 @@ print-fields-spec =
     (λ c. search needs)
     (λ c κs. search needs)
     (λ c. search needs)
-    (λ c. search needs)
     (λ c κs. search needs)
-    (λ c. search needs)
-    (λ c κs. search needs)
-    (λ c. search needs)
-    (λ c κs. search needs)
-    (λ c. search needs)
-    (λ c κs. search needs)
-    (λ c. search needs)
     (λ c κs. search needs)
     (λ c. search needs)
     (λ c. search needs)
