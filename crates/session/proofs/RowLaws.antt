@@ -80,6 +80,15 @@ same-row w w' a n h =
 pub row-word : (w : List ℕ) (a n p : ℕ) → p < n → word (row w a n) p ≡ word w (a + p)
 row-word w a n p h = getD-build (λ p. word w (a + p)) n p 0 h
 
+pub row-words : (w w' : List ℕ) (a n : ℕ) → row w a n ≡ row w' a n → (k : ℕ) → a ≤ k → k < a + n → word w k ≡ word w' k
+row-words w w' a n e k b c =
+    let at : k ≡ a + (k - a) = omega arith in
+    ap (λ (j : ℕ). word w j) at
+    ∙ sym (row-word w a n (k - a) (omega arith))
+    ∙ ap (λ x. word x (k - a)) e
+    ∙ row-word w' a n (k - a) (omega arith)
+    ∙ ap (λ (j : ℕ). word w' j) (sym at)
+
 -- words written within one row change words of that row,
 module _ (a width o : ℕ) (vs w : List ℕ) (fits : o + length vs ≤ width) (long : a + width ≤ length w) where
   here : (p : ℕ) → o ≤ p → p < o + length vs → word (sets w (a + o) vs) (a + p) ≡ word (sets (row w a width) o vs) p
@@ -142,8 +151,4 @@ module _ (base width n : ℕ) (w w' : List ℕ) (some : 0 < width) where
       go q r e g =
           let at : k ≡ base + width * q + r = omega (arith, mul-comm q width) in
           let inside : q < n = below q n (λ x. x) (λ x. absurd (omega (arith, mul-le-mul-left width x))) in
-          ap (λ (j : ℕ). word w j) at
-          ∙ sym (row-word w (base + width * q) width r g)
-          ∙ ap (λ x. word x r) (h q inside)
-          ∙ row-word w' (base + width * q) width r g
-          ∙ ap (λ (j : ℕ). word w' j) (sym at)
+          row-words w w' (base + width * q) width (h q inside) k (omega (arith, at)) (omega (arith, at))

@@ -55,6 +55,7 @@ fresh-sound =
       stmtOnce = λ k. omega (arith, sum-replicate (λ t. one (isStmt k t)) maxStmts noStmt refl);
       cursorOnce = λ k. omega (arith, sum-replicate (λ c. one (isCursor k c)) maxCursors noCursor refl);
       carries = λ k. omega (arith, sum-replicate (λ c. one (onStmt k c)) maxCursors noCursor refl);
+      unused = refl;
       flagged = omega arith;
       shut = λ e. absurd (false≢true e);
     }
@@ -120,6 +121,7 @@ module _ {s : Session} (sound : Sound s) where
         stmtOnce = sound .stmtOnce;
         cursorOnce = λ k. le-trans (ends-less p (isCursor k) refl (s .cursors)) (sound .cursorOnce k);
         carries = λ k. le-trans (ends-less p (onStmt k) refl (s .cursors)) (sound .carries k);
+        unused = sound .unused;
         flagged = sound .flagged;
         shut = λ e. let l = sound .shut e in (l .0, omega (arith, l .1, ends-less p isLiveCursor refl (s .cursors)));
       }
@@ -149,6 +151,7 @@ module _ {s : Session} (sound : Sound s) where
           stmtOnce = put-once isLiveStmt (λ t. t .id) noStmt stored refl (s .stmts) (sound .stmtOnce);
           cursorOnce = sound .cursorOnce;
           carries = λ k. le-trans (sound .carries k) (put-more isLiveStmt (λ t. t .id) noStmt stored refl (s .stmts) k);
+          unused = sound .unused;
           flagged = sound .flagged;
           shut = λ e. absurd (true≢false (sym e ∙ unclosed));
         }
@@ -182,6 +185,7 @@ module _ {s : Session} (sound : Sound s) where
           stmtOnce = λ k. le-trans (fewer (isStmt k) refl) (sound .stmtOnce k);
           cursorOnce = sound .cursorOnce;
           carries = λ k. still-carried k (eqb id k) refl;
+          unused = sound .unused;
           flagged = sound .flagged;
           shut = λ e. let l = sound .shut e in (omega (arith, l .0, fewer isLiveStmt refl), l .1);
         }
@@ -222,6 +226,7 @@ module _ {s : Session} (sound : Sound s) where
           stmtOnce = sound .stmtOnce;
           cursorOnce = λ k. omega (arith, sound .cursorOnce k, same-count (isCursor k) (λ c. refl));
           carries = λ k. omega (arith, sound .carries k, same-count (onStmt k) (λ c. refl));
+          unused = sound .unused;
           flagged = sound .flagged;
           shut = λ e. let l = sound .shut e in (l .0, omega (arith, l .1, same-count isLiveCursor (λ c. refl)));
         }
@@ -249,6 +254,7 @@ module _ {s : Session} (sound : Sound s) where
         stmtOnce = λ k. omega (arith, no-stmt (isStmt k) refl);
         cursorOnce = λ k. omega (arith, no-cursor (isCursor k) refl);
         carries = λ k. omega (arith, no-cursor (onStmt k) refl);
+        unused = refl;
         flagged = h;
         shut = λ e. (no-stmt isLiveStmt refl, no-cursor isLiveCursor refl);
       }
@@ -349,6 +355,7 @@ module _ {s : Session} (sound : Sound s) where
           stmtOnce = sound .stmtOnce;
           cursorOnce = once;
           carries = λ k. still-on k (eqb stmt k) refl;
+          unused = sound .unused;
           flagged = sound .flagged;
           shut = λ e. absurd (omega (
             arith,

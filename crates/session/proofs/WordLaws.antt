@@ -9,12 +9,13 @@ use Rattle.session.specs.declared.Stmt.{Stmt}
 use Rattle.session.specs.declared.Cursor.{Cursor}
 use Rattle.session.specs.Session.{Session, withStmts, withCursors, withClosed}
 use Rattle.session.specs.Entry.{noStmt, noCursor, withSent}
-use Rattle.session.specs.Tables.{maxStmts, maxCursors, fresh, reset}
-use Rattle.session.specs.Words.{build, word, stmtWords, cursorWords, stmtRows, cursorRows, closedAt, wordCount}
-use Rattle.session.specs.Words.{stmtIn, cursorIn, stmtsIn, cursorsIn, sessionOf, NothingLost}
+use Rattle.session.specs.Tables.{maxStmts, maxCursors, cursorWords, cursorFields, spareWords, noSpare}
+use Rattle.session.specs.Tables.{fresh, reset}
+use Rattle.session.specs.Words.{build, word, stmtWords, stmtRows, cursorRows, closedAt, wordCount}
+use Rattle.session.specs.Words.{stmtIn, cursorIn, spareIn, stmtsIn, cursorsIn, sparesIn, sessionOf, NothingLost}
 use Rattle.session.proofs.BuildLaws.{length-build, same-build, set-build, all-build, all-map, build-at}
 use Rattle.session.proofs.RowLaws.{below, stored, stored-sets, sets-before, sets-after}
-use Rattle.session.proofs.RowLaws.{row, same-row, row-here, row-there, rows-same}
+use Rattle.session.proofs.RowLaws.{row, same-row, row-words, row-here, row-there, rows-same}
 
 -- an entry by its row
 abbrev stmtOf : ℕ → List ℕ → Stmt
@@ -32,8 +33,9 @@ cursorAt i = cursorRows + cursorWords * i
 abbrev stmtRow : List ℕ → ℕ → List ℕ
 stmtRow w i = row w (stmtAt i) stmtWords
 
+-- the fields of a cursor; its row may be wider
 abbrev cursorRow : List ℕ → ℕ → List ℕ
-cursorRow w i = row w (cursorAt i) cursorWords
+cursorRow w i = row w (cursorAt i) cursorFields
 
 stmt-in : (w : List ℕ) (i : ℕ) → stmtIn w i ≡ stmtOf (word w i) (stmtRow w i)
 unfolding build
@@ -77,34 +79,60 @@ module _ (w w' : List ℕ) where
   same-cursors : ((k : ℕ) → cursorRows ≤ k → k < closedAt → word w' k ≡ word w k) → cursorsIn w' ≡ cursorsIn w
   same-cursors h =
       same-build (cursorIn w) (cursorIn w') maxCursors
-      (λ j b. same-cursor j (same-row w w' (cursorAt j) cursorWords (λ k c d. h k (omega arith) (omega arith))))
+      (λ j b. same-cursor j (same-row w w' (cursorAt j) cursorFields (λ k c d. h k (omega arith) (omega arith))))
+
+  same-spares : ((k : ℕ) → cursorRows ≤ k → k < closedAt → word w' k ≡ word w k) → sparesIn w' ≡ sparesIn w
+  same-spares h =
+      same-build (spareIn w) (spareIn w') maxCursors
+      (λ j b. same-row w w' (cursorAt j + cursorFields) spareWords (λ k c d. h k (omega arith) (omega arith)))
 
 -- a session by its parts
-abbrev of : List Stmt → List Cursor → ℕ → Session
-of ts cs b = record { stmts = ts; cursors = cs; closed = b }
+abbrev of : List Stmt → List Cursor → List (List ℕ) → ℕ → Session
+of ts cs rs b = record { stmts = ts; cursors = cs; spare = rs; closed = b }
 
-by-parts : (w : List ℕ) (ts : List Stmt) (cs : List Cursor) (b : ℕ) → stmtsIn w ≡ ts → cursorsIn w ≡ cs →
-    word w closedAt ≡ b → sessionOf w ≡ of ts cs b
-by-parts w ts cs b e f g =
-    ap (λ x. of x (cursorsIn w) (word w closedAt)) e
-    ∙ ap (λ x. of ts x (word w closedAt)) f
-    ∙ ap (of ts cs) g
+by-parts : (w : List ℕ) (ts : List Stmt) (cs : List Cursor) (rs : List (List ℕ)) (b : ℕ) → stmtsIn w ≡ ts →
+    cursorsIn w ≡ cs → sparesIn w ≡ rs → word w closedAt ≡ b → sessionOf w ≡ of ts cs rs b
+by-parts w ts cs rs b e f g h =
+    ap (λ x. of x (cursorsIn w) (sparesIn w) (word w closedAt)) e
+    ∙ ap (λ x. of ts x (sparesIn w) (word w closedAt)) f
+    ∙ ap (λ x. of ts cs x (word w closedAt)) g
+    ∙ ap (of ts cs rs) h
 
--- words written within the row of one cursor
+-- words written within the fields of one cursor
 module _ (w : List ℕ) (i : ℕ) (long : length w ≡ wordCount) (inside : i < maxCursors) where
-  row-stored : (o : ℕ) (vs : List ℕ) → o + length vs ≤ cursorWords →
-      (c : Cursor) → cursorOf (sets (cursorRow w i) o vs) ≡ c →
-      sessionOf (sets w (cursorAt i + o) vs) ≡ withCursors (sessionOf w) (set (cursorsIn w) i c)
-  row-stored o vs fits c e =
-      let w' = sets w (cursorAt i + o) vs in
-      by-parts w' (stmtsIn w) (set (cursorsIn w) i c) (word w closedAt)
-      (same-stmts w w' (λ k h. sets-before vs w (cursorAt i + o) k (omega arith)))
-      (set-build (cursorIn w) (cursorIn w') maxCursors i c inside
-      (cursor-in w' i ∙ ap cursorOf (row-here (cursorAt i) cursorWords o vs w fits (omega arith)) ∙ e)
-      (λ j h n. same-cursor w w' j (row-there cursorRows cursorWords i o vs w fits j n)))
-      (sets-after vs w (cursorAt i + o) closedAt (omega arith))
+  module _ (o : ℕ) (vs : List ℕ) (fits : o + length vs ≤ cursorFields) where
+    abbrev now : List ℕ
+    now = sets w (cursorAt i + o) vs
 
-  -- a whole row
+    other-cursor : (j : ℕ) → (j ≡ i → ⊥) → cursorIn now j ≡ cursorIn w j
+    other-cursor j n =
+        let there = row-there cursorRows cursorWords i o vs w (omega arith) j n in
+        same-cursor w now j
+        (same-row w now (cursorAt j) cursorFields
+        (λ k b d. row-words now w (cursorAt j) cursorWords there k b (omega arith)))
+
+    all-spares : sparesIn now ≡ sparesIn w
+    all-spares =
+        same-build (spareIn w) (spareIn now) maxCursors
+        (λ j h.
+        same-row w now (cursorAt j + cursorFields) spareWords
+        (λ k b d.
+        below j i
+        (λ l. sets-before vs w (cursorAt i + o) k (omega arith))
+        (λ l. sets-after vs w (cursorAt i + o) k (omega arith))))
+
+    row-stored : (c : Cursor) → cursorOf (sets (cursorRow w i) o vs) ≡ c →
+        sessionOf now ≡ withCursors (sessionOf w) (set (cursorsIn w) i c)
+    row-stored c e =
+        by-parts now (stmtsIn w) (set (cursorsIn w) i c) (sparesIn w) (word w closedAt)
+        (same-stmts w now (λ k h. sets-before vs w (cursorAt i + o) k (omega arith)))
+        (set-build (cursorIn w) (cursorIn now) maxCursors i c inside
+        (cursor-in now i ∙ ap cursorOf (row-here (cursorAt i) cursorFields o vs w fits (omega arith)) ∙ e)
+        (λ j h n. other-cursor j n))
+        all-spares
+        (sets-after vs w (cursorAt i + o) closedAt (omega arith))
+
+  -- all fields
   pub cursor-stored : (c : Cursor) →
       sessionOf (stored w (cursorAt i) (c .id) (c .stmt ∷ c .rows ∷ c .sent ∷ c .live ∷ []))
       ≡ withCursors (sessionOf w) (set (cursorsIn w) i c)
@@ -163,17 +191,19 @@ module _ (w : List ℕ) (i : ℕ) (t : Stmt) (long : length w ≡ wordCount) (in
       let e : stmtAt i ≡ stmtAt i + 0 = omega arith in
       ap sessionOf (stored-sets named (stmtAt i) (t .placeholders) (t .live ∷ []))
       ∙ ap (λ (k : ℕ). sessionOf (sets named k (t .placeholders ∷ t .live ∷ []))) e
-      ∙ by-parts both (set (stmtsIn w) i t) (cursorsIn w) (word w closedAt)
+      ∙ by-parts both (set (stmtsIn w) i t) (cursorsIn w) (sparesIn w) (word w closedAt)
       (set-build (stmtIn w) (stmtIn both) maxStmts i t inside own other)
       (same-cursors w both (λ k b d. kept-past k b))
+      (same-spares w both (λ k b d. kept-past k b))
       (kept-past closedAt (omega arith))
 
 pub closed-stored : (w : List ℕ) (b : ℕ) → length w ≡ wordCount →
     sessionOf (set w closedAt b) ≡ withClosed (sessionOf w) b
 closed-stored w b long =
-    by-parts (set w closedAt b) (stmtsIn w) (cursorsIn w) b
+    by-parts (set w closedAt b) (stmtsIn w) (cursorsIn w) (sparesIn w) b
     (same-stmts w (set w closedAt b) (λ k h. getD-set-other w closedAt k b 0 (λ e. omega arith)))
     (same-cursors w (set w closedAt b) (λ k h g. getD-set-other w closedAt k b 0 (λ e. omega arith)))
+    (same-spares w (set w closedAt b) (λ k h g. getD-set-other w closedAt k b 0 (λ e. omega arith)))
     (getD-set-same w closedAt b 0 (omega arith))
 
 -- words of which those before the flag are 0
@@ -190,10 +220,17 @@ module _ (w : List ℕ) (none : (k : ℕ) → k < closedAt → word w k ≡ 0) w
       (λ j h.
       cursor-in w j
       ∙ ap cursorOf
-      (all-build (λ p. word w (cursorAt j + p)) 0 0 cursorWords (λ p g. none (cursorAt j + p) (omega arith))))
+      (all-build (λ p. word w (cursorAt j + p)) 0 0 cursorFields (λ p g. none (cursorAt j + p) (omega arith))))
+
+  no-spares : sparesIn w ≡ noSpare
+  no-spares =
+      all-build (spareIn w) (replicate spareWords 0) 0 maxCursors
+      (λ j h.
+      all-build (λ p. word w (cursorAt j + cursorFields + p)) 0 0 spareWords
+      (λ p g. none (cursorAt j + cursorFields + p) (omega arith)))
 
   pub wiped : (w₀ : List ℕ) → word w closedAt ≡ word w₀ closedAt → sessionOf w ≡ reset (sessionOf w₀)
-  wiped w₀ e = by-parts w _ _ (word w₀ closedAt) (no-stmts ∙ ts) (no-cursors ∙ cs) e
+  wiped w₀ e = by-parts w _ _ noSpare (word w₀ closedAt) (no-stmts ∙ ts) (no-cursors ∙ cs) no-spares e
     where
       many : {A : Type 0} (x : A) (xs : List A) (n : ℕ) → length xs ≡ n → replicate n x ≡ map (λ (y : A). x) xs
       many x xs n h = ap (λ (m : ℕ). replicate m x) (sym h) ∙ all-map x xs
@@ -214,9 +251,10 @@ word-zero n k =
 pub holds-fresh : (n : ℕ) → sessionOf (replicate n 0) ≡ fresh
 holds-fresh n =
     let none : (k : ℕ) → k < closedAt → word (replicate n 0) k ≡ 0 = λ k h. word-zero n k in
-    by-parts (replicate n 0) (replicate maxStmts noStmt) (replicate maxCursors noCursor) 0
+    by-parts (replicate n 0) (replicate maxStmts noStmt) (replicate maxCursors noCursor) noSpare 0
     (no-stmts (replicate n 0) none)
     (no-cursors (replicate n 0) none)
+    (no-spares (replicate n 0) none)
     (word-zero n closedAt)
 
 -- zeroing the words before the flag stands at i
@@ -274,8 +312,18 @@ module _ (w w' : List ℕ) (same : sessionOf w ≡ sessionOf w') where
   stmt-rows : (i : ℕ) → i < maxStmts → stmtRow w i ≡ stmtRow w' i
   stmt-rows i h = stmt-row w i ∙ ap ofStmt (stmts-at i h) ∙ sym (stmt-row w' i)
 
-  cursor-rows : (i : ℕ) → i < maxCursors → cursorRow w i ≡ cursorRow w' i
-  cursor-rows i h = cursor-row w i ∙ ap ofCursor (cursors-at i h) ∙ sym (cursor-row w' i)
+  spares-at : (i : ℕ) → i < maxCursors → spareIn w i ≡ spareIn w' i
+  spares-at i h = build-at (spareIn w) (spareIn w') maxCursors i h (ap (λ s. s .spare) same)
+
+  -- the fields, then what is spare
+  cursor-rows : (i : ℕ) → i < maxCursors → row w (cursorAt i) cursorWords ≡ row w' (cursorAt i) cursorWords
+  cursor-rows i h =
+      let fields = cursor-row w i ∙ ap ofCursor (cursors-at i h) ∙ sym (cursor-row w' i) in
+      same-row w' w (cursorAt i) cursorWords
+      (λ k b c.
+      below k (cursorAt i + cursorFields)
+      (λ d. row-words w w' (cursorAt i) cursorFields fields k b d)
+      (λ d. row-words w w' (cursorAt i + cursorFields) spareWords (spares-at i h) k d (omega arith)))
 
   each-word : (k : ℕ) → k < wordCount → word w k ≡ word w' k
   each-word k h =

@@ -8,7 +8,7 @@ use Rattle.session.specs.declared.Cursor.{Cursor}
 use Rattle.session.specs.Session.{Session, isClosed}
 use Rattle.session.specs.Lists.{All, howMany}
 use Rattle.session.specs.Entry.{noStmt, noCursor, isLiveStmt, isLiveCursor, isStmt, isCursor, onStmt}
-use Rattle.session.specs.Tables.{maxStmts, maxCursors, liveStmt, carried, stmtCount, cursorCount}
+use Rattle.session.specs.Tables.{maxStmts, maxCursors, noSpare, liveStmt, carried, stmtCount, cursorCount}
 
 -- the largest id and count of rows, and of placeholders
 abbrev pub maxNumber : ℕ
@@ -43,6 +43,8 @@ pub record Sound (s : Session) : Type 0 where
   pub cursorOnce : (id : ℕ) → howMany (isCursor id) (s .cursors) ≤ 1
   -- a cursor's statement is live, and carries no other cursor
   pub carries : (id : ℕ) → howMany (onStmt id) (s .cursors) ≤ howMany (isStmt id) (s .stmts)
+  -- the words of a row past its fields are 0
+  pub unused : s .spare ≡ noSpare
   pub flagged : s .closed ≤ 1
   -- a closed session has no live entry
   pub shut : isClosed s ≡ true → (stmtCount s ≡ 0) × (cursorCount s ≡ 0)

@@ -1,13 +1,13 @@
 -- What an operation does to the tables of a session (S4 to S11, E1). Where a table is full, or an id is not live, that
 -- table stays as it is: refusals are decided before.
-use Prim.Native.Nat.{ℕ}
+use Prim.Native.Nat.{ℕ, _-_}
 use mathlib.Core.Bool.{Bool}
 use mathlib.Core.List.{List}
 use lib.ListN.{replicate}
 use Rattle.session.specs.declared.Stmt.{Stmt}
 use Rattle.session.specs.declared.Cursor.{Cursor}
 use Rattle.session.specs.declared.Place.{Place}
-use Rattle.session.specs.Session.{Session, withStmts, withCursors, withClosed}
+use Rattle.session.specs.Session.{Session, withStmts, withCursors, withSpare, withClosed}
 use Rattle.session.specs.Lists.{first, put, entryAt, changed, always, sumBy, howMany, orPlace}
 use Rattle.session.specs.Entry.{noStmt, noCursor, newStmt, newCursor, isStmt, freeStmt, isCursor, onStmt}
 use Rattle.session.specs.Entry.{freeCursor, raise, owes, isLiveStmt, isLiveCursor}
@@ -18,8 +18,29 @@ maxStmts = 64
 abbrev pub maxCursors : ℕ
 maxCursors = 16
 
+-- words of a cursor's row, and how many of them are fields of the cursor: a row may be wider than what it holds
+abbrev pub cursorWords : ℕ
+cursorWords = 5
+
+abbrev pub cursorFields : ℕ
+cursorFields = 5
+
+abbrev pub spareWords : ℕ
+spareWords = cursorWords - cursorFields
+
+-- the words past the fields of a row are 0 in a fresh session, and no operation but the two that end everything
+-- changes them
+abbrev pub noSpare : List (List ℕ)
+noSpare = replicate maxCursors (replicate spareWords 0)
+
 abbrev pub fresh : Session
-fresh = record { stmts = replicate maxStmts noStmt; cursors = replicate maxCursors noCursor; closed = 0 }
+fresh =
+    record {
+      stmts = replicate maxStmts noStmt;
+      cursors = replicate maxCursors noCursor;
+      spare = noSpare;
+      closed = 0;
+    }
 
 -- the place of the live statement of an id
 abbrev pub stmtAt : Session → ℕ → Place
@@ -105,7 +126,8 @@ fetched s id count = fetchedAt s (cursorAt s id) count
 
 -- "Reset: ends everything." (S10)
 abbrev pub reset : Session → Session
-reset s = withStmts (withCursors s (ends always (s .cursors))) (changed always (λ t. noStmt) (s .stmts))
+reset s =
+    withStmts (withCursors (withSpare s noSpare) (ends always (s .cursors))) (changed always (λ t. noStmt) (s .stmts))
 
 -- "Session close: the same, and the session is closed." (S11)
 abbrev pub closedNow : Session → Session

@@ -7,14 +7,11 @@ use lib.ListN.{length, getD}
 use Rattle.session.specs.declared.Stmt.{Stmt}
 use Rattle.session.specs.declared.Cursor.{Cursor}
 use Rattle.session.specs.Session.{Session}
-use Rattle.session.specs.Tables.{maxStmts, maxCursors}
+use Rattle.session.specs.Tables.{maxStmts, maxCursors, cursorWords, cursorFields, spareWords}
 
--- words of a statement's row and of a cursor's row
+-- words of a statement's row
 abbrev pub stmtWords : ℕ
 stmtWords = 2
-
-abbrev pub cursorWords : ℕ
-cursorWords = 5
 
 -- where the rows and the flag stand; the ids of the statements stand in front
 abbrev pub stmtRows : ℕ
@@ -62,8 +59,15 @@ stmtsIn w = build (stmtIn w) 0 maxStmts
 abbrev pub cursorsIn : List ℕ → List Cursor
 cursorsIn w = build (cursorIn w) 0 maxCursors
 
+-- the words of a cursor's row past its fields
+abbrev pub spareIn : List ℕ → ℕ → List ℕ
+spareIn w i = build (λ p. word w (cursorRows + cursorWords * i + cursorFields + p)) 0 spareWords
+
+abbrev pub sparesIn : List ℕ → List (List ℕ)
+sparesIn w = build (spareIn w) 0 maxCursors
+
 abbrev pub sessionOf : List ℕ → Session
-sessionOf w = record { stmts = stmtsIn w; cursors = cursorsIn w; closed = word w closedAt }
+sessionOf w = record { stmts = stmtsIn w; cursors = cursorsIn w; spare = sparesIn w; closed = word w closedAt }
 
 -- the words are determined by the session that they hold
 abbrev pub NothingLost : Type 0

@@ -13,8 +13,11 @@ pub const MAX_STMTS: usize = 64;
 
 pub const MAX_CURSORS: usize = 16;
 
-// The words of a session.
-pub const WORDS: usize = 273;
+// The words of a cursor's row.
+pub const CURSOR_WORDS: usize = 5;
+
+// The words of a session; the flag is the last.
+pub const WORDS: usize = words::CLOSED + 1;
 
 // An entry of the statement table. `live` is a flag: 0 for a free place, which then holds zeros.
 pub struct Stmt {

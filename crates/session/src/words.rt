@@ -8,6 +8,7 @@ ghost use Rattle.session.specs.Entry.{noStmt, noCursor, withSent};
 ghost use Rattle.session.specs.Tables.{maxStmts, maxCursors, storedStmt, storedCursor, reset, closedNow};
 ghost use Rattle.session.specs.private.Search.{indexOf};
 ghost use Rattle.session.specs.Words.{wordCount, stmtIn, cursorIn, stmtsIn, cursorsIn, sessionOf};
+use crate::CURSOR_WORDS;
 use crate::Cursor;
 use crate::MAX_CURSORS;
 use crate::MAX_STMTS;
@@ -17,17 +18,15 @@ use crate::Place;
 use crate::Stmt;
 use crate::WORDS;
 
-// The words of a row.
+// The words of a statement's row.
 const STMT_WORDS: usize = 2;
-
-const CURSOR_WORDS: usize = 5;
 
 // Where rows and the flag stand; the ids of the statements stand in front.
 const STMT_ROWS: usize = MAX_STMTS;
 
 const CURSOR_ROWS: usize = STMT_ROWS + STMT_WORDS * MAX_STMTS;
 
-const CLOSED: usize = CURSOR_ROWS + CURSOR_WORDS * MAX_CURSORS;
+pub(crate) const CLOSED: usize = CURSOR_ROWS + CURSOR_WORDS * MAX_CURSORS;
 
 // The words of a statement's row; its placeholders stand first.
 const STMT_LIVE: usize = 1;
