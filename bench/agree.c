@@ -62,12 +62,12 @@ static void fill_tables(void)
 
 static void begin_session(void)
 {
-    static const uint32_t ranges[] = {3, 5, 18, 70};
+    static const uint32_t ranges[] = {3, 5, MAX_CURSORS + 2, MAX_STMTS + 6};
     plain_fresh(&plain);
     library_fresh(&library);
     random_ids(ranges[pick(4)]);
     if (one_in(2)) {
-        random_ids(pick(2) ? 18 : 80);
+        random_ids(pick(2) ? MAX_CURSORS + 2 : MAX_STMTS + 16);
         fill_tables();
     }
 }

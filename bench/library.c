@@ -4,6 +4,7 @@
 #include <stdlib.h>
 
 #include "line.h"
+#include "plain_tables.h"
 
 /* The library's numbers have 64 bits. One that does not fit the plain side's 32 must not look alike. */
 static uint32_t narrow(uint64_t v)
@@ -38,7 +39,7 @@ bool library_holds(const LibrarySession *session, const Session *plain)
         return false;
     for (int i = 0; i < MAX_STMTS; i++) {
         const struct karramotx_stmt *x = &session->stmts[i];
-        uint32_t live = plain->live_stmts >> i & 1;
+        uint32_t live = is_live(plain->live_stmts, MAX_STMTS, i);
         if (x->live != live)
             return false;
         if (live && (session->stmt_ids[i] != plain->stmt_ids[i] || x->placeholders != plain->placeholders[i]))
@@ -46,7 +47,7 @@ bool library_holds(const LibrarySession *session, const Session *plain)
     }
     for (int i = 0; i < MAX_CURSORS; i++) {
         const struct karramotx_cursor *x = &session->cursors[i];
-        uint32_t live = plain->live_cursors >> i & 1;
+        uint32_t live = is_live(plain->live_cursors, MAX_CURSORS, i);
         if (x->live != live)
             return false;
         if (live && (x->id != plain->cursor_ids[i] || x->stmt != plain->cursor_stmts[i] || x->rows != plain->rows[i] ||

@@ -6,9 +6,9 @@
 
 #include "odd_frames.h"
 
-/* The session of every line: all places are taken, and what a line asks for stands in the middle of its table.
- * Statements have the ids 1 to 64 and cursors 1 to 16, a cursor on every fourth statement. */
-enum { CURSOR = 8, OPENED = 4 * CURSOR, EXECUTED, REPLACED, NOT_LIVE = 99 };
+/* The session of every line: all places are taken, and what a line asks for stands in the middle of its table. Its
+ * ids do not depend on the limits, so that the frames are the same at any; all other ids count from OTHERS on. */
+enum { CURSOR = 8, OPENED = 32, EXECUTED, REPLACED, NOT_LIVE = 99, OTHERS = 1000 };
 enum { NULLS = 8190, OBJECTS = 16377, EMPTY_STRINGS = 5460 };
 
 static const Report none = {.kind = REPORT_NONE}, done = {.kind = REPORT_DONE}, prepared = {.kind = REPORT_PREPARED},
@@ -163,19 +163,32 @@ static void fill_step(Line *line, const Frame *f, Report report)
     }
 }
 
+static unsigned stmt_id(unsigned place)
+{
+    unsigned id = OPENED + place - (MAX_STMTS / 2 - 1);
+    return id == OPENED || id == EXECUTED || id == REPLACED ? id : OTHERS + place;
+}
+
+/* There is a cursor on every fourth statement, OPENED among them. */
+static unsigned cursor_id(unsigned place)
+{
+    return place == MAX_CURSORS / 2 - 1 ? CURSOR : OTHERS + place;
+}
+
 static void fill_session(Line *line)
 {
     static Frame f;
     Report many = {.kind = REPORT_RESULT, .columns = 7, .rows = UINT32_MAX}, holes = prepared;
     plain_fresh(&line->plain_session);
     library_fresh(&line->library_session);
-    for (unsigned id = 1; id <= MAX_STMTS; id++) {
+    for (unsigned place = 0; place < MAX_STMTS; place++) {
+        unsigned id = stmt_id(place);
         prepare_frame(&f, id, 20, 0, NULL);
         holes.placeholders = id == OPENED ? 1 : id == EXECUTED ? 4 : 0;
         fill_step(line, &f, holes);
     }
-    for (unsigned id = 1; id <= MAX_CURSORS; id++) {
-        open_frame(&f, id, 4 * id, 1, 0);
+    for (unsigned place = 0; place < MAX_CURSORS; place++) {
+        open_frame(&f, cursor_id(place), stmt_id(4 * place + 3), 1, 0);
         fill_step(line, &f, many);
     }
 }

@@ -44,14 +44,21 @@ void plain_next_argument(const uint8_t *frame, size_t end, size_t at, Value *v);
 
 /* ---- look and step */
 
-/* Ids stand side by side, so that a search goes over few bytes. Bit i of a live word tells of place i. */
+/* The masks that have a bit for each place of a table. */
+enum { MASK = 64 };
+#define MASKS(places) (((places) + MASK - 1) / MASK)
+
+/* Words of a cursor that the rules use; others stand in rows of their own, so that no search goes over them. */
+enum { CURSOR_FIELDS = 5 };
+
+/* Ids stand side by side, so that a search goes over few bytes. Bit i % 64 of mask i / 64 tells of place i. */
 typedef struct {
-    uint64_t live_stmts;
-    uint32_t live_cursors;
+    uint64_t live_stmts[MASKS(MAX_STMTS)], live_cursors[MASKS(MAX_CURSORS)];
     bool closed;
     uint32_t stmt_ids[MAX_STMTS], placeholders[MAX_STMTS];
     uint32_t cursor_ids[MAX_CURSORS], cursor_stmts[MAX_CURSORS];
     uint32_t rows[MAX_CURSORS], sent[MAX_CURSORS];
+    uint32_t spare[MAX_CURSORS][CURSOR_WORDS - CURSOR_FIELDS];
 } Session;
 
 typedef struct {

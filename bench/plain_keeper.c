@@ -60,7 +60,7 @@ Look plain_look(const Session *session, const uint8_t *frame, size_t len)
 
 static void end_cursor(Session *s, int cursor)
 {
-    s->live_cursors &= ~(1u << cursor);
+    free_place(s->live_cursors, MAX_CURSORS, cursor);
 }
 
 static void end_cursor_on(Session *s, uint32_t stmt)
@@ -72,8 +72,8 @@ static void end_cursor_on(Session *s, uint32_t stmt)
 
 static void end_all(Session *s)
 {
-    s->live_stmts = 0;
-    s->live_cursors = 0;
+    memset(s->live_stmts, 0, sizeof s->live_stmts);
+    memset(s->live_cursors, 0, sizeof s->live_cursors);
 }
 
 static void prepare(Session *s, const Message *m, const Places *at, const Report *r)
@@ -82,7 +82,7 @@ static void prepare(Session *s, const Message *m, const Places *at, const Report
         end_cursor_on(s, m->stmt);
     s->stmt_ids[at->stmt] = m->stmt;
     s->placeholders[at->stmt] = (uint32_t)r->placeholders;
-    s->live_stmts |= (uint64_t)1 << at->stmt;
+    take_place(s->live_stmts, MAX_STMTS, at->stmt);
 }
 
 static void execute(Session *s, const Message *m, const Report *r, uint8_t *reply, Answer *a)
@@ -96,7 +96,7 @@ static void execute(Session *s, const Message *m, const Report *r, uint8_t *repl
 static void deallocate(Session *s, const Message *m, const Places *at)
 {
     end_cursor_on(s, m->stmt);
-    s->live_stmts &= ~((uint64_t)1 << at->stmt);
+    free_place(s->live_stmts, MAX_STMTS, at->stmt);
 }
 
 static void open_cursor(Session *s, const Message *m, const Places *at, const Report *r, uint8_t *reply, Answer *a)
@@ -108,7 +108,7 @@ static void open_cursor(Session *s, const Message *m, const Places *at, const Re
     s->cursor_stmts[at->cursor] = m->stmt;
     s->rows[at->cursor] = rows;
     s->sent[at->cursor] = a->count;
-    s->live_cursors |= 1u << at->cursor;
+    take_place(s->live_cursors, MAX_CURSORS, at->cursor);
     a->reply = put_rows_end(reply, a->count == rows);
 }
 

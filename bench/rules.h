@@ -3,7 +3,7 @@
 #define RULES_H
 
 enum { HEAD = 4, MAX_LENGTH = 65532, MAX_FRAME = HEAD + MAX_LENGTH, MIN_REPLY = 128 };
-enum { MAX_STMTS = 64, MAX_CURSORS = 16, MAX_DEPTH = 32 };
+enum { MAX_STMTS = 64, MAX_CURSORS = 16, CURSOR_WORDS = 5, MAX_DEPTH = 32 };
 enum { MAX_PLACEHOLDERS = 65535, MAX_COLUMNS = 4096 };
 
 /* Message types of clients and of servers. */
