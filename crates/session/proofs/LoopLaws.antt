@@ -1,14 +1,14 @@
--- The loops over a table, one turn at a time: a search, a sum, a change in place. Assumes nothing.
-use Prim.Native.Nat.{ℕ, zero, suc, _+_, _*_, _≤_, _<_}
+-- The loops over a table, one turn at a time: a search, a sum, the bits of places, a change in place. Assumes nothing.
+use Prim.Native.Nat.{ℕ, zero, suc, _+_, _-_, _*_, _^_, _≤_, _<_}
 use native.Mathlib.Numerals.{add-one}
 use native.Mathlib.Omega.{arith}
 use mathlib.Core.Bool.{Bool, true, false, cond}
 use mathlib.Core.Path.{_≡_, refl, sym, ap, _∙_}
 use mathlib.Core.List.{List, [], _∷_, map}
-use lib.ListN.{length, getD, set, drop, drop-of-length-le}
+use lib.ListN.{length, getD, set, drop, drop-of-length-le, length-drop}
 use lib.Seq.{drop-cons}
 use Rattle.session.specs.declared.Place.{Place}
-use Rattle.session.specs.Lists.{first, orPlace, sumBy}
+use Rattle.session.specs.Lists.{first, orPlace, sumBy, maskOf}
 use Rattle.session.specs.Words.{build}
 use Rattle.session.proofs.BuildLaws.{length-build, getD-build}
 
@@ -73,6 +73,50 @@ module _ {A : Type 0} {v : A → ℕ} {most : ℕ} {f : ℕ → A} {n : ℕ} whe
     unfolding sumBy
     sums-on r h e b =
         record { small = omega arith; rest = rw add-one (omega (arith, rw (one-left f n i h) at (l .rest))) }
+
+-- the bits of k places are below 2 ^ k
+mask-small : {A : Type 0} (p : A → Bool) (k : ℕ) (xs : List A) → length xs ≤ k → maskOf p xs < 2 ^ k
+unfolding maskOf
+mask-small p k [] h = pow-positive k
+  where
+    pow-positive : (k : ℕ) → 0 < 2 ^ k
+    pow-positive zero = omega arith
+    pow-positive (suc k) = omega (arith, pow-positive k)
+mask-small p zero (x ∷ xs) h = absurd (omega arith)
+mask-small p (suc k) (x ∷ xs) h = go (p x) (mask-small p k xs (omega arith))
+  where
+    go : (b : Bool) → maskOf p xs < 2 ^ k → cond b 1 0 + 2 * maskOf p xs < 2 ^ suc k
+    go true more = omega arith
+    go false more = omega arith
+
+-- the bits of a table's places from i on, of n
+pub record Masking {A : Type 0} (p : A → Bool) (f : ℕ → A) (n i mask : ℕ) : Type 0 where
+  pub inside : i ≤ n
+  pub rest : mask ≡ maskOf p (drop i (build f 0 n))
+
+module _ {A : Type 0} {p : A → Bool} {f : ℕ → A} {n : ℕ} where
+  pub masks : Masking p f n n 0
+  unfolding maskOf
+  masks = record { inside = omega arith; rest = rw (none-left f n n (omega arith)) }
+
+  module _ {i mask : ℕ} (l : Masking p f n i mask) where
+    pub masked : i ≤ 0 → mask ≡ maskOf p (build f 0 n)
+    masked h = let e : i ≡ 0 = omega arith in l .rest ∙ ap (λ (k : ℕ). maskOf p (drop k (build f 0 n))) e
+
+    pub few-bits : (k : ℕ) → n ≤ i + k → mask < 2 ^ k
+    few-bits k h =
+        let left : length (drop i (build f 0 n)) ≤ k = omega (arith, length-drop i (build f 0 n), length-build f 0 n) in
+        omega (arith, l .rest, mask-small p k (drop i (build f 0 n)) left)
+
+    pub masks-on : (r : ℕ) → 0 < i → r ≡ cond (p (f (i - 1))) 1 0 → Masking p f n (i - 1) (2 * mask + r)
+    unfolding maskOf
+    masks-on r h e =
+        let back : suc (i - 1) ≡ i = omega arith in
+        let one = one-left f n (i - 1) (omega (arith, l .inside)) in
+        record {
+          inside = omega (arith, l .inside);
+          rest = omega (arith, e, l .rest, ap (maskOf p) one, ap (λ (k : ℕ). maskOf p (drop k (build f 0 n))) back);
+        }
 
 -- the first i entries are changed by f
 unfoldable pub upTo : {A : Type 0} → (A → A) → ℕ → List A → List A

@@ -6,11 +6,10 @@ use mathlib.Core.Path.{_≡_, refl, sym, ap, _∙_}
 use mathlib.Core.List.{List}
 use lib.ListN.{getD, set}
 use Rattle.session.specs.declared.Place.{Place}
-use Rattle.session.specs.Lists.{put, entryAt}
+use Rattle.session.specs.Lists.{indexOf, put, entryAt}
 use Rattle.session.specs.Entry.{noCursor, withSent}
 use Rattle.session.specs.Tables.{maxCursors}
 use Rattle.session.specs.Words.{build, cursorIn, cursorsIn}
-use Rattle.session.specs.private.Search.{indexOf}
 use Rattle.session.proofs.BuildLaws.{length-build, getD-build, getD-past, set-past}
 
 module _ {A : Type 0} (f : ℕ → A) (n : ℕ) where

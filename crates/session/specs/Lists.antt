@@ -1,6 +1,6 @@
 -- What the rules of a table say of a list: the first place that passes a test, an entry put at a place, the entries
--- that pass changed, a sum over the entries.
-use Prim.Native.Nat.{ℕ, suc, _+_}
+-- that pass changed, a sum over the entries, the places that pass as bits.
+use Prim.Native.Nat.{ℕ, suc, _+_, _*_}
 use mathlib.Core.Bool.{Bool, true, cond}
 use mathlib.Core.List.{List, [], _∷_, map}
 use lib.ListN.{getD, set}
@@ -10,6 +10,11 @@ use Rattle.session.specs.declared.Place.{Place}
 abbrev pub orPlace : Place → Place → Place
 orPlace (Place.At i) other = Place.At i
 orPlace Place.Nothing other = other
+
+-- the number of a place, n where there is none
+abbrev pub indexOf : ℕ → Place → ℕ
+indexOf n (Place.At i) = i
+indexOf n Place.Nothing = n
 
 module _ {A : Type 0} where
   -- the first place whose entry passes, counted from k
@@ -49,3 +54,8 @@ module _ {A : Type 0} where
   -- how many entries pass
   abbrev pub howMany : (A → Bool) → List A → ℕ
   howMany p xs = sumBy (λ x. cond (p x) 1 0) xs
+
+  -- the places whose entries pass, as bits: the lowest is that of the first place
+  unfoldable pub maskOf : (A → Bool) → List A → ℕ
+  maskOf p [] = 0
+  maskOf p (x ∷ xs) = cond (p x) 1 0 + 2 * maskOf p xs

@@ -42,7 +42,7 @@ pub fn owed(words: &[u32; WORDS]) -> u64
 }
 
 // 1 for a live entry.
-fn one(live: u32) -> u64
+pub(crate) fn one(live: u32) -> u64
     ensures { λ r. ⌜ (r ≡ cond (not (eqb live 0)) 1 0) × (r ≤ 1) ⌝ }
 {
     if live != 0 { 1 } else { 0 }

@@ -7,6 +7,7 @@ ghost use Rattle.session.specs.Words.{sessionOf};
 pub mod change;
 pub mod count;
 pub mod find;
+pub mod mask;
 pub mod words;
 
 pub const MAX_STMTS: usize = 64;

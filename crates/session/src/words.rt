@@ -3,10 +3,9 @@ ghost use mathlib.Core.Path.{_≡_};
 ghost use Prim.Native.Nat.{_<_};
 ghost use lib.ListN.{length, set};
 ghost use Rattle.session.specs.Session.{withStmts, withCursors, withClosed, isClosed};
-ghost use Rattle.session.specs.Lists.{entryAt};
+ghost use Rattle.session.specs.Lists.{entryAt, indexOf};
 ghost use Rattle.session.specs.Entry.{noStmt, noCursor, withSent};
 ghost use Rattle.session.specs.Tables.{maxStmts, maxCursors, storedStmt, storedCursor, reset, closedNow};
-ghost use Rattle.session.specs.private.Search.{indexOf};
 ghost use Rattle.session.specs.Words.{wordCount, stmtIn, cursorIn, stmtsIn, cursorsIn, sessionOf};
 use crate::CURSOR_WORDS;
 use crate::Cursor;
@@ -98,7 +97,7 @@ pub(crate) fn cursor_live(words: &[u32; WORDS], i: usize) -> u32
 }
 
 // The number of a place, `past` where there is none.
-fn index(place: Place, past: usize) -> usize
+pub fn index(place: Place, past: usize) -> usize
     ensures { λ r. ⌜ r ≡ indexOf past place ⌝ }
 {
     match place {

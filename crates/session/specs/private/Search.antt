@@ -1,15 +1,9 @@
--- What searches and stores compute on the way: the number of a place, a block of ids.
+-- What a search computes on the way: a block of ids.
 use Prim.Native.Nat.{ℕ, zero, suc}
 use mathlib.Core.Bool.{Bool, false, _||_}
 use mathlib.Core.List.{List}
 use lib.Dec.{eqb}
-use Rattle.session.specs.declared.Place.{Place}
 use Rattle.session.specs.Words.{stmtIn}
-
--- the number of a place, n where there is none
-abbrev pub indexOf : ℕ → Place → ℕ
-indexOf n (Place.At i) = i
-indexOf n Place.Nothing = n
 
 -- the ids of statements that a search compares at once
 abbrev pub blockIds : ℕ
