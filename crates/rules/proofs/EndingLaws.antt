@@ -45,10 +45,10 @@ or-twice : (b : Bool) → b ≡ (b || false || false)
 or-twice true = refl
 or-twice false = refl
 
-on-stmt : (k : ℕ) (c : Cursor) → onStmt k c ≡ (isLiveCursor c && (eqb (c .stmt) k || false || false))
+pub on-stmt : (k : ℕ) (c : Cursor) → onStmt k c ≡ (isLiveCursor c && (eqb (c .stmt) k || false || false))
 on-stmt k c = ap (λ b. isLiveCursor c && b) (or-twice (eqb (c .stmt) k))
 
-of-id : (k : ℕ) (c : Cursor) → isCursor k c ≡ (isLiveCursor c && (eqb (c .id) k || false))
+pub of-id : (k : ℕ) (c : Cursor) → isCursor k c ≡ (isLiveCursor c && (eqb (c .id) k || false))
 of-id k c = ap (λ b. isLiveCursor c && b) (sym (or-false (eqb (c .id) k)))
 
 module _ (s : Session) (r : Report) (sound : Sound s) where

@@ -11,3 +11,4 @@ pub mod WholeLaws
 pub mod SendLaws
 pub mod OwnLaws
 pub mod DecideLaws
+pub mod InspectLaws

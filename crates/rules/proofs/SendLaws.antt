@@ -76,7 +76,7 @@ step-rows P s x r buffer h =
     (y .answer .count)) s x r buffer
     (λ _ e. absurd (omega arith)) (λ used q _ t _. (used, q, t .good, h used q t)) (λ _ some e. absurd (some e))
 
-good-same : {used used' : ℕ} {q p : Request} → Good used q ≡ Good used' p → q ≡ p
+pub good-same : {used used' : ℕ} {q p : Request} → Good used q ≡ Good used' p → q ≡ p
 good-same e = cc
 
 as-asked : (s : Session) (q : Request) (r : Report) (a : Answer) → a .first ≡ firstRow s q →

@@ -9,3 +9,5 @@ pub mod Read
 pub mod StepRules
 pub mod SendRules
 pub mod RefusalRules
+pub mod Inspect
+pub mod InspectRules

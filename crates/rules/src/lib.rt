@@ -63,3 +63,12 @@ pub struct Answer {
     pub first: u64,
     pub count: u64,
 }
+
+// What a request touches in the tables: the place of its statement and of its cursor, the number of places where there
+// is none, and as bits the places of the cursors that it ends once it is accepted.
+#[repr(C)]
+pub struct Touches {
+    pub stmt: usize,
+    pub cursor: usize,
+    pub ends: u64,
+}
