@@ -5,3 +5,4 @@ pub mod StepLaws
 pub mod RequestLaws
 pub mod FrameLaws
 pub mod LookLaws
+pub mod InspectLaws

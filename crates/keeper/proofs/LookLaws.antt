@@ -64,11 +64,14 @@ module _ (s : Session) where
   unfolding lookOf lookReason
   look-any used q = refl
 
--- what was read
-pub look-read : (s : Session) (frame : List ℕ) {x y : Frame} {l : Look} → x ≡ frameOf frame → x ≡ y → l ≡ lookOf s y →
+-- the frame that was matched, and what was read
+pub look-frame : (s : Session) (x : Frame) {y : Frame} {l : Look} → x ≡ y → l ≡ lookOf s y → l ≡ lookOf s x
+look-frame s x e g = g ∙ ap (lookOf s) (sym e)
+
+pub look-read : (s : Session) (frame : List ℕ) {x : Frame} {l : Look} → x ≡ frameOf frame → l ≡ lookOf s x →
     l ≡ lookAt s frame
 unfolding lookAt
-look-read s frame e f g = g ∙ ap (lookOf s) (sym f ∙ e)
+look-read s frame e g = g ∙ ap (lookOf s) e
 
 -- ---- a request
 

@@ -1,6 +1,7 @@
-// Look and step: what a session answers to a frame, on words that the host owns. `value` has both for a session by
-// value.
+// Look and step: what a session answers to a frame, on words that the host owns. `inspect` has what else a host needs
+// to know before a step, `value` has look and step for a session by value.
 mod answer;
+pub mod inspect;
 pub mod look;
 mod refusal;
 mod rows;

@@ -23,7 +23,14 @@ use session::WORDS;
 pub fn look(words: &[u32; WORDS], frame: &[u8]) -> Look
     ensures { λ r. ⌜ r ≡ lookAt (sessionOf (now (words .entry))) (now (frame .entry)) ⌝ }
 {
-    match message::frame::read_frame(frame) {
+    look_on(words, message::frame::read_frame(frame))
+}
+
+// The look at a frame that is read already.
+pub fn look_on(words: &[u32; WORDS], frame: Frame) -> Look
+    ensures { λ r. ⌜ r ≡ lookOf (sessionOf (now (words .entry))) frame ⌝ }
+{
+    match frame {
         Frame::NotAllThere => refused(reason::NOT_ALL_THERE),
         Frame::BadLength => refused(reason::BAD_LENGTH),
         Frame::UnknownType { used: _ } => refused(refusal::closed_or(words, reason::UNKNOWN_TYPE)),

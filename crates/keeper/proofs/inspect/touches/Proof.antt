@@ -1,0 +1,23 @@
+-- `keeper::inspect::touches` meets its contract: a place by its number. Assumes nothing.
+use Prim.Native.Nat.{ℕ}
+use mathlib.Core.Path.{ap, _∙_}
+use borrow.Author.Needs.{needs}
+use Rattle.session.specs.Lists.{indexOf}
+use Rattle.rules.specs.Inspect.{noStmtPlace}
+use Rattle.rules.specs.declared.Touches.{Touches}
+use Rattle.keeper.proofs.inspect.touches.Statement.{statement}
+use Rattle.keeper.proofs.inspect.touches.Tie as tie
+
+returns : tie.Need-returns
+returns c =
+    let a = c .before .before .args in
+    ap {B = Touches} (λ (k : ℕ). record { stmt = k; cursor = c .index2 .result; ends = a .ends }) (c .before .index .ensures)
+    ∙ ap {B = Touches} (λ (k : ℕ). record { stmt = indexOf noStmtPlace (a .stmt); cursor = k; ends = a .ends }) (c .index2 .ensures)
+
+pub touches-spec : {M : Type 1} → statement M
+touches-spec =
+    tie.close
+    (tie.spec
+    (λ c κs. search needs)
+    (λ c κs. search needs)
+    returns)
