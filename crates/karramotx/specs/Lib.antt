@@ -1,5 +1,6 @@
 pub mod Counts
 pub mod Message
+pub mod Inspection
 pub mod Value
 pub mod ValueRules
 pub mod Given

@@ -14,10 +14,12 @@ ghost use Rattle.session.specs.Words.{sessionOf};
 ghost use Rattle.writer.specs.Write.{leftOf, sentOf};
 ghost use Rattle.karramotx.specs.Counts.{countsOf};
 ghost use Rattle.karramotx.specs.Given.{givenArgument};
+ghost use Rattle.karramotx.specs.Inspection.{inspectionOf};
 ghost use Rattle.karramotx.specs.Message.{messageOf};
 ghost use Rattle.karramotx.specs.Value.{nextValueOf, valueOf};
 use args::part::Part;
 use given::Scalar;
+use inspection::Inspection;
 use rules::Answer;
 use rules::Look;
 use rules::Report;
@@ -33,6 +35,7 @@ use writer::Draft;
 use writer::Sent;
 
 pub mod given;
+pub mod inspection;
 pub mod told;
 pub mod value;
 
@@ -66,6 +69,15 @@ pub extern "C" fn karramotx_look(session: &[u32; WORDS], frame: &[u8]) -> Look
     ensures { λ r. ⌜ r ≡ lookAt (sessionOf (now (session .entry))) (now (frame .entry)) ⌝ }
 {
     keeper::look::look(session, frame)
+}
+
+// The look and the message of one reading, with the places of the tables that the frame touches and the cursors that it
+// ends. The host's own session is only read.
+#[no_mangle]
+pub extern "C" fn karramotx_inspect(session: &[u32; WORDS], frame: &[u8]) -> Inspection
+    ensures { λ r. ⌜ r ≡ inspectionOf (sessionOf (now (session .entry))) (frameOf (now (frame .entry))) ⌝ }
+{
+    inspection::inspect(session, message::frame::read_frame(frame))
 }
 
 // The step on the host's own session, in place: its words become those of the session after the step, the reply stands
