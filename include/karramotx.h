@@ -10,11 +10,12 @@
  *
  *     struct karramotx_session session = karramotx_fresh();
  *     for each frame (section "Frames as they arrive" cuts them out of the bytes of a connection):
- *         look = karramotx_look(&session, frame, len);         what work the frame wants, if any
- *         report = your engine does that work;
+ *         told = karramotx_inspect(&session, frame, len);      what the frame asks, and what work it wants
+ *         report = your engine does told.look.work;
  *         answer = karramotx_step(&session, frame, len, report, reply, sizeof reply);
  *         send columns if answer.columns, rows answer.first .. answer.first + answer.count - 1,
  *         then answer.reply bytes of reply
+ *         if answer.reason is 0, free what ended (section "All of a frame before its step")
  *
  * Bytes go in as a pointer and a length. The pointer may be null where the length is 0. What is written
  * to (a session, a reply, a buffer, a store) must not overlap anything else that is handed in.
@@ -418,7 +419,7 @@ KARRAMOTX_FIELD(karramotx_value, next, 40);
 struct karramotx_value karramotx_argument(const uint8_t *frame, size_t len, size_t index);
 
 /*
- * All arguments in one pass, after `m = karramotx_read(frame, len)`:
+ * All arguments in one pass, where `m` is what karramotx_read answers, or the message of karramotx_inspect:
  *
  *     for (size_t at = m.args.start; at < m.args.end; at = v.next) {
  *         v = karramotx_next_argument(frame, m.args.end, at);
@@ -429,6 +430,44 @@ struct karramotx_value karramotx_argument(const uint8_t *frame, size_t len, size
  * `end` is the place behind the message that holds them. An object or array has reason 8 and a `next`.
  */
 struct karramotx_value karramotx_next_argument(const uint8_t *frame, size_t end, size_t at);
+
+/* ---- All of a frame before its step ---- */
+
+/*
+ * Look and message from one reading, and what the frame touches in the tables, so that a host reads a frame twice
+ * in all: here and in the step. Keep what is yours of a statement or a cursor, as a plan or a result, in arrays of
+ * KARRAMOTX_MAX_STMTS and KARRAMOTX_MAX_CURSORS places, each at the entry's own place. After a step that answers
+ * reason 0:
+ *
+ *     for each bit i of told.ends, `told.ends >> i & 1`: free the result at place i; its cursor has ended
+ *     Prepare: what was kept at told.stmt_place is replaced by the new statement
+ *     Open: keep its result at told.cursor_place, for the Fetches that find it there
+ *     Deallocate: free the statement at told.stmt_place
+ *     Reset, Session close: free all statements
+ *
+ * After a refused step all is as it was. A cursor whose bit is clear keeps its place and its result, that of a
+ * Fetch too; at an Open's own place a cursor of the same id may have stood, and its bit is then set.
+ *
+ * Places and bits depend on the session and the frame alone, and are told whether the frame will be refused or not.
+ */
+struct karramotx_inspection {
+    struct karramotx_look look;           /* as karramotx_look answers */
+    struct karramotx_message message;     /* as karramotx_read answers */
+    size_t stmt_place;             /* Execute, Deallocate, Open: where the statement of that id is live; Prepare: where it
+                                      will stand; KARRAMOTX_MAX_STMTS where there is none */
+    size_t cursor_place;           /* Close, Fetch: where the cursor of that id is live; Open: where it will stand;
+                                      KARRAMOTX_MAX_CURSORS where there is none */
+    uint64_t ends;                 /* bit i: the cursor at place i is live, and the frame ends it once accepted */
+};
+KARRAMOTX_SIZE(karramotx_inspection, 200);
+KARRAMOTX_FIELD(karramotx_inspection, look, 0);
+KARRAMOTX_FIELD(karramotx_inspection, message, 32);
+KARRAMOTX_FIELD(karramotx_inspection, stmt_place, 176);
+KARRAMOTX_FIELD(karramotx_inspection, cursor_place, 184);
+KARRAMOTX_FIELD(karramotx_inspection, ends, 192);
+
+struct karramotx_inspection karramotx_inspect(const struct karramotx_session *session, const uint8_t *frame,
+                                              size_t len);
 
 /* ---- Writing ---- */
 

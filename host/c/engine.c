@@ -1,6 +1,7 @@
 #include "engine.h"
 
 #include <inttypes.h>
+#include <stdlib.h>
 #include <string.h>
 
 static bool holds(const uint8_t *bytes, size_t len, const char *text)
@@ -14,9 +15,8 @@ static bool holds(const uint8_t *bytes, size_t len, const char *text)
 }
 
 /* A statement has a placeholder for each question mark in it. */
-static struct karramotx_report prepare(const uint8_t *frame, size_t len)
+static struct karramotx_report prepare(struct karramotx_part body, const uint8_t *frame)
 {
-    struct karramotx_part body = karramotx_body(frame, len);
     uint64_t placeholders = 0;
     if (holds(frame + body.start, body.len, "oops"))
         return (struct karramotx_report){.kind = KARRAMOTX_REPORT_FAILED, .code = 1064};
@@ -25,15 +25,24 @@ static struct karramotx_report prepare(const uint8_t *frame, size_t len)
     return (struct karramotx_report){.kind = KARRAMOTX_REPORT_PREPARED, .placeholders = placeholders};
 }
 
-struct karramotx_report engine_work(struct karramotx_look look, const uint8_t *frame, size_t len)
+static struct karramotx_report run(struct engine *e)
 {
-    switch (look.work) {
+    e->made = malloc(sizeof *e->made);
+    if (e->made == NULL)
+        return (struct karramotx_report){.kind = KARRAMOTX_REPORT_FAILED, .code = 1037};
+    *e->made = (struct engine_result){.columns = ENGINE_COLUMNS, .rows = ENGINE_ROWS};
+    return (struct karramotx_report){
+        .kind = KARRAMOTX_REPORT_RESULT, .columns = e->made->columns, .rows = e->made->rows};
+}
+
+struct karramotx_report engine_work(struct engine *e, const struct karramotx_inspection *told, const uint8_t *frame)
+{
+    switch (told->look.work) {
     case KARRAMOTX_WORK_PREPARE:
-        return prepare(frame, len);
+        return prepare(told->message.body, frame);
     case KARRAMOTX_WORK_EXECUTE:
     case KARRAMOTX_WORK_OPEN:
-        return (struct karramotx_report){
-            .kind = KARRAMOTX_REPORT_RESULT, .columns = ENGINE_COLUMNS, .rows = ENGINE_ROWS};
+        return run(e);
     case KARRAMOTX_WORK_FETCH:
         return (struct karramotx_report){.kind = KARRAMOTX_REPORT_DONE};
     default:
@@ -41,10 +50,41 @@ struct karramotx_report engine_work(struct karramotx_look look, const uint8_t *f
     }
 }
 
-void engine_send(struct karramotx_answer answer, FILE *out)
+void engine_send(const struct engine *e, const struct karramotx_inspection *told, struct karramotx_answer answer,
+                 FILE *out)
 {
+    bool fetch = told->look.work == KARRAMOTX_WORK_FETCH;
+    const struct engine_result *result = fetch ? e->results[told->cursor_place] : e->made;
     if (answer.columns)
-        fprintf(out, "    %d columns\n", ENGINE_COLUMNS);
-    for (uint64_t i = 0; i < answer.count; i++)
-        fprintf(out, "    row %" PRIu64 "\n", answer.first + i);
+        fprintf(out, "    %" PRIu64 " columns\n", result->columns);
+    for (uint64_t i = answer.first; i < answer.first + answer.count && i < result->rows; i++)
+        fprintf(out, "    row %" PRIu64 "\n", i);
+}
+
+static void drop(struct engine_result **result)
+{
+    free(*result);
+    *result = NULL;
+}
+
+void engine_settle(struct engine *e, const struct karramotx_inspection *told, struct karramotx_answer answer)
+{
+    if (answer.reason == KARRAMOTX_ACCEPTED) {
+        for (size_t i = 0; i < KARRAMOTX_MAX_CURSORS; i++) {
+            if (told->ends >> i & 1)
+                drop(&e->results[i]);
+        }
+        if (told->look.work == KARRAMOTX_WORK_OPEN) {
+            e->results[told->cursor_place] = e->made;
+            e->made = NULL;
+        }
+    }
+    drop(&e->made);
+}
+
+void engine_end(struct engine *e)
+{
+    for (size_t i = 0; i < KARRAMOTX_MAX_CURSORS; i++)
+        drop(&e->results[i]);
+    drop(&e->made);
 }

@@ -9,13 +9,32 @@
 /* The columns and rows that every query of this engine has. */
 enum { ENGINE_COLUMNS = 2, ENGINE_ROWS = 5 };
 
+/* A result, which the rows of a cursor are sent from. */
+struct engine_result {
+    uint64_t columns;
+    uint64_t rows;
+};
+
+/* What the engine keeps for one connection: the result of each cursor at that cursor's place, and one just made. */
+struct engine {
+    struct engine_result *results[KARRAMOTX_MAX_CURSORS];
+    struct engine_result *made;
+};
+
 /*
- * Does the work that the look at a frame wants, and reports it. A statement whose text holds "oops" can't be
- * prepared: the engine fails with code 1064.
+ * Does the work that a frame wants, and reports it. A statement whose text holds "oops" can't be prepared: the engine
+ * fails with code 1064.
  */
-struct karramotx_report engine_work(struct karramotx_look look, const uint8_t *frame, size_t len);
+struct karramotx_report engine_work(struct engine *e, const struct karramotx_inspection *told, const uint8_t *frame);
 
 /* Sends columns and rows, here as text. */
-void engine_send(struct karramotx_answer answer, FILE *out);
+void engine_send(const struct engine *e, const struct karramotx_inspection *told, struct karramotx_answer answer,
+                 FILE *out);
+
+/* After the step: the results of the cursors that ended are freed, and an Open's is kept. */
+void engine_settle(struct engine *e, const struct karramotx_inspection *told, struct karramotx_answer answer);
+
+/* Frees what is kept. */
+void engine_end(struct engine *e);
 
 #endif

@@ -41,7 +41,9 @@ static int serve_stream(FILE *in, size_t pieces, FILE *out)
     fprintf(out, "%s: %" PRIu64 " statements, %" PRIu64 " cursors, %" PRIu64 " rows owed%s\n",
             !good ? "bad length" : cut ? "cut" : "end", counts.stmts, counts.cursors, counts.owed,
             c.session.closed ? ", closed" : "");
-    if (!session_is_sound(&c.session))
+    bool sound = connection_is_sound(&c);
+    connection_end(&c);
+    if (!sound)
         return 2;
     return !good || cut;
 }

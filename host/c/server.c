@@ -1,5 +1,4 @@
 #include "server.h"
-#include "engine.h"
 
 #include <inttypes.h>
 
@@ -54,11 +53,11 @@ static void print_value(struct karramotx_value v, const uint8_t *frame, FILE *ou
 }
 
 /* All arguments, in one pass. */
-static void print_arguments(const uint8_t *frame, struct karramotx_message m, FILE *out)
+static void print_arguments(const uint8_t *frame, struct karramotx_arguments args, FILE *out)
 {
     struct karramotx_value v;
-    for (size_t at = m.args.start; at < m.args.end; at = v.next) {
-        v = karramotx_next_argument(frame, m.args.end, at);
+    for (size_t at = args.start; at < args.end; at = v.next) {
+        v = karramotx_next_argument(frame, args.end, at);
         if (v.reason == KARRAMOTX_FEW_ARGUMENTS)
             break;
         fprintf(out, "    argument: ");
@@ -67,21 +66,22 @@ static void print_arguments(const uint8_t *frame, struct karramotx_message m, FI
     }
 }
 
-/* One frame: look, let the engine work, step, send. */
-static void serve_frame(struct karramotx_session *session, const uint8_t *frame, size_t len, uint64_t kind, FILE *out)
+/* One frame: inspect, let the engine work, step, send, free what ended. */
+static void serve_frame(struct connection *c, const uint8_t *frame, size_t len, uint64_t kind, FILE *out)
 {
     uint8_t reply[KARRAMOTX_MIN_REPLY];
-    struct karramotx_look look = karramotx_look(session, frame, len);
-    struct karramotx_report report = engine_work(look, frame, len);
-    struct karramotx_answer answer = karramotx_step(session, frame, len, report, reply, sizeof reply);
+    struct karramotx_inspection told = karramotx_inspect(&c->session, frame, len);
+    struct karramotx_report report = engine_work(&c->engine, &told, frame);
+    struct karramotx_answer answer = karramotx_step(&c->session, frame, len, report, reply, sizeof reply);
 
     fprintf(out, "%s", kind_name(kind));
     if (answer.reason != KARRAMOTX_ACCEPTED)
         fprintf(out, ": refused %" PRIu64, answer.reason);
     fprintf(out, "\n");
     if (kind == KARRAMOTX_EXECUTE || kind == KARRAMOTX_CURSOR_OPEN)
-        print_arguments(frame, karramotx_read(frame, len), out);
-    engine_send(answer, out);
+        print_arguments(frame, told.message.args, out);
+    engine_send(&c->engine, &told, answer, out);
+    engine_settle(&c->engine, &told, answer);
     fprintf(out, "    reply ");
     print_bytes(reply, answer.reply, out);
     fprintf(out, "\n");
@@ -91,6 +91,12 @@ void connection_begin(struct connection *c)
 {
     c->session = karramotx_fresh();
     c->reader = karramotx_start_over();
+    c->engine = (struct engine){0};
+}
+
+void connection_end(struct connection *c)
+{
+    engine_end(&c->engine);
 }
 
 bool connection_serve(struct connection *c, const uint8_t *bytes, size_t len, FILE *out)
@@ -102,7 +108,7 @@ bool connection_serve(struct connection *c, const uint8_t *bytes, size_t len, FI
         at += pushed.count;
         while ((next = karramotx_next_frame(c->reader, c->store)).reason == KARRAMOTX_ACCEPTED) {
             c->reader = next.reader;
-            serve_frame(&c->session, c->store + next.start, next.len, next.kind, out);
+            serve_frame(c, c->store + next.start, next.len, next.kind, out);
         }
         c->reader = next.reader;
         if (next.reason == KARRAMOTX_BAD_LENGTH)
@@ -159,4 +165,13 @@ static bool cursors_are_sound(const struct karramotx_session *s)
 bool session_is_sound(const struct karramotx_session *session)
 {
     return stmts_are_sound(session) && cursors_are_sound(session) && session->closed <= 1;
+}
+
+bool connection_is_sound(const struct connection *c)
+{
+    for (size_t i = 0; i < KARRAMOTX_MAX_CURSORS; i++) {
+        if ((c->engine.results[i] != NULL) != (c->session.cursors[i].live != 0))
+            return false;
+    }
+    return session_is_sound(&c->session);
 }

@@ -2,6 +2,7 @@
 #ifndef SERVER_H
 #define SERVER_H
 
+#include "engine.h"
 #include "karramotx.h"
 
 #include <stdio.h>
@@ -10,11 +11,13 @@
 struct connection {
     struct karramotx_session session;
     struct karramotx_reader reader;
+    struct engine engine;
     uint8_t store[KARRAMOTX_STORE];
 };
 
-/* A fresh session, and a reader that holds nothing. */
+/* A fresh session, a reader that holds nothing, and an engine that keeps nothing; and the end of them. */
 void connection_begin(struct connection *c);
+void connection_end(struct connection *c);
 
 /*
  * Takes an arrival and serves every whole frame; what is left of it is held for the next. Answers false once a
@@ -31,5 +34,8 @@ size_t connection_held(const struct connection *c);
  * library promises it; a test asks.
  */
 bool session_is_sound(const struct karramotx_session *session);
+
+/* Whether besides that the engine keeps a result for each live cursor, and no other. */
+bool connection_is_sound(const struct connection *c);
 
 #endif

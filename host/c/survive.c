@@ -1,6 +1,7 @@
 /*
  * Feeds a session damaged frames, wrong reports and reply buffers of every length, and asks after each step
- * whether the session is still sound and nothing else was touched. Frame and reply end at a page that no one
+ * whether the session is still sound and nothing else was touched, and whether the cursors that live are those whose
+ * results a host has kept and not freed. Frame and reply end at a page that no one
  * may read or write, so that a byte too far ends the program. Then as many steps on sessions of any bits, and as
  * many operations of a reader on streams cut at random (cuts.c).
  *
@@ -9,6 +10,7 @@
 #include "client.h"
 #include "cuts.h"
 #include "damage.h"
+#include "inspections.h"
 #include "server.h"
 
 #include <inttypes.h>
@@ -78,6 +80,24 @@ static uint8_t talk[ROOM / 2];
 static size_t talk_len;
 static uint64_t met[KARRAMOTX_ENGINE_FAILED + 1];
 
+/* The places of results that a host keeps, as bits; it goes by what it is told alone. */
+static uint64_t kept_results;
+
+static void settle(const struct karramotx_inspection *told, struct karramotx_answer answer)
+{
+    if (answer.reason != KARRAMOTX_ACCEPTED)
+        return;
+    kept_results &= ~told->ends;
+    if (told->message.kind == KARRAMOTX_CURSOR_OPEN)
+        kept_results |= 1ull << told->cursor_place;
+}
+
+static void begin_fresh(void)
+{
+    host.session = karramotx_fresh();
+    kept_results = 0;
+}
+
 /* One step at the guarded places. Answers whether all but the session is as it must be after it. */
 static bool survives(const uint8_t *bytes, size_t len)
 {
@@ -87,10 +107,12 @@ static bool survives(const uint8_t *bytes, size_t len)
     memcpy(frame, bytes, len);
     memset(reply - GUARD, 0xa5, room + GUARD);
     struct karramotx_session before = host.session;
-    struct karramotx_look look = karramotx_look(&host.session, frame, len);
-    bool looked = memcmp(&host.session, &before, sizeof before) == 0;
-    struct karramotx_answer answer = karramotx_step(&host.session, frame, len, some_report(look), reply, room);
+    struct karramotx_inspection told = karramotx_inspect(&host.session, frame, len);
+    bool looked = inspection_agrees(&told, &host.session, frame, len) &&
+                  memcmp(&host.session, &before, sizeof before) == 0;
+    struct karramotx_answer answer = karramotx_step(&host.session, frame, len, some_report(told.look), reply, room);
     met[answer.reason]++;
+    settle(&told, answer);
     bool kept = answer.reason == KARRAMOTX_ACCEPTED || memcmp(&host.session, &before, sizeof before) == 0;
     return looked && kept && memcmp(frame, bytes, len) == 0 && answer.used <= len && answer.reply <= room &&
            untouched(reply - GUARD, GUARD) && untouched(reply + answer.reply, room - answer.reply) &&
@@ -129,14 +151,16 @@ static bool steps_survive(uint64_t steps, bool wild)
 {
     static uint8_t bytes[ROOM / 2 + 8];
     memset(met, 0, sizeof met);
-    host.session = karramotx_fresh();
+    begin_fresh();
     for (uint64_t n = 0; n < steps; n++) {
         if (wild && n % 8 == 0)
             host.session = wild_session();
         else if (host.session.closed && below(4) == 0)
-            host.session = karramotx_fresh();
+            begin_fresh();
         size_t len = some_frame(talk, talk_len, bytes, sizeof bytes - 8);
-        if (!survives(bytes, len) || !counts_agree(&host.session) || (!wild && !session_is_sound(&host.session))) {
+        bool good = survives(bytes, len) && counts_agree(&host.session);
+        bool sound = session_is_sound(&host.session) && kept_results == live_cursors(&host.session);
+        if (!good || (!wild && !sound)) {
             fprintf(stderr, "survive: step %" PRIu64 " left something behind\n", n);
             return false;
         }

@@ -4,29 +4,65 @@
 //!     cargo run --example serve
 
 use karramotx::{
-    sql_body, Args, Argument, ClientMessage, Frame, Frames, Kind, Message, Operation, Refusal, Report,
-    Session, Step, Work, MIN_REPLY,
+    sql_body, Args, Argument, ClientMessage, Frame, Frames, Inspection, Kind, Operation, Refusal, Report,
+    Session, Step, Work, MAX_CURSORS, MIN_REPLY,
 };
+use std::ops::Range;
 
 /// The columns and rows that every query of the made-up engine has.
 const COLUMNS: u64 = 2;
 const ROWS: u64 = 5;
 
-/// The made-up engine. A statement has a placeholder for each question mark in it; one whose text holds "oops"
-/// can't be prepared.
-fn engine(work: Work, frame: &[u8]) -> Result<Report, Refusal> {
-    Ok(match work {
-        Work::None => Report::None,
-        Work::Prepare => {
-            let body = Message::read(frame)?.body();
-            if body.windows(4).any(|w| w == b"oops") {
-                return Ok(Report::Failed { code: 1064 });
+/// A result, which the rows of a cursor are sent from.
+struct QueryResult {
+    columns: u64,
+    rows: Range<u64>,
+}
+
+/// The made-up engine: the result of each cursor, at that cursor's place, and one just made.
+#[derive(Default)]
+struct Engine {
+    results: [Option<QueryResult>; MAX_CURSORS],
+    made: Option<QueryResult>,
+}
+
+impl Engine {
+    /// Does the work that a frame wants. A statement has a placeholder for each question mark in it; one whose
+    /// text holds "oops" can't be prepared.
+    fn work(&mut self, told: &Inspection) -> Report {
+        match (&told.work, &told.message) {
+            (Ok(Work::Prepare), Ok(message)) => {
+                let body = message.body();
+                if body.windows(4).any(|w| w == b"oops") {
+                    return Report::Failed { code: 1064 };
+                }
+                Report::Prepared { placeholders: body.iter().filter(|b| **b == b'?').count() as u64 }
             }
-            Report::Prepared { placeholders: body.iter().filter(|b| **b == b'?').count() as u64 }
+            (Ok(Work::Execute | Work::Open), _) => {
+                self.made = Some(QueryResult { columns: COLUMNS, rows: 0..ROWS });
+                Report::Result { columns: COLUMNS, rows: ROWS }
+            }
+            (Ok(Work::Fetch(_)), _) => Report::Done,
+            _ => Report::None,
         }
-        Work::Execute | Work::Open => Report::Result { columns: COLUMNS, rows: ROWS },
-        Work::Fetch(_) => Report::Done,
-    })
+    }
+
+    /// The result that a step sends rows from: the one just made, or that of the cursor.
+    fn result(&self, told: &Inspection) -> Option<&QueryResult> {
+        self.made.as_ref().or_else(|| self.results[told.cursor_place?].as_ref())
+    }
+
+    /// After the step: the results of the cursors that ended are dropped, and an Open's is kept.
+    fn settle(&mut self, told: &Inspection, step: &Step) {
+        let made = self.made.take();
+        if step.outcome.is_err() {
+            return;
+        }
+        told.ends.for_each(|place| self.results[place] = None);
+        if let (Ok(Work::Open), Some(place)) = (&told.work, told.cursor_place) {
+            self.results[place] = made;
+        }
+    }
 }
 
 fn hex(bytes: &[u8]) -> String {
@@ -61,42 +97,46 @@ fn name(kind: Option<Kind>) -> &'static str {
 }
 
 /// Prints a step and what goes out: columns, rows, the reply.
-fn print(frame: Frame, step: &Step) {
+fn print(frame: Frame, told: &Inspection, step: &Step, result: Option<&QueryResult>) {
     let kind = Kind::from_number(frame.kind.into());
     match &step.outcome {
         Ok(_) => println!("{}", name(kind)),
         Err(refusal) => println!("{}: refused {}", name(kind), refusal.number()),
     }
-    if let (Some(Kind::Execute | Kind::Open), Ok(message)) = (kind, Message::read(&frame)) {
+    if let (Some(Kind::Execute | Kind::Open), Ok(message)) = (kind, &told.message) {
         message.arguments().for_each(|a| println!("    argument: {}", show(a)));
     }
-    if let Ok(sent) = &step.outcome {
+    if let (Ok(sent), Some(result)) = (&step.outcome, result) {
         if sent.columns {
-            println!("    {COLUMNS} columns");
+            println!("    {} columns", result.columns);
         }
-        sent.rows.clone().for_each(|row| println!("    row {row}"));
+        sent.rows.clone().filter(|row| result.rows.contains(row)).for_each(|row| println!("    row {row}"));
     }
     println!("    reply {}", hex(step.reply));
 }
 
-/// Serves one frame: look, let the engine work, step, send.
-fn serve_frame(session: &mut Session, frame: Frame) -> Result<(), Refusal> {
-    let report = match session.look(&frame) {
-        Ok(work) => engine(work, &frame)?,
-        Err(_) => Report::None,
-    };
+/// Serves one frame: inspect, let the engine work, step, send, free what ended.
+fn serve_frame(session: &mut Session, engine: &mut Engine, frame: Frame) {
+    let told = session.inspect(&frame);
+    let report = engine.work(&told);
     let mut reply = [0; MIN_REPLY];
-    print(frame, &session.step(&frame, report, &mut reply));
-    Ok(())
+    let step = session.step(&frame, report, &mut reply);
+    print(frame, &told, &step, engine.result(&told));
+    engine.settle(&told, &step);
 }
 
 /// Takes an arrival and serves every whole frame; what is left of it is held for the next.
-fn serve(session: &mut Session, frames: &mut Frames, mut arrival: &[u8]) -> Result<(), Refusal> {
+fn serve(
+    session: &mut Session,
+    engine: &mut Engine,
+    frames: &mut Frames,
+    mut arrival: &[u8],
+) -> Result<(), Refusal> {
     while !arrival.is_empty() {
         let taken = frames.push(arrival);
         arrival = &arrival[taken..];
         while let Some(frame) = frames.next_frame()? {
-            serve_frame(session, frame)?;
+            serve_frame(session, engine, frame);
         }
     }
     Ok(())
@@ -145,6 +185,7 @@ const ODD: [usize; 10] = [1, 2, 3, 5, 7, 11, 13, 17, 19, 23];
 
 fn main() -> Result<(), Refusal> {
     let mut session = Session::new();
+    let mut engine = Engine::default();
     let mut frames = Frames::new();
     let bytes = conversation()?;
     let mut rest = &bytes[..];
@@ -153,7 +194,7 @@ fn main() -> Result<(), Refusal> {
             break;
         }
         let (arrival, later) = rest.split_at(size.min(rest.len()));
-        serve(&mut session, &mut frames, arrival)?;
+        serve(&mut session, &mut engine, &mut frames, arrival)?;
         rest = later;
     }
     println!(

@@ -175,6 +175,22 @@ pub struct Message {
     pub args: Arguments,
 }
 
+/// All of a frame before its step, from one reading.
+#[repr(C)]
+#[derive(Debug, Clone, Copy, Default, PartialEq, Eq)]
+pub struct Inspection {
+    /// What a look answers.
+    pub look: Look,
+    /// What the frame holds.
+    pub message: Message,
+    /// Where the request's statement stands, or a Prepare's will stand; `MAX_STMTS` where there is no place.
+    pub stmt_place: usize,
+    /// Where the request's cursor stands, or an Open's will stand; `MAX_CURSORS` where there is no place.
+    pub cursor_place: usize,
+    /// Bit i: the cursor at place i is live, and the frame ends it once it is accepted.
+    pub ends: u64,
+}
+
 /// One argument.
 #[repr(C)]
 #[derive(Debug, Clone, Copy, Default, PartialEq, Eq)]
@@ -283,6 +299,8 @@ extern "C" {
     pub fn karramotx_counts(session: *const Session) -> Counts;
     /// The work that a frame wants.
     pub fn karramotx_look(session: *const Session, frame: *const u8, len: usize) -> Look;
+    /// Look and message from one reading, and what the frame touches in the tables.
+    pub fn karramotx_inspect(session: *const Session, frame: *const u8, len: usize) -> Inspection;
     /// A step in place.
     pub fn karramotx_step(
         session: *mut Session,

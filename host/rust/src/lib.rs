@@ -32,6 +32,9 @@
 //! assert_eq!(serve(&mut session, &reset), [1, 0, 0, 0, 0]); // Ok
 //! ```
 //!
+//! A host that reads arguments, or keeps results for its cursors, calls [`Session::inspect`] in place of
+//! [`Session::look`]: it tells all of a frame from one reading, and what an accepted step ends.
+//!
 //! Bytes of a network arrive cut anywhere. [`Frames`] takes them and hands out whole frames; it shows a
 //! server's loop.
 #![deny(missing_docs)]
@@ -48,5 +51,8 @@ pub use argument::{Args, Argument, Arguments};
 pub use frames::{BadLength, Frame, Frames};
 pub use message::{Kind, Message, Operation};
 pub use refusal::Refusal;
-pub use session::{Cursor, Report, Rows, Session, Statement, Step, Work, MIN_REPLY};
+pub use session::{
+    Cursor, Ends, Inspection, Report, Rows, Session, Statement, Step, Work, MAX_CURSORS, MAX_STATEMENTS,
+    MIN_REPLY,
+};
 pub use writer::{sql_body, ClientMessage, MAX_FRAME};

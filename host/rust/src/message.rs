@@ -90,6 +90,11 @@ impl<'f> Message<'f> {
     pub fn read(frame: &'f [u8]) -> Result<Message<'f>, Refusal> {
         // SAFETY: the pointer and the length are those of a slice.
         let raw = unsafe { ffi::karramotx_read(frame.as_ptr(), frame.len()) };
+        Message::from_raw(frame, raw)
+    }
+
+    /// What was read of the frame.
+    pub(crate) fn from_raw(frame: &'f [u8], raw: ffi::Message) -> Result<Message<'f>, Refusal> {
         accepted(raw.reason)?;
         Ok(Message { frame, raw })
     }

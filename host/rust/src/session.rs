@@ -1,11 +1,16 @@
 //! A session: look, step, and what its tables hold.
 
 use crate::ffi;
+use crate::message::Message;
 use crate::refusal::{accepted, Refusal};
 use std::ops::Range;
 
 /// The shortest reply buffer that a step takes. Every reply fits into it.
 pub const MIN_REPLY: usize = 128;
+/// The places of the statement table.
+pub const MAX_STATEMENTS: usize = ffi::MAX_STMTS;
+/// The places of the cursor table.
+pub const MAX_CURSORS: usize = ffi::MAX_CURSORS;
 
 /// The work that a frame wants of the engine.
 #[derive(Debug, Clone, PartialEq, Eq)]
@@ -48,6 +53,21 @@ pub enum Report {
     },
 }
 
+impl Work {
+    /// What a look answered.
+    fn from_raw(look: ffi::Look) -> Result<Work, Refusal> {
+        accepted(look.reason)?;
+        Ok(match look.work {
+            0 => Work::None,
+            1 => Work::Prepare,
+            2 => Work::Execute,
+            3 => Work::Open,
+            4 => Work::Fetch(look.first..look.first + look.count),
+            other => unreachable!("the library's work is 0 to 4, not {other}"),
+        })
+    }
+}
+
 impl Report {
     fn raw(self) -> ffi::Report {
         let none = ffi::Report::default();
@@ -58,6 +78,42 @@ impl Report {
             Report::Done => ffi::Report { kind: 3, ..none },
             Report::Failed { code } => ffi::Report { kind: 4, code, ..none },
         }
+    }
+}
+
+/// All of a frame before its step. A host that keeps something of its own for each statement or cursor keeps it
+/// at the place told here, in an array of [`MAX_STATEMENTS`] or [`MAX_CURSORS`], and once the step is accepted
+/// frees what stood at the places of `ends`.
+///
+/// Places and endings depend on the session and the frame alone, whether the frame will be refused or not.
+#[derive(Debug, Clone)]
+pub struct Inspection<'f> {
+    /// What [`Session::look`] answers.
+    pub work: Result<Work, Refusal>,
+    /// What [`Message::read`] answers.
+    pub message: Result<Message<'f>, Refusal>,
+    /// Where the statement of an Execute, Deallocate or Open is live, or a Prepare's will stand.
+    pub statement_place: Option<usize>,
+    /// Where the cursor of a Close or Fetch is live, or an Open's will stand.
+    pub cursor_place: Option<usize>,
+    /// The places of the cursors that the frame ends once it is accepted.
+    pub ends: Ends,
+}
+
+/// Places of the cursor table, from the lowest on.
+#[derive(Debug, Clone, Copy, PartialEq, Eq)]
+pub struct Ends(u64);
+
+impl Iterator for Ends {
+    type Item = usize;
+
+    fn next(&mut self) -> Option<usize> {
+        if self.0 == 0 {
+            return None;
+        }
+        let place = self.0.trailing_zeros() as usize;
+        self.0 &= self.0 - 1;
+        Some(place)
     }
 }
 
@@ -134,16 +190,20 @@ impl Session {
     /// The work that the frame wants, or why a step will refuse it. It changes nothing.
     pub fn look(&self, frame: &[u8]) -> Result<Work, Refusal> {
         // SAFETY: the pointers and the length are those of a session and a slice, which are only read.
-        let look = unsafe { ffi::karramotx_look(&self.0, frame.as_ptr(), frame.len()) };
-        accepted(look.reason)?;
-        Ok(match look.work {
-            0 => Work::None,
-            1 => Work::Prepare,
-            2 => Work::Execute,
-            3 => Work::Open,
-            4 => Work::Fetch(look.first..look.first + look.count),
-            other => unreachable!("the library's work is 0 to 4, not {other}"),
-        })
+        Work::from_raw(unsafe { ffi::karramotx_look(&self.0, frame.as_ptr(), frame.len()) })
+    }
+
+    /// All that a host needs to know of the frame before its step, from one reading. It changes nothing.
+    pub fn inspect<'f>(&self, frame: &'f [u8]) -> Inspection<'f> {
+        // SAFETY: the pointers and the length are those of a session and a slice, which are only read.
+        let raw = unsafe { ffi::karramotx_inspect(&self.0, frame.as_ptr(), frame.len()) };
+        Inspection {
+            work: Work::from_raw(raw.look),
+            message: Message::from_raw(frame, raw.message),
+            statement_place: (raw.stmt_place < ffi::MAX_STMTS).then_some(raw.stmt_place),
+            cursor_place: (raw.cursor_place < ffi::MAX_CURSORS).then_some(raw.cursor_place),
+            ends: Ends(raw.ends),
+        }
     }
 
     /// Takes the step that the frame asks for. The reply is put at the front of `reply`, which must

@@ -71,6 +71,7 @@ fn of_this_crate() -> Header {
         "karramotx_part" Part { start len }
         "karramotx_arguments" Arguments { good count kind index start end }
         "karramotx_message" Message { reason used kind stmt cursor rows compact operation body args }
+        "karramotx_inspection" Inspection { look message stmt_place cursor_place ends }
         "karramotx_value" Value { reason kind value start len next }
         "karramotx_draft" Draft { kind stmt cursor hasrows rows hascompact compact operation }
         "karramotx_sent" Sent { reason len }
@@ -245,6 +246,43 @@ impl Probe<'_> {
         self.expect(&part, 0, "karramotx_part", &[("start", 8, frame.len() as u64 - 3), ("len", 8, 3)]);
     }
 
+    /// An Open of a cursor that stands at place 1, on a statement at place 2.
+    fn inspection(&mut self) {
+        let mut s = unsafe { karramotx_fresh() };
+        for id in [700, 6, 5] {
+            step(&mut s, &prepare(id), self.report(1, &[("placeholders", 0)]));
+        }
+        let mut other = open();
+        other[OPEN_CURSOR] = 12;
+        other[OPEN_STMT] = 6;
+        for frame in [&other, &open()] {
+            step(&mut s, frame, self.report(2, &[("columns", 4), ("rows", 1000)]));
+        }
+        let frame = open();
+        let told = unsafe { karramotx_inspect(&s, frame.as_ptr(), frame.len()) };
+        let [look, message] = ["look", "message"].map(|f| self.header.place("karramotx_inspection", f));
+        self.expect(&told, look, "karramotx_look", &[("reason", 8, 0), ("work", 8, 3)]);
+        self.expect(
+            &told,
+            message,
+            "karramotx_message",
+            &[("kind", 8, 43), ("stmt", 8, 5), ("cursor", 8, 11)],
+        );
+        self.expect(
+            &told,
+            0,
+            "karramotx_inspection",
+            &[("stmt_place", 8, 2), ("cursor_place", 8, 1), ("ends", 8, 2)],
+        );
+        let none = unsafe { karramotx_inspect(&s, frame.as_ptr(), 3) };
+        self.expect(
+            &none,
+            0,
+            "karramotx_inspection",
+            &[("stmt_place", 8, 64), ("cursor_place", 8, 16), ("ends", 8, 0)],
+        );
+    }
+
     fn value(&mut self) {
         let frame = open_with(&[&UINT_300, &OBJECT, &STRING_ABC]);
         let m = unsafe { karramotx_read(frame.as_ptr(), frame.len()) };
@@ -357,6 +395,7 @@ fn archive_agrees(header: &Header) -> Result<(), Vec<String>> {
     let mut probe = Probe { header, wrong: Vec::new() };
     probe.session();
     probe.message();
+    probe.inspection();
     probe.value();
     probe.written();
     probe.appended();
@@ -428,6 +467,10 @@ fn open_with(fields: &[&[u8]]) -> Vec<u8> {
 fn open() -> Vec<u8> {
     open_with(&[])
 }
+
+/// Where the ids of `open` stand.
+const OPEN_CURSOR: usize = 6;
+const OPEN_STMT: usize = 14;
 
 fn fetch(cursor: u8, rows: u8) -> Vec<u8> {
     frame_of(45, &[0x08, cursor, 0x10, rows])

@@ -171,3 +171,49 @@ fn every_refusal_has_its_number_and_a_text() {
     assert_eq!(Refusal::from_number(0), None);
     assert_eq!(Refusal::from_number(17), None);
 }
+
+/// The places of `ends` of a frame that is then accepted, and those of its statement and cursor.
+fn inspected(
+    session: &mut Session,
+    frame: &[u8],
+    report: Report,
+) -> (Vec<usize>, Option<usize>, Option<usize>) {
+    let told = session.inspect(frame);
+    assert_eq!(told.work, session.look(frame));
+    assert_eq!(told.message.unwrap().frame(), frame);
+    session.step(frame, report, &mut [0; MIN_REPLY]).outcome.unwrap();
+    (told.ends.collect(), told.statement_place, told.cursor_place)
+}
+
+#[test]
+fn places_and_endings_are_told() {
+    let mut s = Session::new();
+    let (prepared, result) = (Report::Prepared { placeholders: 0 }, Report::Result { columns: 1, rows: 5 });
+    for id in 0..3 {
+        assert_eq!(inspected(&mut s, &prepare(id), prepared), (vec![], Some(id as usize), None));
+        let place = Some(id as usize);
+        assert_eq!(inspected(&mut s, &open(id + 10, id, None), result), (vec![], place, place));
+    }
+    assert_eq!(inspected(&mut s, &fetch(12, Some(1)), Report::Done), (vec![], None, Some(2)));
+    assert_eq!(inspected(&mut s, &open(11, 1, None), result), (vec![1], Some(1), Some(1)));
+    assert_eq!(inspected(&mut s, &prepare(2), prepared), (vec![2], Some(2), None));
+    let close = ClientMessage::Close { cursor: 10 }.to_vec().unwrap();
+    assert_eq!(inspected(&mut s, &close, Report::None), (vec![0], None, Some(0)));
+    assert_eq!(inspected(&mut s, &open(10, 0, None), result), (vec![], Some(0), Some(0)));
+    let reset = ClientMessage::Reset.to_vec().unwrap();
+    assert_eq!(inspected(&mut s, &reset, Report::None), (vec![0, 1], None, None));
+}
+
+#[test]
+fn a_frame_that_is_refused_has_no_places_or_its_own() {
+    let mut s = Session::new();
+    let told = s.inspect(&[1, 0, 0]);
+    assert_eq!((told.work, told.ends.count()), (Err(Refusal::NotAllThere), 0));
+    assert_eq!((told.statement_place, told.cursor_place), (None, None));
+    let mut reply = [0; MIN_REPLY];
+    s.step(&prepare(1), Report::Prepared { placeholders: 2 }, &mut reply).outcome.unwrap();
+    let frame = open(9, 1, None);
+    let told = s.inspect(&frame); // fewer arguments than placeholders
+    assert_eq!(told.work, Err(Refusal::FewArguments));
+    assert_eq!((told.statement_place, told.cursor_place), (Some(0), Some(0)));
+}
