@@ -172,6 +172,16 @@ pub struct Answer {
     pub count: u64,
 }
 
+/// What a request touches in the tables: where its statement and its cursor
+/// stand or are put, and bit by bit the places of the cursors that it ends
+/// once it is accepted.
+#[derive(Clone, Copy, Debug, Default, PartialEq, Eq)]
+pub struct Touched {
+    pub statement: Option<usize>,
+    pub cursor: Option<usize>,
+    pub ends: u64,
+}
+
 /// One place of the statement table; a free one is all zeros.
 #[derive(Clone, Copy, Debug, Default, PartialEq, Eq)]
 pub struct Statement {
@@ -263,6 +273,7 @@ pub trait Implementation {
     fn body<'f>(&self, frame: &'f [u8]) -> &'f [u8];
 
     fn look(&self, session: &Self::Session, frame: &[u8]) -> Look;
+    fn touched(&self, session: &Self::Session, frame: &[u8]) -> Touched;
     fn step(
         &self,
         session: Self::Session,

@@ -168,6 +168,26 @@ impl Implementation for Library {
         }
     }
 
+    /// Beside it an inspection tells what a look and a read tell.
+    fn touched(&self, session: &ffi::Session, frame: &[u8]) -> Touched {
+        // SAFETY: the pointers and the length are those of a session and a slice.
+        let (told, look) = unsafe {
+            let told = ffi::karramotx_inspect(session, frame.as_ptr(), frame.len());
+            (told, ffi::karramotx_look(session, frame.as_ptr(), frame.len()))
+        };
+        assert_eq!(told.look, look, "an inspection and a look");
+        assert_eq!(told.message, raw(frame), "an inspection and a read");
+        let place = |told: usize, places: usize| {
+            assert!(told <= places, "place {told} of {places}");
+            (told < places).then_some(told)
+        };
+        Touched {
+            statement: place(told.stmt_place, STATEMENTS),
+            cursor: place(told.cursor_place, CURSORS),
+            ends: told.ends,
+        }
+    }
+
     fn step(
         &self,
         mut session: ffi::Session,

@@ -24,6 +24,9 @@ fn all_are_found() {
 fn promises_alone_find_these() {
     use Mistake::*;
     let broken = [
+        OpenToldEndsNothing,
+        PrepareToldFreePlace,
+        FreeToldEnded,
         ReplaceKeepsCursor,
         ExecuteKeepsCursor,
         DeallocateKeepsCursor,

@@ -6,6 +6,7 @@ mod pair;
 mod promises;
 mod reader;
 mod shrink;
+mod touched;
 mod tree;
 
 pub use divisions::{all_alike, divide};

@@ -80,6 +80,7 @@ impl<'i, A: Implementation, B: Implementation> Pair<'i, A, B> {
         let message = self.reading(&step.frame)?;
         let (left, right) = (left?, right?);
         same("look", left.look, right.look)?;
+        same("touched", left.touched, right.touched)?;
         same("answer", left.answer, right.answer)?;
         same("reply buffer", hex(&left.buffer), hex(&right.buffer))?;
         same_tables(&left.tables, &right.tables)?;

@@ -2,6 +2,7 @@
 //! demand 1's refusals, demand 2's reading back, demand 3's tally.
 
 use super::pair::{broken, pattern, same, Difference, Outcome};
+use super::touched::as_told;
 use crate::generate::{Step, StretchProbe, WriteProbe};
 use crate::implementation::*;
 use crate::tally::Tally;
@@ -18,6 +19,7 @@ pub struct Side<'i, I: Implementation> {
 /// All that one step gives.
 pub struct Stepped {
     pub look: Look,
+    pub touched: Touched,
     pub answer: Answer,
     pub buffer: Vec<u8>,
     pub tables: Tables,
@@ -32,20 +34,24 @@ impl<'i, I: Implementation> Side<'i, I> {
 
     pub fn step(&mut self, step: &Step) -> Result<Stepped, Difference> {
         let look = self.who.look(&self.session, &step.frame);
+        let touched = self.who.touched(&self.session, &step.frame);
         let mut buffer = pattern(step.room);
         let before = self.session.clone();
         let (session, answer) = self.who.step(before, &step.frame, step.report, &mut buffer);
         let tables = self.who.tables(&session);
         (self.session, self.last) = (session, Some(answer));
-        let stepped = Stepped { look, answer, buffer, tables };
+        let stepped = Stepped { look, touched, answer, buffer, tables };
         self.check(step, &stepped).map_err(|what| broken(&self.who.name(), what))?;
         self.tables = stepped.tables.clone();
         Ok(stepped)
     }
 
     fn check(&mut self, step: &Step, stepped: &Stepped) -> Result<(), String> {
-        let Stepped { look, answer, buffer, tables } = stepped;
+        let Stepped { look, touched, answer, buffer, tables } = stepped;
         look_binds(look, answer)?;
+        if answer.reason == 0 {
+            as_told(touched, &self.who.read(&step.frame), &self.tables, tables)?;
+        }
         if answer.reply > buffer.len() || answer.used > step.frame.len() {
             return Err(format!("more used or written than there is: {answer:?}"));
         }

@@ -94,6 +94,16 @@ mistakes! {
     /// Fetching from a cursor without rows left gives FetchDone again, not 11.
     FetchPastEnd,
 
+    // Inspecting.
+    /// An Open does not tell that the earlier cursor of its id ends.
+    OpenToldEndsNothing,
+    /// A Prepare is told the lowest free place, though its id is live.
+    PrepareToldFreePlace,
+    /// A free place is told as ended where its zeros are the ids asked for.
+    FreeToldEnded,
+    /// A frame that a look refuses is told no places.
+    RefusedToldNothing,
+
     // Stepping.
     /// Replacing a statement keeps its cursor.
     ReplaceKeepsCursor,

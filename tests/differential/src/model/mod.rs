@@ -5,6 +5,7 @@
 //! and takes the plain way everywhere: lists of fields, copies of sessions.
 
 mod arrivals;
+mod inspect;
 mod mistake;
 mod read;
 mod reply;
@@ -98,6 +99,10 @@ impl Implementation for Model {
 
     fn look(&self, session: &Session, frame: &[u8]) -> Look {
         self.look_at(session, frame)
+    }
+
+    fn touched(&self, session: &Session, frame: &[u8]) -> Touched {
+        self.touched_by(session, frame)
     }
 
     fn step(&self, session: Session, frame: &[u8], report: Report, reply: &mut [u8]) -> (Session, Answer) {
