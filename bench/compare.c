@@ -32,6 +32,12 @@ static bool same_look(Look a, Look b)
     return a.reason == b.reason && a.work == b.work && a.first == b.first && a.count == b.count;
 }
 
+static bool same_inspection(const Inspection *a, const Inspection *b)
+{
+    return same_look(a->look, b->look) && same_message(&a->message, &b->message) && a->stmt_place == b->stmt_place &&
+           a->cursor_place == b->cursor_place && a->ends == b->ends;
+}
+
 static bool same_answer(const Answer *a, const Answer *b)
 {
     return a->reason == b->reason && a->used == b->used && a->reply == b->reply && a->columns == b->columns &&
@@ -64,8 +70,13 @@ const char *differ_stepping(Session *plain, LibrarySession *library, const uint8
     enum { BEFORE = 0xa5 };
     uint8_t x[MIN_REPLY + 1], y[MIN_REPLY + 1];
     LibraryReport library_form = library_report(report);
+    Inspection a, b;
     if (!same_look(plain_look(plain, frame, len), library_look(library, frame, len)))
         return "the look";
+    plain_inspect(plain, frame, len, &a);
+    library_inspect(library, frame, len, &b);
+    if (!same_inspection(&a, &b))
+        return "the inspection";
     memset(x, BEFORE, sizeof x);
     memset(y, BEFORE, sizeof y);
     plain_step(plain, frame, len, report, x, reply_len, answer);

@@ -59,10 +59,9 @@ bool library_holds(const LibrarySession *session, const Session *plain)
 
 /* ---- answers */
 
-void library_read(const uint8_t *frame, size_t len, Message *m)
+static Message message_of(struct karramotx_message k)
 {
-    struct karramotx_message k = karramotx_read(frame, len);
-    *m = (Message){.reason = narrow(k.reason), .used = narrow(k.used), .kind = narrow(k.kind)};
+    Message x = {.reason = narrow(k.reason), .used = narrow(k.used), .kind = narrow(k.kind)}, *m = &x;
     m->stmt = narrow(k.stmt);
     m->cursor = narrow(k.cursor);
     m->has_rows = k.rows.present;
@@ -73,6 +72,12 @@ void library_read(const uint8_t *frame, size_t len, Message *m)
     m->body = (Part){narrow(k.body.start), narrow(k.body.len)};
     m->args = (Arguments){narrow(k.args.count), narrow(k.args.kind), narrow(k.args.index), narrow(k.args.start),
                           narrow(k.args.end)};
+    return x;
+}
+
+void library_read(const uint8_t *frame, size_t len, Message *m)
+{
+    *m = message_of(karramotx_read(frame, len));
 }
 
 void library_next_argument(const uint8_t *frame, size_t end, size_t at, Value *v)
@@ -81,10 +86,20 @@ void library_next_argument(const uint8_t *frame, size_t end, size_t at, Value *v
     *v = (Value){narrow(k.reason), narrow(k.kind), k.value, narrow(k.start), narrow(k.len), narrow(k.next)};
 }
 
+static Look look_of(struct karramotx_look k)
+{
+    return (Look){narrow(k.reason), narrow(k.work), narrow(k.first), narrow(k.count)};
+}
+
 Look library_look(const LibrarySession *session, const uint8_t *frame, size_t len)
 {
-    struct karramotx_look k = karramotx_look(session, frame, len);
-    return (Look){narrow(k.reason), narrow(k.work), narrow(k.first), narrow(k.count)};
+    return look_of(karramotx_look(session, frame, len));
+}
+
+void library_inspect(const LibrarySession *session, const uint8_t *frame, size_t len, Inspection *told)
+{
+    struct karramotx_inspection k = karramotx_inspect(session, frame, len);
+    *told = (Inspection){look_of(k.look), message_of(k.message), narrow(k.stmt_place), narrow(k.cursor_place), k.ends};
 }
 
 Answer library_step(LibrarySession *session, const uint8_t *frame, size_t len, const LibraryReport *report,
@@ -147,6 +162,13 @@ uint64_t library_looks(Line *line)
 {
     struct karramotx_look l = karramotx_look(&line->library_session, line->event.frame.bytes, line->event.frame.len);
     return l.reason + l.count;
+}
+
+uint64_t library_inspects(Line *line)
+{
+    struct karramotx_inspection told =
+        karramotx_inspect(&line->library_session, line->event.frame.bytes, line->event.frame.len);
+    return told.look.reason + told.message.stmt + told.stmt_place + told.cursor_place + told.ends;
 }
 
 static inline uint64_t step(LibrarySession *session, const Event *e)

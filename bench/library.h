@@ -24,6 +24,7 @@ bool library_holds(const LibrarySession *session, const Session *plain);
 void library_read(const uint8_t *frame, size_t len, Message *m);
 void library_next_argument(const uint8_t *frame, size_t end, size_t at, Value *v);
 Look library_look(const LibrarySession *session, const uint8_t *frame, size_t len);
+void library_inspect(const LibrarySession *session, const uint8_t *frame, size_t len, Inspection *told);
 Answer library_step(LibrarySession *session, const uint8_t *frame, size_t len, const LibraryReport *report,
                     uint8_t *reply, size_t reply_len);
 void library_start_over(LibraryReader *r);

@@ -35,6 +35,13 @@ uint64_t plain_looks(Line *line)
     return l.reason + l.count;
 }
 
+uint64_t plain_inspects(Line *line)
+{
+    Inspection told;
+    plain_inspect(&line->plain_session, line->event.frame.bytes, line->event.frame.len, &told);
+    return told.look.reason + told.message.stmt + told.stmt_place + told.cursor_place + told.ends;
+}
+
 static inline uint64_t step(Session *session, const Event *e)
 {
     uint8_t reply[MIN_REPLY];

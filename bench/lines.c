@@ -46,6 +46,11 @@ static Frame *looking(const char *name)
     return &add(name, plain_looks, library_looks, none)->event.frame;
 }
 
+static Frame *inspecting(const char *name)
+{
+    return &add(name, plain_inspects, library_inspects, none)->event.frame;
+}
+
 static Frame *stepping(const char *name, Report report)
 {
     return &add(name, plain_steps, library_steps, report)->event.frame;
@@ -82,6 +87,8 @@ static void add_looking(void)
     prepare_frame(looking("look Prepare, 120 bytes of SQL"), REPLACED, 120, 0, NULL);
     execute_frame(looking("look Execute, 4 arguments"), EXECUTED, 4);
     open_frame(looking("look Open, 1 argument"), CURSOR, OPENED, 1, 300);
+    fetch_frame(inspecting("inspect Fetch"), CURSOR, 300);
+    open_frame(inspecting("inspect Open, 1 argument"), CURSOR, OPENED, 1, 300);
 }
 
 static void add_small_steps(void)

@@ -75,8 +75,17 @@ typedef struct {
     uint32_t first, count;
 } Answer;
 
+/* All of a frame before its step: places as told by karramotx.h, bit i of `ends` of the cursor at place i. */
+typedef struct {
+    Look look;
+    Message message;
+    uint32_t stmt_place, cursor_place;
+    uint64_t ends;
+} Inspection;
+
 void plain_fresh(Session *session);
 Look plain_look(const Session *session, const uint8_t *frame, size_t len);
+void plain_inspect(const Session *session, const uint8_t *frame, size_t len, Inspection *told);
 void plain_step(Session *session, const uint8_t *frame, size_t len, const Report *report, uint8_t *reply,
                 size_t reply_len, Answer *answer);
 

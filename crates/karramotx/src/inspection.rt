@@ -25,12 +25,14 @@ pub struct Inspection {
 pub fn inspect(session: &[u32; WORDS], frame: Frame) -> Inspection
     ensures { λ r. ⌜ r ≡ inspectionOf (sessionOf (now (session .entry))) frame ⌝ }
 {
-    let touched = keeper::inspect::touched(session, frame);
+    let found = keeper::inspect::inspect(session, frame);
+    let look = found.look;
+    let touches = found.touches;
     Inspection {
-        look: keeper::look::look_on(session, frame),
+        look,
         message: told::message_of(frame),
-        stmt_place: touched.stmt,
-        cursor_place: touched.cursor,
-        ends: touched.ends,
+        stmt_place: touches.stmt,
+        cursor_place: touches.cursor,
+        ends: touches.ends,
     }
 }

@@ -2,7 +2,7 @@
 -- Assumes nothing.
 use Prim.Native.Nat.{ℕ}
 use native.Mathlib.Omega.{arith}
-use mathlib.Core.Bool.{Bool, false, cond, _&&_, and-false, and-true}
+use mathlib.Core.Bool.{Bool, false, cond, and-false, and-true}
 use mathlib.Core.Path.{_≡_, refl, sym, ap, fun-ext, _∙_}
 use mathlib.Core.List.{List, [], _∷_}
 use Rattle.message.specs.declared.request.Prepare.{Prepare}
@@ -17,7 +17,9 @@ use Rattle.session.specs.Session.{Session}
 use Rattle.session.specs.Lists.{maskOf}
 use Rattle.session.specs.Entry.{isLiveCursor, isCursor, onStmt}
 use Rattle.session.specs.Tables.{stmtAt, stmtPlace, cursorAt, cursorPlace}
+use Rattle.rules.specs.declared.Look.{Look}
 use Rattle.rules.specs.declared.Touches.{Touches}
+use Rattle.rules.specs.Decision.{lookOf}
 use Rattle.rules.specs.Ending.{endsIt}
 use Rattle.rules.specs.Inspect.{ownStmt, ownCursor, endsAt, touches, touchesOf, touchesIn}
 use Rattle.rules.proofs.EndingLaws.{on-stmt, of-id}
@@ -44,11 +46,9 @@ module _ (s : Session) where
   unfolding ownStmt ownCursor endsAt endsIt
   reset-touches e = found nowhere nowhere (e ∙ mask-same isLiveCursor _ (λ c. sym (and-true (isLiveCursor c))) (s .cursors))
 
-  pub session-close-touches : {m : ℕ} → m ≡ maskOf isLiveCursor (s .cursors) →
-      touches Place.Nothing Place.Nothing m ≡ touchesOf s Request.SessionClose
+  pub session-close-touches : touchesOf s Request.Reset ≡ touchesOf s Request.SessionClose
   unfolding ownStmt ownCursor endsAt endsIt
-  session-close-touches e =
-      found nowhere nowhere (e ∙ mask-same isLiveCursor _ (λ c. sym (and-true (isLiveCursor c))) (s .cursors))
+  session-close-touches = refl
 
   pub prepare-touches : (p : Prepare) {a : Place} → a ≡ stmtPlace s (p .stmt) →
       touches a Place.Nothing (maskOf (onStmt (p .stmt)) (s .cursors)) ≡ touchesOf s (Request.Prepare p)
@@ -81,9 +81,10 @@ module _ (s : Session) where
   fetch-touches f e = found nowhere e (mask-none _ (λ c. and-false (isLiveCursor c)) (s .cursors))
 
 -- the request, and the frame, that was matched
-pub as-request : (s : Session) (q : Request) {p : Request} {t : Touches} → q ≡ p → t ≡ touchesOf s p →
-    t ≡ touchesOf s q
-as-request s q e g = g ∙ ap (touchesOf s) (sym e)
+pub as-request : (s : Session) (q : Request) {p : Request} {l : Look} {t : Touches} → q ≡ p →
+    (l ≡ lookOf s (Frame.Good 0 p)) × (t ≡ touchesOf s p) → (l ≡ lookOf s (Frame.Good 0 q)) × (t ≡ touchesOf s q)
+as-request s q e g = (g .0 ∙ ap (λ y. lookOf s (Frame.Good 0 y)) (sym e), g .1 ∙ ap (touchesOf s) (sym e))
 
-pub as-frame : (s : Session) (x : Frame) {y : Frame} {t : Touches} → x ≡ y → t ≡ touchesIn s y → t ≡ touchesIn s x
-as-frame s x e g = g ∙ ap (touchesIn s) (sym e)
+pub as-frame : (s : Session) (x : Frame) {y : Frame} {l : Look} {t : Touches} → x ≡ y →
+    (l ≡ lookOf s y) × (t ≡ touchesIn s y) → (l ≡ lookOf s x) × (t ≡ touchesIn s x)
+as-frame s x e g = (g .0 ∙ ap (lookOf s) (sym e), g .1 ∙ ap (touchesIn s) (sym e))

@@ -13,6 +13,7 @@ use Rattle.message.specs.declared.request.Prepare.{Prepare}
 use Rattle.message.specs.declared.request.Execute.{Execute}
 use Rattle.message.specs.declared.request.Open.{Open}
 use Rattle.message.specs.declared.request.Fetch.{Fetch}
+use Rattle.message.specs.declared.request.Optional.{Optional}
 use Rattle.message.specs.declared.request.Request.{Request}
 use Rattle.message.specs.declared.request.Frame.{Frame}
 use Rattle.message.specs.declared.request.Frame.the-variants.{NotAllThere, BadLength, UnknownType, BadPayload, Good}
@@ -25,8 +26,8 @@ use Rattle.rules.specs.Refusal.{lookReason}
 use Rattle.rules.specs.Rows.{firstRow, fetchCount}
 use Rattle.rules.specs.Decision.{looked, lookRefused, lookBy, lookOf}
 use Rattle.rules.specs.Step.{lookAt}
-use Rattle.keeper.specs.private.Reasons.{requestReason, closedOr, lookWork, fetchReason}
-use Rattle.keeper.proofs.RequestLaws.{fetch-looks}
+use Rattle.keeper.specs.private.Reasons.{requestReason, closedOr, lookWork, lookRows, fetchReason}
+use Rattle.keeper.proofs.RequestLaws.{fetch-looks, reset-looks, session-close-looks}
 
 -- ---- a frame that holds no request
 
@@ -64,14 +65,11 @@ module _ (s : Session) where
   unfolding lookOf lookReason
   look-any used q = refl
 
--- the frame that was matched, and what was read
-pub look-frame : (s : Session) (x : Frame) {y : Frame} {l : Look} → x ≡ y → l ≡ lookOf s y → l ≡ lookOf s x
-look-frame s x e g = g ∙ ap (lookOf s) (sym e)
-
-pub look-read : (s : Session) (frame : List ℕ) {x : Frame} {l : Look} → x ≡ frameOf frame → l ≡ lookOf s x →
+-- what was read
+pub look-read : (s : Session) (frame : List ℕ) {x y : Frame} {l : Look} → x ≡ frameOf frame → x ≡ y → l ≡ lookOf s y →
     l ≡ lookAt s frame
 unfolding lookAt
-look-read s frame e g = g ∙ ap (lookOf s) e
+look-read s frame e f g = g ∙ ap (lookOf s) (sym f ∙ e)
 
 -- ---- a request
 
@@ -126,16 +124,11 @@ module _ (s : Session) where
 module _ (s : Session) (f : Fetch) (unclosed : isClosed s ≡ false) {c : Cursor} {n : ℕ}
     (found : c ≡ liveCursor s (f .cursor)) (e : n ≡ fetchReason c) where
   abbrev wanted : Look
-  wanted = record { reason = Reason.accepted; work = toFetch; first = c .sent; count = fetchCount c (f .rows) }
+  wanted = lookRows c (f .rows)
 
   wants : wanted ≡ looked s (Request.Fetch f)
   unfolding firstRow
-  wants = ap (λ y. record {
-    reason = Reason.accepted;
-    work = toFetch;
-    first = y .sent;
-    count = fetchCount y (f .rows);
-  }) found
+  wants = ap (λ y. lookRows y (f .rows)) found
 
   by-reason : cond (eqb n Reason.accepted) wanted (lookRefused n) ≡ lookOf s (Good 0 (Request.Fetch f))
   by-reason = found-look s (Request.Fetch f) unclosed (fetch-looks s f found e) wanted wants
@@ -150,7 +143,47 @@ module _ (s : Session) (f : Fetch) (unclosed : isClosed s ≡ false) {c : Cursor
       ap (λ (i : ℕ). record { reason = Reason.accepted; work = toFetch; first = c .sent; count = i }) k
       ∙ yes wanted (lookRefused n) (eq-eqb n 0 h) ∙ by-reason
 
+-- ---- closed or not
+
+module _ (s : Session) where
+  -- the reason of a request, where closed comes first
+  pub closed-or-look : (q : Request) (n : ℕ) → n ≡ requestReason s q → (l : Look) → l ≡ looked s q →
+      cond (eqb (closedOr (isClosed s) n) Reason.accepted) l (lookRefused (closedOr (isClosed s) n))
+      ≡ lookOf s (Good 0 q)
+  closed-or-look q n e l f = go (isClosed s) refl
+    where
+      go : (b : Bool) → isClosed s ≡ b →
+          cond (eqb (closedOr b n) Reason.accepted) l (lookRefused (closedOr b n)) ≡ lookOf s (Good 0 q)
+      go true h = closed-look s q h
+      go false h = found-look s q h e l f
+
+  pub fetch-look : (f : Fetch) (c : Cursor) {n m : ℕ} → c ≡ liveCursor s (f .cursor) → n ≡ fetchReason c →
+      m ≡ closedOr (isClosed s) n →
+      cond (eqb m Reason.accepted) (lookRows c (f .rows)) (lookRefused m) ≡ lookOf s (Good 0 (Request.Fetch f))
+  unfolding firstRow
+  fetch-look f c {n} found e g =
+      ap (λ (k : ℕ). cond (eqb k Reason.accepted) (lookRows c (f .rows)) (lookRefused k)) g
+      ∙ closed-or-look (Request.Fetch f) n (fetch-looks s f found e) (lookRows c (f .rows))
+      (ap (λ y. lookRows y (f .rows)) found)
+
+  -- a Session close is looked at as a Reset
+  pub close-as-reset : lookOf s (Good 0 Request.Reset) ≡ lookOf s (Good 0 Request.SessionClose)
+  close-as-reset =
+      sym (closed-or-look Request.Reset 0 (reset-looks s) (lookWork noWork) (reset-wants s))
+      ∙ closed-or-look Request.SessionClose 0 (session-close-looks s) (lookWork noWork) (session-close-wants s)
+
 -- ---- found or refused
+
+pub rows-not : (n : ℕ) (c : Cursor) (rows : Optional) → (n ≡ 0 → ⊥) →
+    lookRefused n ≡ cond (eqb n Reason.accepted) (lookRows c rows) (lookRefused n)
+rows-not n c rows h = without (lookRows c rows) (lookRefused n) (ne-eqb n 0 h)
+
+pub rows-wanted : (n : ℕ) (c : Cursor) (rows : Optional) {count : ℕ} → count ≡ fetchCount c rows → n ≡ 0 →
+    record { reason = Reason.accepted; work = toFetch; first = c .sent; count = count }
+    ≡ cond (eqb n Reason.accepted) (lookRows c rows) (lookRefused n)
+rows-wanted n c rows e h =
+    ap (λ (k : ℕ). record { reason = Reason.accepted; work = toFetch; first = c .sent; count = k }) e
+    ∙ yes (lookRows c rows) (lookRefused n) (eq-eqb n 0 h)
 
 pub found-not : (n work : ℕ) → (n ≡ 0 → ⊥) → lookRefused n ≡ cond (eqb n Reason.accepted) (lookWork work)
     (lookRefused n)

@@ -23,14 +23,7 @@ use session::WORDS;
 pub fn look(words: &[u32; WORDS], frame: &[u8]) -> Look
     ensures { λ r. ⌜ r ≡ lookAt (sessionOf (now (words .entry))) (now (frame .entry)) ⌝ }
 {
-    look_on(words, message::frame::read_frame(frame))
-}
-
-// The look at a frame that is read already.
-pub fn look_on(words: &[u32; WORDS], frame: Frame) -> Look
-    ensures { λ r. ⌜ r ≡ lookOf (sessionOf (now (words .entry))) frame ⌝ }
-{
-    match frame {
+    match message::frame::read_frame(frame) {
         Frame::NotAllThere => refused(reason::NOT_ALL_THERE),
         Frame::BadLength => refused(reason::BAD_LENGTH),
         Frame::UnknownType { used: _ } => refused(refusal::closed_or(words, reason::UNKNOWN_TYPE)),
@@ -99,7 +92,7 @@ fn look_fetch(words: &[u32; WORDS], f: Fetch) -> Look
     }
 }
 
-fn refused(reason: u64) -> Look
+pub(crate) fn refused(reason: u64) -> Look
     ensures { λ r. ⌜ r ≡ lookRefused reason ⌝ }
 {
     Look {
@@ -111,7 +104,7 @@ fn refused(reason: u64) -> Look
 }
 
 // Refused, or this work is wanted, and no rows are to be sent.
-fn found(reason: u64, work: u64) -> Look
+pub(crate) fn found(reason: u64, work: u64) -> Look
     ensures { λ r. ⌜ r ≡ cond (eqb reason Reason.accepted) (lookWork work) (lookRefused reason) ⌝ }
 {
     if reason != reason::ACCEPTED {

@@ -2,7 +2,7 @@
 -- the list that the tables go by. Assumes nothing.
 use Prim.Native.Nat.{ℕ, zero, suc, _+_, _*_, _/_, _%_, _≤_, _<_}
 use native.Mathlib.Omega.{arith}
-use mathlib.Core.Bool.{Bool, true, false, cond, not, _&&_, _||_, and-false, or-false, true≢false, false≢true}
+use mathlib.Core.Bool.{Bool, true, false, cond, not, _&&_, and-false, or-false, true≢false, false≢true}
 use mathlib.Core.Path.{_≡_, refl, sym, ap, subst, _∙_}
 use mathlib.Core.List.{List, [], _∷_, map}
 use lib.ListN.{length, getD, set}
@@ -11,7 +11,6 @@ use borrow.Author.Tests.{eq-eqb, ne-eqb, not-false}
 use Rattle.protocol.specs.Client.{open', fetch}
 use Rattle.protocol.specs.Reason as Reason
 use Rattle.message.specs.Frame.{frameOf}
-use Rattle.message.specs.Request.{stmtOf, cursorOf}
 use Rattle.message.specs.declared.request.Open.{Open as Opening}
 use Rattle.message.specs.declared.request.Fetch.{Fetch as Fetching}
 use Rattle.message.specs.declared.request.Request.{Request}
@@ -27,7 +26,7 @@ use Rattle.session.specs.Tables.{stmtAt, cursorAt, stmtPlace, cursorPlace}
 use Rattle.session.specs.Sound.{Sound}
 use Rattle.session.proofs.PlaceLaws.{Passes, Taken, taken, found}
 use Rattle.session.proofs.PlaceLaws.Taken.{own, new}
-use Rattle.session.proofs.SumLaws.{one, counted, and-true}
+use Rattle.session.proofs.SumLaws.{one, counted}
 use Rattle.rules.specs.declared.Report.{Report}
 use Rattle.rules.specs.Kind.{isA}
 use Rattle.rules.specs.Ending.{endsIt, endsCursor, cursorsLeft}
@@ -37,7 +36,6 @@ use Rattle.rules.specs.InspectRules.{Stands, PlacesTold}
 use Rattle.rules.specs.Refusal.{noPlace}
 use Rattle.rules.specs.Rows.{rowCount}
 use Rattle.rules.specs.Decision.{sessionAfter}
-use Rattle.rules.specs.Step.{stepOf}
 use Rattle.rules.proofs.RefusalLaws.{Looked}
 use Rattle.rules.proofs.StepLaws.{step-has}
 use Rattle.rules.proofs.EndingLaws.{ends-as-listed}

@@ -6,6 +6,7 @@ use mathlib.Core.List.{[], _∷_}
 use lib.Dec.{eqb, ltb, leb}
 use Rattle.protocol.specs.Reason as Reason
 use Rattle.args.specs.declared.arguments.Arguments.{Arguments}
+use Rattle.message.specs.declared.request.Optional.{Optional}
 use Rattle.message.specs.declared.request.Request.{Request}
 use Rattle.session.specs.Session.{Session}
 use Rattle.session.specs.declared.Stmt.{Stmt}
@@ -13,7 +14,9 @@ use Rattle.session.specs.declared.Cursor.{Cursor}
 use Rattle.session.specs.declared.Place.{Place}
 use Rattle.session.specs.Entry.{isLiveStmt, isLiveCursor}
 use Rattle.rules.specs.declared.Look.{Look}
+use Rattle.rules.specs.Report.{toFetch}
 use Rattle.rules.specs.Refusal.{refusal, firstOf, noPlace, requestTests}
+use Rattle.rules.specs.Rows.{fetchCount}
 
 -- 7 to 14, of a request
 unfoldable pub requestReason : Session → Request → ℕ
@@ -61,3 +64,7 @@ consulted suits fails =
 -- a look that wants this work, and sends no rows
 abbrev pub lookWork : ℕ → Look
 lookWork work = record { reason = Reason.accepted; work = work; first = 0; count = 0 }
+
+-- a look at a Fetch of this cursor, with the rows to send
+abbrev pub lookRows : Cursor → Optional → Look
+lookRows c rows = record { reason = Reason.accepted; work = toFetch; first = c .sent; count = fetchCount c rows }

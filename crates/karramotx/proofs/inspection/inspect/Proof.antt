@@ -17,13 +17,8 @@ together {l} {l'} {m} {m'} t t' e f g = ap (λ x. all x m t) e ∙ ap (λ x. all
 
 returns : tie.Need-returns
 returns c =
-    together _ _ (c .before .look-on .ensures) (c .message-of .ensures) (c .before .before .touched .ensures)
+    let k = c .before .before .before .inspect .ensures in
+    together _ _ (k .0) (c .message-of .ensures) (k .1)
 
 pub inspect-spec : {M : Type 1} → statement M
-inspect-spec =
-    tie.close
-    (tie.spec
-    (λ c κs. search needs)
-    (λ c κs. search needs)
-    (λ c κs. search needs)
-    returns)
+inspect-spec = tie.close (tie.spec (λ c κs. search needs) (λ c κs. search needs) returns)

@@ -1,0 +1,28 @@
+-- `keeper::inspect::told` meets its contract: closed comes first. Assumes nothing.
+use Prim.Native.Nat.{ℕ}
+use mathlib.Core.Bool.{cond}
+use mathlib.Core.Path.{refl, ap, _∙_}
+use lib.Dec.{eqb}
+use borrow.Author.Needs.{needs}
+use Rattle.protocol.specs.Reason as Reason
+use Rattle.rules.specs.Decision.{lookRefused}
+use Rattle.keeper.specs.private.Reasons.{lookWork}
+use Rattle.keeper.proofs.inspect.told.Statement.{statement}
+use Rattle.keeper.proofs.inspect.told.Tie as tie
+
+returns : tie.Need-returns
+returns c =
+    let a = c .before .before .args in (
+      c .found .ensures
+          ∙ ap (λ (n : ℕ). cond (eqb n Reason.accepted) (lookWork (a .work)) (lookRefused n))
+          (c .before .closed-or .ensures),
+      refl,
+    )
+
+pub told-spec : {M : Type 1} → statement M
+told-spec =
+    tie.close
+    (tie.spec
+    (λ c κs. search needs)
+    (λ c κs. search needs)
+    returns)
