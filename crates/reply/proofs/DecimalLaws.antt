@@ -1,12 +1,10 @@
 -- Laws of the decimal of a number. Assumes nothing.
 use Prim.Native.Nat.{ℕ, zero, suc, _+_, _-_, _*_, _/_, _%_, _^_, _≤_, _<_}
 use mathlib.Core.Path.{_≡_, refl, sym, ap, _∙_}
-use mathlib.Core.Bool.{Bool, true, false}
 use mathlib.Core.List.{List, [], _∷_, _++_}
 use native.Mathlib.Omega.{arith}
-use borrow.Author.Tests.{lt-ltb, le-ltb, ltb-true, ltb-false}
+use borrow.Author.Tests.{lt-ltb, le-ltb}
 use lib.ListN.{length, getD, length-append, List·getD-append}
-use lib.Dec.{ltb}
 use Rattle.prelude.proofs.Cases.{less-or-not}
 use Rattle.reply.specs.Decimal.{digits, decimal}
 use Rattle.reply.specs.DecimalRules.{denoted, Denotes, EachDigit, NoLeadingZero, Short}

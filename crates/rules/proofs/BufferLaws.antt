@@ -2,7 +2,6 @@
 -- was decided, whatever the buffer. Assumes nothing.
 use Prim.Native.Nat.{ℕ, _≤_}
 use native.Mathlib.Nat.{le-trans}
-use mathlib.Core.Bool.{Bool}
 use mathlib.Core.Path.{_≡_, sym, ap, _∙_}
 use mathlib.Core.List.{List}
 use lib.ListN.{length}
@@ -26,7 +25,7 @@ use Rattle.rules.specs.Kind.{onGood}
 use Rattle.rules.specs.Refusal.{stepReason}
 use Rattle.rules.specs.Rows.{sendsColumns, leftAfter}
 use Rattle.rules.specs.Decision.{Decision, endOf, replyTo, refusalOf, refusedReply, refused, accepted, decisionOf}
-use Rattle.rules.specs.Step.{answerOf, stepOn, stepOf}
+use Rattle.rules.specs.Step.{answerOf, stepOn}
 use Rattle.rules.specs.Read.{ReadIn}
 use Rattle.rules.specs.StepRules.{Outcome, outcome, BufferMakesNoDifference}
 use Rattle.rules.proofs.ReadLaws.{frames-are-read}

@@ -13,10 +13,9 @@ use Rattle.protocol.specs.Client.{prepare, open'}
 use Rattle.protocol.specs.Reason as Reason
 use Rattle.message.specs.Frame.{frameOf}
 use Rattle.message.specs.Request.{stmtOf, cursorOf}
-use Rattle.message.specs.declared.request.Request.{Request}
 use Rattle.message.specs.declared.request.Frame.{Frame}
 use Rattle.message.specs.declared.request.Frame.the-variants.{NotAllThere, BadLength, UnknownType, BadPayload, Good}
-use Rattle.session.specs.Session.{Session, isClosed}
+use Rattle.session.specs.Session.{Session}
 use Rattle.session.specs.declared.Place.{Place}
 use Rattle.session.specs.Lists.{howMany}
 use Rattle.session.specs.Entry.{isStmt, isCursor}
@@ -26,10 +25,10 @@ use Rattle.session.proofs.TableLaws.{stmts-full, full-stmts, cursors-full, full
 use Rattle.reply.specs.ReplyRules.{minBuffer}
 use Rattle.rules.specs.declared.Report.{Report}
 use Rattle.rules.specs.Kind.{isA, onGood}
-use Rattle.rules.specs.Refusal.{Test, firstOf, noPlace, frameTests, requestTests, lookTests, lookReason}
-use Rattle.rules.specs.Refusal.{reportTests, reportReason, stepReason, stmtsFull, cursorsFull}
-use Rattle.rules.specs.Step.{lookAt, stepOf}
-use Rattle.rules.specs.RefusalRules.{NoneHolds, Decides, LookDecides, stepTests, StepDecides, OfLook, LookGives}
+use Rattle.rules.specs.Refusal.{Test, firstOf, noPlace, lookTests, lookReason}
+use Rattle.rules.specs.Refusal.{reportTests, reportReason, stepReason}
+use Rattle.rules.specs.Step.{lookAt}
+use Rattle.rules.specs.RefusalRules.{NoneHolds, Decides, LookDecides, stepTests, StepDecides, LookGives}
 use Rattle.rules.specs.RefusalRules.{StepGives, FullWhen, FullTables}
 use Rattle.rules.proofs.TestLaws.{rises, accepted-none}
 use Rattle.rules.proofs.RefusalLaws.{look-small, look-passes, report-passes, step-passes}

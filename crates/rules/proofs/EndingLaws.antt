@@ -1,18 +1,16 @@
 -- The tables go by the list of endings. Assumes nothing.
-use Prim.Native.Nat.{ℕ, _≤_}
-use native.Mathlib.Omega.{arith}
+use Prim.Native.Nat.{ℕ}
 use mathlib.Core.Bool.{Bool, true, false, cond, _&&_, _||_, and-false, and-true, or-false}
 use mathlib.Core.Path.{_≡_, refl, sym, ap, fun-ext, _∙_}
 use mathlib.Core.List.{List, [], _∷_}
 use lib.ListN.{set}
 use lib.Dec.{eqb}
-use Rattle.message.specs.declared.request.Request.{Request}
 use Rattle.message.specs.declared.request.Request.the-variants.{Reset, SessionClose, Prepare, Execute, Deallocate, Open}
 use Rattle.message.specs.declared.request.Request.the-variants.{Close, Fetch}
 use Rattle.session.specs.declared.Cursor.{Cursor}
 use Rattle.session.specs.declared.Place.{Place}
 use Rattle.session.specs.Session.{Session}
-use Rattle.session.specs.Lists.{sumBy, howMany, All, put, changed, always}
+use Rattle.session.specs.Lists.{All, put, changed, always}
 use Rattle.session.specs.Entry.{noCursor, newCursor, isLiveCursor, isCursor, onStmt, freeCursor, raise}
 use Rattle.session.specs.Tables.{ends, cursorPlace}
 use Rattle.session.specs.Sound.{Sound, ProperCursor}
@@ -22,7 +20,7 @@ use Rattle.session.proofs.SumLaws.{one, sum-none}
 use Rattle.session.proofs.OnceLaws.{none-changed, put-changed}
 use Rattle.session.proofs.TableLaws.{cursors-full, fetched-as}
 use Rattle.rules.specs.declared.Report.{Report}
-use Rattle.rules.specs.Ending.{endsIt, cursorsAfter}
+use Rattle.rules.specs.Ending.{endsIt}
 use Rattle.rules.specs.Rows.{rowCount}
 use Rattle.rules.specs.Decision.{sessionAfter}
 use Rattle.rules.specs.StepRules.{EndsAsListed}

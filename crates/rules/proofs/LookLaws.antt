@@ -19,14 +19,13 @@ use Rattle.reply.specs.declared.Reply.{Reply}
 use Rattle.reply.specs.Frames.{among}
 use Rattle.reply.specs.ReplyRules.{minBuffer}
 use Rattle.rules.specs.declared.Report.{Report}
-use Rattle.rules.specs.declared.Look.{Look}
 use Rattle.rules.specs.Kind.{onGood}
 use Rattle.rules.specs.Report.{noWork, workOf}
 use Rattle.rules.specs.Refusal.{lookReason, reportReason, stepReason}
 use Rattle.rules.specs.Rows.{rowCount, sendsColumns}
 use Rattle.rules.specs.Decision.{sessionAfter, replyTo, wireCode, refusedReply, refused, accepted, decidedBy}
-use Rattle.rules.specs.Decision.{decisionOf, looked, lookRefused, lookBy, lookOf}
-use Rattle.rules.specs.Step.{short, stepBy, stepOn, lookAt, stepOf, tooShort}
+use Rattle.rules.specs.Decision.{decisionOf, looked, lookRefused, lookOf}
+use Rattle.rules.specs.Step.{short, stepBy, stepOn, lookAt, tooShort}
 use Rattle.rules.specs.StepRules.{RefusesAlike, RefusesFew, ShortFirst, ReportNotConsulted}
 use Rattle.rules.proofs.RefusalLaws.{took-look, look-small, not-three, idle, few, report-few}
 use Rattle.rules.proofs.StepLaws.{step-has}

@@ -1,17 +1,15 @@
 -- An id that is live finds its own place; what an Open and a Fetch without fetch_rows send. Assumes nothing.
-use Prim.Native.Nat.{ℕ, min}
+use Prim.Native.Nat.{ℕ}
 use native.Mathlib.Omega.{arith}
 use mathlib.Core.Bool.{Bool, true, false, _&&_, and-false, false≢true}
-use mathlib.Core.Path.{_≡_, refl, sym, ap, _∙_}
+use mathlib.Core.Path.{_≡_, refl, ap, _∙_}
 use mathlib.Core.List.{List}
 use Rattle.protocol.specs.Client.{prepare, open'}
 use Rattle.message.specs.Request.{stmtOf, cursorOf}
 use Rattle.message.specs.declared.request.Optional.{Optional}
-use Rattle.message.specs.declared.request.Request.{Request}
 use Rattle.session.specs.declared.Place.{Place}
 use Rattle.session.specs.declared.Stmt.{Stmt}
 use Rattle.session.specs.declared.Cursor.{Cursor}
-use Rattle.session.specs.Session.{Session}
 use Rattle.session.specs.Lists.{first, orPlace, entryAt}
 use Rattle.session.specs.Entry.{noStmt, noCursor, freeStmt, freeCursor, isLiveStmt, isLiveCursor}
 use Rattle.session.specs.Tables.{stmtAt, cursorAt, liveCursor, stmtPlace, cursorPlace}

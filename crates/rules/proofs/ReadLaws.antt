@@ -3,8 +3,7 @@
 use Prim.Native.Nat.{ℕ, zero, suc, _+_, _-_, _%_, _^_, _≤_, _<_}
 use native.Mathlib.Nat.{mod-lt, le-trans}
 use native.Mathlib.Omega.{arith}
-use mathlib.Core.Bool.{Bool, true, not, _&&_}
-use mathlib.Core.Path.{_≡_, refl}
+use mathlib.Core.Bool.{Bool, not, _&&_}
 use mathlib.Core.List.{List, [], _∷_}
 use lib.ListN.{length, getD, take, length-take}
 use lib.Dec.{eqb, ltb, leb}
@@ -26,9 +25,9 @@ use Rattle.message.specs.Head.{headOf, lengthOf, maxLength, lengthBytes}
 use Rattle.message.specs.Operation as Operation
 use Rattle.message.specs.Payload.{payload, ifGood, optionalOf, truthOf}
 use Rattle.message.specs.Simple.{resetFrame, sessionCloseFrame, deallocateFrame, closeFrame, fetchFrame}
-use Rattle.message.specs.Execute.{badExecute, argumentsWithin, executeOf, executeIn, executeFrom, executeFrame}
-use Rattle.message.specs.Execute.{openFrom, openChosen, openInside, openOf, openFrame}
-use Rattle.message.specs.Prepare.{bodyIn, prepareFrom, prepareChosen, prepareTyped, prepareInside, prepareOf}
+use Rattle.message.specs.Execute.{badExecute, argumentsWithin, executeOf, executeIn, executeFrame}
+use Rattle.message.specs.Execute.{openFrom, openChosen, openInside, openFrame}
+use Rattle.message.specs.Prepare.{bodyIn, prepareFrom, prepareChosen, prepareInside}
 use Rattle.message.specs.Prepare.{prepareFrame}
 use Rattle.message.specs.Frame.{frameIn, ofHead, frameOf}
 use Rattle.message.specs.declared.head.Head.{Head}

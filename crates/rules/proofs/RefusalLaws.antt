@@ -1,5 +1,5 @@
 -- What the tests of a step come to: which reasons it gives, and what holds where it gives none. Assumes nothing.
-use Prim.Native.Nat.{ℕ, _≤_, _<_}
+use Prim.Native.Nat.{ℕ, _≤_}
 use native.Mathlib.Omega.{arith}
 use mathlib.Core.Bool.{Bool, true, false, not, cond, _&&_, _||_, true≢false, false≢true}
 use mathlib.Core.Path.{_≡_, refl, sym, ap, _∙_}
@@ -19,11 +19,10 @@ use Rattle.session.specs.Sound.{maxNumber}
 use Rattle.session.proofs.SumLaws.{and-true}
 use Rattle.reply.specs.Frames.{among}
 use Rattle.rules.specs.declared.Report.{Report}
-use Rattle.rules.specs.Kind.{onGood}
 use Rattle.rules.specs.Report.{noWork, workOf, failed, works, suits, fails}
 use Rattle.rules.specs.Refusal.{Test, refusal, firstOf, isRefused, stmtNotLive, unsupported, fewArguments}
 use Rattle.rules.specs.Refusal.{cursorNotLive, allSent, otherCursor, stmtsFull, cursorsFull, requestTests}
-use Rattle.rules.specs.Refusal.{lookTests, lookReason, reportTests, reportReason, stepReason}
+use Rattle.rules.specs.Refusal.{lookReason, reportTests, reportReason, stepReason}
 use Rattle.rules.proofs.TestLaws.{allOf, first-passes, accepted-none}
 
 -- ---- the look

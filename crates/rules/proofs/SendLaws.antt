@@ -1,13 +1,13 @@
 -- The rules of specs/SendRules.antt hold. Assumes nothing.
-use Prim.Native.Nat.{ℕ, _+_, _-_, _≤_, _<_, min}
+use Prim.Native.Nat.{ℕ, _+_, _-_, _≤_}
 use native.Mathlib.Nat.{le-trans}
 use native.Mathlib.Omega.{arith}
-use mathlib.Core.Bool.{Bool, true, false, not, cond, true≢false}
-use mathlib.Core.Path.{_≡_, refl, sym, ap, subst, _∙_}
-use mathlib.Core.List.{List, [], _++_}
+use mathlib.Core.Bool.{not}
+use mathlib.Core.Path.{_≡_, refl, sym, ap, _∙_}
+use mathlib.Core.List.{List, _++_}
 use lib.ListN.{length, take, drop, length-take}
 use lib.Dec.{eqb, leb, ltb}
-use borrow.Author.Tests.{eqb-true, eqb-false, eq-eqb, ne-eqb, le-ltb, ltb-true, ltb-false, leb-true, not-true}
+use borrow.Author.Tests.{eqb-false, eq-eqb, ne-eqb, le-ltb, ltb-false, not-true}
 use Rattle.prelude.proofs.Cases.{both}
 use Rattle.protocol.specs.Reason as Reason
 use Rattle.message.specs.Head.{lengthBytes, lengthOf, maxLength, headOf}
@@ -17,10 +17,9 @@ use Rattle.message.specs.declared.request.Request.{Request}
 use Rattle.message.specs.declared.request.Request.the-variants.{Reset, SessionClose, Prepare, Execute, Deallocate, Open}
 use Rattle.message.specs.declared.request.Request.the-variants.{Close, Fetch}
 use Rattle.message.specs.declared.request.Frame.{Frame}
-use Rattle.message.specs.declared.request.Frame.the-variants.{NotAllThere, BadLength, UnknownType, BadPayload, Good}
+use Rattle.message.specs.declared.request.Frame.the-variants.{NotAllThere, BadLength, Good}
 use Rattle.message.proofs.UsedLaws.{uses-all}
 use Rattle.session.specs.Session.{Session}
-use Rattle.reply.specs.declared.Reply.{Reply}
 use Rattle.reply.specs.Reply.{replyBytes}
 use Rattle.reply.specs.ReplyRules.{minBuffer}
 use Rattle.rules.specs.declared.Report.{Report}
@@ -28,17 +27,16 @@ use Rattle.rules.specs.declared.Answer.{Answer}
 use Rattle.rules.specs.Report.{noWork, toFetch, workOf}
 use Rattle.rules.specs.Refusal.{lookReason, reportReason, stepReason}
 use Rattle.rules.specs.Rows.{firstRow, rowCount, sendsColumns}
-use Rattle.rules.specs.Decision.{Decision, accepted, decisionOf, looked, lookRefused, lookOf}
-use Rattle.rules.specs.Step.{Step, short, tooShort, stepBy, stepOn, lookAt, stepOf, replyOf}
-use Rattle.rules.specs.StepRules.{outcome}
-use Rattle.rules.specs.SendRules.{AcceptsIdle, SameRows, SendsAsLooked, Rows, AsAsked, SendsAsAsked, Uses}
-use Rattle.rules.specs.SendRules.{UsesFrame, Writes, WritesWhole}
+use Rattle.rules.specs.Decision.{accepted, decisionOf, looked, lookOf}
+use Rattle.rules.specs.Step.{stepBy, stepOn, lookAt, stepOf}
+use Rattle.rules.specs.SendRules.{AcceptsIdle, SendsAsLooked, AsAsked, SendsAsAsked, Uses}
+use Rattle.rules.specs.SendRules.{UsesFrame, WritesWhole}
 use Rattle.rules.specs.SendRules.{WithAny, AsReported, SendsColumns}
 use Rattle.rules.proofs.ReadLaws.{frames-are-read}
-use Rattle.rules.proofs.RefusalLaws.{Took, took, took-look, idle}
+use Rattle.rules.proofs.RefusalLaws.{Took, took-look, idle}
 use Rattle.rules.proofs.StepLaws.{step-has, reply-front, written-front}
 use Rattle.rules.proofs.LookLaws.{look-reason, look-work, look-good, step-reason}
-use Rattle.rules.proofs.BufferLaws.{decision-fits, step-outcome}
+use Rattle.rules.proofs.BufferLaws.{decision-fits}
 
 -- ---- work none
 

@@ -1,5 +1,5 @@
 -- Every step keeps a session sound. Assumes nothing.
-use Prim.Native.Nat.{ℕ, _≤_, min}
+use Prim.Native.Nat.{ℕ, _≤_}
 use native.Mathlib.Omega.{arith}
 use mathlib.Core.Bool.{Bool, true, false, not, _&&_, _||_, true≢false}
 use mathlib.Core.Path.{_≡_, refl, sym, subst}
@@ -23,7 +23,7 @@ use Rattle.rules.specs.Decision.{sessionAfter}
 use Rattle.rules.specs.Read.{Read, ReadIn}
 use Rattle.rules.specs.StepRules.{KeepsSound}
 use Rattle.rules.proofs.ReadLaws.{frames-are-read}
-use Rattle.rules.proofs.RefusalLaws.{Looked, Took}
+use Rattle.rules.proofs.RefusalLaws.{Looked}
 use Rattle.rules.proofs.StepLaws.{step-has}
 
 -- ---- the numbers of a report that suits

@@ -14,14 +14,13 @@ use Rattle.prelude.proofs.Cases.{both}
 use Rattle.encode.specs.Put.{written}
 use Rattle.protocol.specs.Reason as Reason
 use Rattle.message.specs.Request.{stmtOf, cursorOf, argsOf}
-use Rattle.message.specs.Frame.{usedOf, frameOf}
+use Rattle.message.specs.Frame.{frameOf}
 use Rattle.message.specs.declared.request.Request.{Request}
 use Rattle.message.specs.declared.request.Frame.{Frame}
 use Rattle.message.specs.declared.request.Frame.the-variants.{NotAllThere, BadLength, UnknownType, BadPayload, Good}
 use Rattle.session.specs.Session.{Session}
 use Rattle.session.specs.Sound.{maxNumber}
 use Rattle.session.proofs.SumLaws.{and-true}
-use Rattle.reply.specs.declared.Refusal.{Refusal}
 use Rattle.reply.specs.declared.Reply.{Reply}
 use Rattle.reply.specs.Reply.{codes, codeOf, replyBytes}
 use Rattle.reply.specs.ReplyRules.{minBuffer}
@@ -29,9 +28,9 @@ use Rattle.reply.proofs.ReplyLaws.{reply-error, fits-smallest}
 use Rattle.rules.specs.declared.Report.{Report}
 use Rattle.rules.specs.Kind.{onGood}
 use Rattle.rules.specs.Refusal.{stepReason}
-use Rattle.rules.specs.Decision.{Decision, named, wireCode, refusalOf, refusedReply, refused, accepted}
+use Rattle.rules.specs.Decision.{named, wireCode, refusalOf, refusedReply, refused, accepted}
 use Rattle.rules.specs.Decision.{decisionOf}
-use Rattle.rules.specs.Step.{Step, short, tooShort, stepBy, stepOn, stepOf}
+use Rattle.rules.specs.Step.{Step, short, tooShort, stepBy, stepOn}
 use Rattle.rules.specs.Read.{Read, ReadIn}
 use Rattle.rules.specs.StepRules.{Unchanged, Silent, Replies, errorBytes, Refused, RefusedChangesNothing}
 use Rattle.rules.proofs.ReadLaws.{frames-are-read}

@@ -31,13 +31,5 @@ returns c =
     if-room-as (ap (errorFrame (a .code)) (front (room a) (t .put-text .ensures))) (w .write-error .ensures)
 
 pub write-refusal-spec : {M : Type 1} → statement M
-write-refusal-spec =
-    tie.close
-    (tie.spec
-    (λ c. search needs)
-    (λ c. search needs)
-    (λ c. search needs)
-    slice-aggregate-write-error
-    (λ c. search needs)
-    (λ c. search needs)
-    returns)
+write-refusal-spec = tie.close (tie.spec (λ c. search needs) (λ c. search needs) (λ c. search needs)
+    slice-aggregate-write-error (λ c. search needs) (λ c. search needs) returns)

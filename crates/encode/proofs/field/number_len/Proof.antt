@@ -16,11 +16,5 @@ returns : tie.Need-returns
 returns c = let a = c .before .before .args in omega (arith, number-parts (a .num) (a .v))
 
 pub number-len-spec : {M : Type 1} → statement M
-number-len-spec =
-    tie.close
-    (tie.spec
-    (λ c. search needs)
-    (λ c κs. search needs)
-    (λ c κs. search needs)
-    add-result
+number-len-spec = tie.close (tie.spec (λ c. search needs) (λ c κs. search needs) (λ c κs. search needs) add-result
     returns)

@@ -13,5 +13,4 @@ returns c =
     puts-counted (a .num) (a .src .now) refl (f .put-prefix .ensures) (g .put-slice .ensures)
 
 pub put-bytes-spec : {M : Type 1} → statement M
-put-bytes-spec =
-    tie.close (tie.spec (λ c κs. search needs) (λ c κs. search needs) (λ c. search needs) returns)
+put-bytes-spec = tie.close (tie.spec (λ c κs. search needs) (λ c κs. search needs) (λ c. search needs) returns)

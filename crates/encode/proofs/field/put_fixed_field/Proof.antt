@@ -12,12 +12,5 @@ returns c =
     puts-then (g .before .before .before .before .put-varint .ensures) (g .put-fixed .ensures)
 
 pub put-fixed-field-spec : {M : Type 1} → statement M
-put-fixed-field-spec =
-    tie.close
-    (tie.spec
-    (λ c. search needs)
-    (λ c. search needs)
-    (λ c κs. search needs)
-    (λ c κs. search needs)
-    (λ c. search needs)
-    returns)
+put-fixed-field-spec = tie.close (tie.spec (λ c. search needs) (λ c. search needs) (λ c κs. search needs)
+    (λ c κs. search needs) (λ c. search needs) returns)

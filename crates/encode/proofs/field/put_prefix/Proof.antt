@@ -10,13 +10,5 @@ returns c =
     puts-then (g .before .before .before .before .put-varint .ensures) (g .put-varint2 .ensures)
 
 pub put-prefix-spec : {M : Type 1} → statement M
-put-prefix-spec =
-    tie.close
-    (tie.spec
-    (λ c. search needs)
-    (λ c. search needs)
-    (λ c. search needs)
-    (λ c. search needs)
-    (λ c. search needs)
-    (λ c. search needs)
-    returns)
+put-prefix-spec = tie.close (tie.spec (λ c. search needs) (λ c. search needs) (λ c. search needs) (λ c. search needs)
+    (λ c. search needs) (λ c. search needs) returns)

@@ -42,18 +42,5 @@ same-length : tie.Need-same-length Inv-loop μ-loop
 same-length c = puts-length (last c)
 
 pub put-varint-spec : {M : Type 1} → statement M
-put-varint-spec =
-    tie.close
-    (tie.spec
-    Inv-loop
-    μ-loop
-    loop-holds
-    (λ c. search needs)
-    (λ c. search needs)
-    (λ c κs. search needs)
-    (λ c. omega arith)
-    loop-again
-    (λ c. search needs)
-    (λ c κs. search needs)
-    same-length
-    last)
+put-varint-spec = tie.close (tie.spec Inv-loop μ-loop loop-holds (λ c. search needs) (λ c. search needs)
+    (λ c κs. search needs) (λ c. omega arith) loop-again (λ c. search needs) (λ c κs. search needs) same-length last)

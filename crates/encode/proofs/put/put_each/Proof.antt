@@ -1,8 +1,6 @@
 -- `encode::put::put_each` meets its contract: one byte a turn, and the others are left. Assumes nothing.
 use borrow.Author.Needs.{needs}
-use native.Mathlib.Omega.{arith}
 use Prim.Native.Nat.{_-_}
-use mathlib.Core.Path.{refl}
 use lib.ListN.{length, drop, drop-of-length-le}
 use lib.Seq.{drop-cons}
 use native.Mathlib.Numerals.{add-one}
@@ -36,16 +34,5 @@ returns : tie.Need-returns Inv-loop μ-loop
 returns c = let l = c .before .loop in putting-ended (l .inv) (drop-of-length-le _ (c .loop-test .left))
 
 pub put-each-spec : {M : Type 1} → statement M
-put-each-spec =
-    tie.close
-    (tie.spec
-    Inv-loop
-    μ-loop
-    loop-holds
-    (λ c. search needs)
-    (λ c κs. search needs)
-    (λ c. search needs)
-    (λ c. search needs)
-    loop-again
-    same-length
-    returns)
+put-each-spec = tie.close (tie.spec Inv-loop μ-loop loop-holds (λ c. search needs) (λ c κs. search needs)
+    (λ c. search needs) (λ c. search needs) loop-again same-length returns)

@@ -1,7 +1,6 @@
 -- `encode::put::put_fixed` meets its contract: one byte a turn, and the number of the others is left. Assumes nothing.
 use borrow.Author.Needs.{needs}
 use native.Mathlib.Omega.{arith}
-use Prim.Native.Nat.{ℕ}
 use Rattle.encode.specs.Fixed.{fixedBytes}
 use Rattle.encode.proofs.PutsLaws.{Putting, puts-length, putting-starts, putting-goes-on, putting-ended}
 use Rattle.encode.proofs.FieldLaws.{fixed-more, fixed-none}
@@ -30,16 +29,5 @@ returns : tie.Need-returns Inv-loop μ-loop
 returns c = let l = c .before .loop in putting-ended (l .inv) (fixed-none (l .left) (l .x) (omega arith))
 
 pub put-fixed-spec : {M : Type 1} → statement M
-put-fixed-spec =
-    tie.close
-    (tie.spec
-    Inv-loop
-    μ-loop
-    loop-holds
-    (λ c. search needs)
-    (λ c κs. search needs)
-    (λ c. search needs)
-    (λ c. search needs)
-    loop-again
-    same-length
-    returns)
+put-fixed-spec = tie.close (tie.spec Inv-loop μ-loop loop-holds (λ c. search needs) (λ c κs. search needs)
+    (λ c. search needs) (λ c. search needs) loop-again same-length returns)

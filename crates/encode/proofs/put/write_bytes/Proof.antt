@@ -28,11 +28,5 @@ returns-2 c =
     equations refl (puts-room room (w .put-slice .ensures))
 
 pub write-bytes-spec : {M : Type 1} → statement M
-write-bytes-spec =
-    tie.close
-    (tie.spec
-    (λ c κs. search needs)
-    returns
-    (λ c κs. search needs)
-    (λ c. search needs)
+write-bytes-spec = tie.close (tie.spec (λ c κs. search needs) returns (λ c κs. search needs) (λ c. search needs)
     returns-2)

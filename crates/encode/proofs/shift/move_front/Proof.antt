@@ -56,19 +56,5 @@ returns-2 c =
     ∙ sym (moved-front (a .buf .now) (a .start) (a .len) (l .inv .0))
 
 pub move-front-spec : {M : Type 1} → statement M
-move-front-spec =
-    tie.close
-    (tie.spec
-    Inv-loop
-    μ-loop
-    (λ c κs. search needs)
-    returns
-    loop-holds
-    (λ c. search needs)
-    slice-read-buf
-    slice-write-buf
-    (λ c. search needs)
-    (λ c. search needs)
-    loop-again
-    same-length
-    returns-2)
+move-front-spec = tie.close (tie.spec Inv-loop μ-loop (λ c κs. search needs) returns loop-holds (λ c. search needs)
+    slice-read-buf slice-write-buf (λ c. search needs) (λ c. search needs) loop-again same-length returns-2)

@@ -14,10 +14,4 @@ returns-2 : tie.Need-returns-2
 returns-2 c = puts-room (omega arith) (c .before .before .put-head .ensures)
 
 pub write-empty-spec : {M : Type 1} → statement M
-write-empty-spec =
-    tie.close
-    (tie.spec
-    returns
-    (λ c κs. search needs)
-    (λ c. search needs)
-    returns-2)
+write-empty-spec = tie.close (tie.spec returns (λ c κs. search needs) (λ c. search needs) returns-2)

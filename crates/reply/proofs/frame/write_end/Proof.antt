@@ -21,16 +21,5 @@ returns-2 c =
     (puts-then (f .put-head .ensures) (puts-rest (omega (arith, n)) refl (g .put-head2 .ensures)))
 
 pub write-end-spec : {M : Type 1} → statement M
-write-end-spec =
-    tie.close
-    (tie.spec
-    (λ c. search needs)
-    returns
-    (λ c κs. search needs)
-    (λ c. search needs)
-    (λ c. search needs)
-    (λ c. search needs)
-    (λ c κs. search needs)
-    (λ c. search needs)
-    (λ c. search needs)
-    returns-2)
+write-end-spec = tie.close (tie.spec (λ c. search needs) returns (λ c κs. search needs) (λ c. search needs)
+    (λ c. search needs) (λ c. search needs) (λ c κs. search needs) (λ c. search needs) (λ c. search needs) returns-2)

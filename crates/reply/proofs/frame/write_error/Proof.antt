@@ -43,17 +43,5 @@ returns-2 c =
     (error-framed (a .code) (a .message .now) (h .put-head .ensures) (p .put-error .ensures) (omega arith))
 
 pub write-error-spec : {M : Type 1} → statement M
-write-error-spec =
-    tie.close
-    (tie.spec
-    (λ c. search needs)
-    add-size
-    (λ c. search needs)
-    add-size-2
-    add-size-3
-    add-if1
-    returns
-    (λ c. search needs)
-    (λ c. search needs)
-    (λ c. search needs)
-    returns-2)
+write-error-spec = tie.close (tie.spec (λ c. search needs) add-size (λ c. search needs) add-size-2 add-size-3 add-if1
+    returns (λ c. search needs) (λ c. search needs) (λ c. search needs) returns-2)

@@ -12,11 +12,5 @@ returns c =
     puts-then (puts-then (f .put-slice .ensures) (g .put-decimal .ensures)) (h .put-slice2 .ensures)
 
 pub put-numbered-spec : {M : Type 1} → statement M
-put-numbered-spec =
-    tie.close
-    (tie.spec
-    (λ c. search needs)
-    (λ c. search needs)
-    (λ c. search needs)
-    (λ c. search needs)
+put-numbered-spec = tie.close (tie.spec (λ c. search needs) (λ c. search needs) (λ c. search needs) (λ c. search needs)
     returns)

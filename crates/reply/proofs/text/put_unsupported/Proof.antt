@@ -12,14 +12,5 @@ returns c =
     puts-then (puts-then (f .put-numbered .ensures) (g .put-kind .ensures)) (h .put-slice .ensures)
 
 pub put-unsupported-spec : {M : Type 1} → statement M
-put-unsupported-spec =
-    tie.close
-    (tie.spec
-    (λ c. search needs)
-    (λ c. search needs)
-    (λ c. search needs)
-    (λ c. search needs)
-    (λ c. search needs)
-    (λ c. search needs)
-    (λ c. search needs)
-    returns)
+put-unsupported-spec = tie.close (tie.spec (λ c. search needs) (λ c. search needs) (λ c. search needs)
+    (λ c. search needs) (λ c. search needs) (λ c. search needs) (λ c. search needs) returns)

@@ -27,15 +27,6 @@ returns : tie.Need-returns Inv-loop μ-loop
 returns c = summed (c .before .loop .inv) (c .loop-test .left)
 
 pub owed-spec : {M : Type 1} → statement M
-owed-spec =
-    tie.close
-    (tie.spec
-    Inv-loop
-    μ-loop
-    loop-holds
-    (λ c κs. omega arith)
-    (λ c. omega (arith, c .owes .ensures .1, c .before .before .loop .inv .small))
-    (λ c. omega arith)
-    (λ c. omega arith)
-    loop-again
-    returns)
+owed-spec = tie.close (tie.spec Inv-loop μ-loop loop-holds (λ c κs. omega arith)
+    (λ c. omega (arith, c .owes .ensures .1, c .before .before .loop .inv .small)) (λ c. omega arith) (λ c. omega arith)
+    loop-again returns)

@@ -30,16 +30,6 @@ returns : tie.Need-returns Inv-loop μ-loop
 returns c = summed (c .before .loop .inv) (c .loop-test .left)
 
 pub stmt-count-spec : {M : Type 1} → statement M
-stmt-count-spec =
-    tie.close
-    (tie.spec
-    Inv-loop
-    μ-loop
-    loop-holds
-    (λ c κs. omega arith)
-    (λ c κs. search needs)
-    (λ c. omega (arith, c .one .ensures .1, c .before .before .before .loop .inv .small))
-    (λ c. omega arith)
-    (λ c. omega arith)
-    loop-again
-    returns)
+stmt-count-spec = tie.close (tie.spec Inv-loop μ-loop loop-holds (λ c κs. omega arith) (λ c κs. search needs)
+    (λ c. omega (arith, c .one .ensures .1, c .before .before .before .loop .inv .small)) (λ c. omega arith)
+    (λ c. omega arith) loop-again returns)

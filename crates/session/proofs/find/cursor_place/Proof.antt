@@ -14,12 +14,5 @@ returns-2 c =
     ∙ other-place (c .before .before .before .find-cursor .ensures) _ (c .before .enum-told .given .1)
 
 pub cursor-place-spec : {M : Type 1} → statement M
-cursor-place-spec =
-    tie.close
-    (tie.spec
-    (λ c κs. search needs)
-    (λ c. search needs)
-    (λ c. search needs)
-    (λ c κs. search needs)
-    returns
-    returns-2)
+cursor-place-spec = tie.close (tie.spec (λ c κs. search needs) (λ c. search needs) (λ c. search needs)
+    (λ c κs. search needs) returns returns-2)

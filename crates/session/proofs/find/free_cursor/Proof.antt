@@ -35,15 +35,5 @@ returns-2 : tie.Need-returns-2 Inv-loop μ-loop
 returns-2 c = no-place (c .before .loop .inv) (c .loop-test .left)
 
 pub free-cursor-spec : {M : Type 1} → statement M
-free-cursor-spec =
-    tie.close
-    (tie.spec
-    Inv-loop
-    μ-loop
-    loop-holds
-    (λ c κs. omega arith)
-    returns
-    (λ c. omega arith)
-    (λ c. omega arith)
-    loop-again
-    returns-2)
+free-cursor-spec = tie.close (tie.spec Inv-loop μ-loop loop-holds (λ c κs. omega arith) returns (λ c. omega arith)
+    (λ c. omega arith) loop-again returns-2)

@@ -27,14 +27,5 @@ returns-2 c =
     read-past (cursorIn (a .words .now)) maxCursors (a .place) _ (x .index .ensures) noCursor (c .if1 .left)
 
 pub cursor-at-spec : {M : Type 1} → statement M
-cursor-at-spec =
-    tie.close
-    (tie.spec
-    (λ c κs. search needs)
-    (λ c κs. search needs)
-    (λ c κs. search needs)
-    (λ c κs. search needs)
-    (λ c κs. search needs)
-    (λ c κs. search needs)
-    returns
-    returns-2)
+cursor-at-spec = tie.close (tie.spec (λ c κs. search needs) (λ c κs. search needs) (λ c κs. search needs)
+    (λ c κs. search needs) (λ c κs. search needs) (λ c κs. search needs) returns returns-2)

@@ -23,12 +23,5 @@ returns-2 c =
     read-past (stmtIn (a .words .now)) maxStmts (a .place) _ (x .index .ensures) noStmt (c .if1 .left)
 
 pub stmt-at-spec : {M : Type 1} → statement M
-stmt-at-spec =
-    tie.close
-    (tie.spec
-    (λ c κs. search needs)
-    (λ c κs. search needs)
-    (λ c κs. search needs)
-    (λ c κs. search needs)
-    returns
-    returns-2)
+stmt-at-spec = tie.close (tie.spec (λ c κs. search needs) (λ c κs. search needs) (λ c κs. search needs)
+    (λ c κs. search needs) returns returns-2)

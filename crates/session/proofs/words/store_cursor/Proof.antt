@@ -27,24 +27,7 @@ returns : tie.Need-returns
 returns c = cursor-stored (c .args .words .now) (c .args .i) (c .pre .0) (c .pre .1) (c .args .c)
 
 pub store-cursor-spec : {M : Type 1} → statement M
-store-cursor-spec =
-    tie.close
-    (tie.spec
-    (λ c. search needs)
-    (λ c. search needs)
-    (λ c. search needs)
-    (λ c. search needs)
-    (λ c. search needs)
-    (λ c. search needs)
-    slice-write-words-2
-    (λ c. search needs)
-    (λ c. search needs)
-    slice-write-words-3
-    (λ c. search needs)
-    (λ c. search needs)
-    slice-write-words-4
-    (λ c. search needs)
-    (λ c. search needs)
-    slice-write-words-5
-    (λ c. search needs)
-    returns)
+store-cursor-spec = tie.close (tie.spec (λ c. search needs) (λ c. search needs) (λ c. search needs) (λ c. search needs)
+    (λ c. search needs) (λ c. search needs) slice-write-words-2 (λ c. search needs) (λ c. search needs)
+    slice-write-words-3 (λ c. search needs) (λ c. search needs) slice-write-words-4 (λ c. search needs)
+    (λ c. search needs) slice-write-words-5 (λ c. search needs) returns)

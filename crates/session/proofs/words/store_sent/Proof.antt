@@ -8,13 +8,5 @@ returns : tie.Need-returns
 returns c = sent-stored (c .args .words .now) (c .args .i) (c .pre .0) (c .pre .1) (c .args .sent)
 
 pub store-sent-spec : {M : Type 1} → statement M
-store-sent-spec =
-    tie.close
-    (tie.spec
-    (λ c. search needs)
-    (λ c. search needs)
-    (λ c. search needs)
-    (λ c. search needs)
-    (λ c. search needs)
-    (λ c. search needs)
-    returns)
+store-sent-spec = tie.close (tie.spec (λ c. search needs) (λ c. search needs) (λ c. search needs) (λ c. search needs)
+    (λ c. search needs) (λ c. search needs) returns)

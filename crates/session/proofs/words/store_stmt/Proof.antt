@@ -22,17 +22,6 @@ returns : tie.Need-returns
 returns c = stmt-stored (c .args .words .now) (c .args .i) (c .args .t) (c .pre .0) (c .pre .1)
 
 pub store-stmt-spec : {M : Type 1} → statement M
-store-stmt-spec =
-    tie.close
-    (tie.spec
-    (λ c. search needs)
-    (λ c. search needs)
-    (λ c. search needs)
-    (λ c. search needs)
-    (λ c. search needs)
-    slice-write-words-2
-    (λ c. search needs)
-    (λ c. search needs)
-    slice-write-words-3
-    (λ c. search needs)
-    returns)
+store-stmt-spec = tie.close (tie.spec (λ c. search needs) (λ c. search needs) (λ c. search needs) (λ c. search needs)
+    (λ c. search needs) slice-write-words-2 (λ c. search needs) (λ c. search needs) slice-write-words-3
+    (λ c. search needs) returns)
