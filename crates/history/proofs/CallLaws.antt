@@ -9,8 +9,8 @@ use Rattle.session.specs.Words.{sessionOf}
 use Rattle.rules.specs.declared.Answer.{Answer}
 use Rattle.rules.specs.Step.{Step, stepOf}
 use Rattle.history.specs.Run.{Input, run, leaves, Told, told}
-use Rattle.history.specs.History.{State, Kept, reached}
-use Rattle.history.specs.Calls.{Call, Contract, Called, wordsAfter, toldOf, toldBy, Demand3Exported}
+use Rattle.history.specs.History.{Kept}
+use Rattle.history.specs.Calls.{Call, Contract, Called, wordsAfter, toldBy, Demand3Exported}
 use Rattle.history.proofs.HistoryLaws.{demand-3}
 
 abbrev input : Call → Input

@@ -30,7 +30,7 @@ use Rattle.session.specs.Entry.{noCursor, newCursor, isLiveCursor, isCursor, ra
 use Rattle.session.specs.Tables.{maxCursors, fresh, cursorAt, cursorPlace, liveCursor, ends}
 use Rattle.session.specs.Sound.{Sound}
 use Rattle.session.proofs.PlaceLaws.{Passes, found}
-use Rattle.session.proofs.SumLaws.{one, sum-same, sum-map, sum-replicate, counted, and-true}
+use Rattle.session.proofs.SumLaws.{one, sum-same, sum-map, sum-replicate, counted}
 use Rattle.session.proofs.TableLaws.{fresh-sound, fetched-as}
 use Rattle.reply.specs.declared.Reply.{Reply}
 use Rattle.reply.specs.Reply.{replyBytes}
@@ -40,7 +40,7 @@ use Rattle.reply.proofs.ReplyLaws.{tells-done}
 use Rattle.rules.specs.declared.Report.{Report}
 use Rattle.rules.specs.Kind.{oneOf, onGood}
 use Rattle.rules.specs.Report.{suits}
-use Rattle.rules.specs.Rows.{firstRow, rowCount, fetchCount, openCount, leftAfter}
+use Rattle.rules.specs.Rows.{firstRow, rowCount, fetchCount, openCount}
 use Rattle.rules.specs.Read.{Read, ReadIn}
 use Rattle.rules.specs.Ending.{endsIt, endsCursor}
 use Rattle.rules.specs.Refusal.{stepReason}
@@ -52,10 +52,10 @@ use Rattle.rules.proofs.ReadLaws.{frames-are-read}
 use Rattle.rules.proofs.RefusalLaws.{Looked, Took}
 use Rattle.rules.proofs.StepLaws.{refusedStep, step-has, reply-front}
 use Rattle.rules.proofs.SoundLaws.{after-sound}
-use Rattle.history.specs.Tally.{Segment, Opening, Tally, empty, sent, kept, endings, isOf, longer, withOpening}
-use Rattle.history.specs.Tally.{withRows, adds, fedOn, fed}
-use Rattle.history.specs.Run.{Input, run, leaves, Told, toldBy, told, fedBy, tallied}
-use Rattle.history.specs.History.{State, tallyOf, reached, Proper, allSent, isFor, TellsDone, TellDone, Kept}
+use Rattle.history.specs.Tally.{Segment, Opening, Tally, empty, sent, kept, endings, isOf, longer}
+use Rattle.history.specs.Tally.{adds, fedOn, fed}
+use Rattle.history.specs.Run.{Input, run, leaves, toldBy, told, fedBy, tallied}
+use Rattle.history.specs.History.{tallyOf, reached, Proper, allSent, TellsDone, TellDone}
 use Rattle.history.specs.History.{Demand3, ReachesSound}
 use Rattle.history.proofs.ListLaws.{sum-kept, sum-all, sum-only, all-kept, kept-pass, all-append, all-map}
 use Rattle.history.proofs.ListLaws.{all-imp, all-both, all-zero}

@@ -38,7 +38,7 @@ use Rattle.rules.specs.Decision.{sessionAfter, replyTo, named, namedKind, wireC
 use Rattle.rules.specs.Step.{Step, replyOf, stepOn, stepOf}
 use Rattle.history.specs.Tally.{Tally, empty, kept, fedOn, fed}
 use Rattle.history.specs.Run.{run, leaves, fedBy, tallied}
-use Rattle.history.specs.History.{reached, Kept}
+use Rattle.history.specs.History.{reached}
 use Rattle.history.specs.Samples.{prepareOne, openOne, fetchOne, SamplesShown, tells, servedOn, ServedOnRefused}
 
 -- ---- the Open frame

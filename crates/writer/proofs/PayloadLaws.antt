@@ -1,17 +1,12 @@
 -- Payloads by the message type, and fields with bytes put in two parts. Assumes nothing.
-use Prim.Native.Nat.{ℕ, _+_}
-use mathlib.Core.Path.{_≡_, refl, sym, ap, _∙_}
-use mathlib.Core.List.{List, [], _++_}
-use native.Mathlib.Nat.{add-zero}
-use lib.ListN.{length}
+use Prim.Native.Nat.{ℕ}
+use mathlib.Core.Path.{_≡_, sym, ap, _∙_}
+use mathlib.Core.List.{List, []}
 use borrow.Author.Tests.{ne-eqb}
 use Rattle.prelude.proofs.Cases.{no as without}
 use Rattle.protocol.specs.Client as Client
-use Rattle.encode.specs.Puts.{Puts}
-use Rattle.encode.specs.Field.{numberField, bytesField}
-use Rattle.encode.proofs.PutsLaws.{puts-then, puts-as}
+use Rattle.encode.specs.Field.{numberField}
 use Rattle.writer.specs.declared.Draft.{Draft}
-use Rattle.encode.specs.Field.{prefixOf}
 use Rattle.writer.specs.Payload.{executePayload, preparePayload, openPayload, fetchPayload, payloadAs}
 
 module _ (d : Draft) (body args : List ℕ) {kind : ℕ} where

@@ -10,7 +10,6 @@ use lib.Dec.{leb, eqb}
 use borrow.Author.Tests.{le-leb, leb-true, eq-eqb, eqb-true, eqb-false}
 use Rattle.prelude.proofs.Cases.{yes}
 use Rattle.encode.specs.Put.{written}
-use Rattle.scalar.specs.declared.argument.Argument.{Argument}
 use Rattle.encode.specs.Frame.{frame}
 use Rattle.encode.specs.Field.{numberField}
 use Rattle.protocol.specs.Client as Client

@@ -1,12 +1,10 @@
 -- How long fields and payloads are, by their parts. Assumes nothing.
-use Prim.Native.Nat.{ℕ, _+_, _*_, _≤_}
+use Prim.Native.Nat.{ℕ, _+_, _≤_}
 use native.Mathlib.Omega.{arith}
-use mathlib.Core.Path.{_≡_, refl, ap}
-use mathlib.Core.Bool.{Bool, true, false, cond}
+use mathlib.Core.Path.{_≡_}
+use mathlib.Core.Bool.{cond}
 use mathlib.Core.List.{List, _++_}
 use lib.ListN.{length, length-append}
-use Rattle.varint.specs.Shortest.{varintBytes}
-use Rattle.varint.proofs.VarintLaws.{varint-length}
 use Rattle.encode.specs.Field.{numberField, bytesField}
 use Rattle.encode.proofs.FieldLaws.{number-short, optional-short, prefix-short, bytes-sum}
 use Rattle.message.specs.Operation.{fieldOf}

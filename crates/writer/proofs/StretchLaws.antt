@@ -7,7 +7,7 @@ use mathlib.Core.Path.{_≡_, refl, sym, ap, subst, _∙_}
 use mathlib.Core.List.{List, _∷_}
 use lib.ListN.{length, getD, set}
 use lib.Dec.{eqb}
-use borrow.Author.Tests.{lt-ltb, eqb-true, eqb-false}
+use borrow.Author.Tests.{lt-ltb, eqb-false}
 use Rattle.prelude.proofs.Cases.{less-or-not}
 use Rattle.wire.specs.Field.{fieldAt}
 use Rattle.wire.specs.declared.field.Field.{Field}

@@ -63,18 +63,6 @@ returns-3 c =
     (not-false _ (e .if1 .left)) _ refl (omega (arith, n .field-len .ensures)) (w .put-field .ensures)
 
 pub append-argument-spec : {M : Type 1} → statement M
-append-argument-spec =
-    tie.close
-    (tie.spec
-    (λ c κs. search needs)
-    returns
-    add-end
-    (λ c. search needs)
-    (λ c. search needs)
-    part-bytes-end
-    (λ c κs. search needs)
-    (λ c κs. search needs)
-    returns-2
-    (λ c κs. search needs)
-    (λ c. search needs)
-    returns-3)
+append-argument-spec = tie.close (tie.spec (λ c κs. search needs) returns add-end (λ c. search needs)
+    (λ c. search needs) part-bytes-end (λ c κs. search needs) (λ c κs. search needs) returns-2 (λ c κs. search needs)
+    (λ c. search needs) returns-3)

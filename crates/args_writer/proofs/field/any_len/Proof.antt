@@ -34,12 +34,5 @@ returns c =
     )
 
 pub any-len-spec : {M : Type 1} → statement M
-any-len-spec =
-    tie.close
-    (tie.spec
-    (λ c κs. search needs)
-    (λ c κs. search needs)
-    (λ c κs. search needs)
-    add-result
-    add-result-2
-    returns)
+any-len-spec = tie.close (tie.spec (λ c κs. search needs) (λ c κs. search needs) (λ c κs. search needs) add-result
+    add-result-2 returns)

@@ -20,13 +20,5 @@ returns c =
     (p .put-prefix .ensures) (puts-then (t .put-number2 .ensures) (v .put-value .ensures)))
 
 pub put-any-spec : {M : Type 1} → statement M
-put-any-spec =
-    tie.close
-    (tie.spec
-    (λ c κs. search needs)
-    (λ c κs. search needs)
-    (λ c κs. search needs)
-    (λ c κs. search needs)
-    (λ c κs. search needs)
-    (λ c. search needs)
-    returns)
+put-any-spec = tie.close (tie.spec (λ c κs. search needs) (λ c κs. search needs) (λ c κs. search needs)
+    (λ c κs. search needs) (λ c κs. search needs) (λ c. search needs) returns)

@@ -14,11 +14,5 @@ returns c =
     (b .put-bytes .ensures)
 
 pub put-message-spec : {M : Type 1} → statement M
-put-message-spec =
-    tie.close
-    (tie.spec
-    (λ c κs. search needs)
-    (λ c κs. search needs)
-    (λ c κs. search needs)
-    (λ c. search needs)
-    returns)
+put-message-spec = tie.close (tie.spec (λ c κs. search needs) (λ c κs. search needs) (λ c κs. search needs)
+    (λ c. search needs) returns)

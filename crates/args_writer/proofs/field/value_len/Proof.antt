@@ -69,20 +69,6 @@ returns-5 c =
     (sym (as-none (a .f .num) (a .f .bits) (a .bytes .now) (r .0 .0 .0 .1) (r .0 .0 .1) (r .0 .1) (r .1)))
 
 pub value-len-spec : {M : Type 1} → statement M
-value-len-spec =
-    tie.close
-    (tie.spec
-    (λ c κs. search needs)
-    (λ c κs. search needs)
-    add-result
-    (λ c κs. search needs)
-    (λ c κs. search needs)
-    (λ c κs. search needs)
-    add-result-2
-    (λ c κs. search needs)
-    add-result-3
-    returns
-    returns-2
-    returns-3
-    returns-4
-    returns-5)
+value-len-spec = tie.close (tie.spec (λ c κs. search needs) (λ c κs. search needs) add-result (λ c κs. search needs)
+    (λ c κs. search needs) (λ c κs. search needs) add-result-2 (λ c κs. search needs) add-result-3 returns returns-2
+    returns-3 returns-4 returns-5)

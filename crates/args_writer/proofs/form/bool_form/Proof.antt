@@ -18,10 +18,4 @@ returns-2 c =
     (sym (c .before .if1 .left))
 
 pub bool-form-spec : {M : Type 1} → statement M
-bool-form-spec =
-    tie.close
-    (tie.spec
-    (λ c κs. search needs)
-    (λ c κs. search needs)
-    returns
-    returns-2)
+bool-form-spec = tie.close (tie.spec (λ c κs. search needs) (λ c κs. search needs) returns returns-2)

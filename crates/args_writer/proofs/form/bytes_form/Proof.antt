@@ -22,11 +22,4 @@ returns-3 c =
     bytes-in (a .kind) (a .num) (a .start) (a .len) (a .n) (omega arith)
 
 pub bytes-form-spec : {M : Type 1} → statement M
-bytes-form-spec =
-    tie.close
-    (tie.spec
-    (λ c κs. search needs)
-    returns
-    (λ c κs. search needs)
-    returns-2
-    returns-3)
+bytes-form-spec = tie.close (tie.spec (λ c κs. search needs) returns (λ c κs. search needs) returns-2 returns-3)

@@ -27,11 +27,5 @@ returns-2 c =
     (nan-not x (c .before .if1 .left))
 
 pub double-form-spec : {M : Type 1} → statement M
-double-form-spec =
-    tie.close
-    (tie.spec
-    (λ c κs. search needs)
-    returns
-    float-to-bits-value-form
-    (λ c κs. search needs)
+double-form-spec = tie.close (tie.spec (λ c κs. search needs) returns float-to-bits-value-form (λ c κs. search needs)
     returns-2)

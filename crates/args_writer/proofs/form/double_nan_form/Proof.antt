@@ -22,10 +22,4 @@ returns-2 c =
     (is-nan binary64 n (c .before .if1 .left))
 
 pub double-nan-form-spec : {M : Type 1} → statement M
-double-nan-form-spec =
-    tie.close
-    (tie.spec
-    (λ c κs. search needs)
-    returns
-    (λ c κs. search needs)
-    returns-2)
+double-nan-form-spec = tie.close (tie.spec (λ c κs. search needs) returns (λ c κs. search needs) returns-2)

@@ -30,12 +30,5 @@ returns-2 c =
     (nan-not x (c .before .before .if1 .left))
 
 pub float-form-spec : {M : Type 1} → statement M
-float-form-spec =
-    tie.close
-    (tie.spec
-    (λ c κs. search needs)
-    returns
-    float-to-bits-wide
-    (λ c κs. search needs)
-    (λ c κs. search needs)
-    returns-2)
+float-form-spec = tie.close (tie.spec (λ c κs. search needs) returns float-to-bits-wide (λ c κs. search needs)
+    (λ c κs. search needs) returns-2)

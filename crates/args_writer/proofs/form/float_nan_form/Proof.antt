@@ -22,10 +22,4 @@ returns-2 c =
     (is-nan binary32 n (c .before .if1 .left))
 
 pub float-nan-form-spec : {M : Type 1} → statement M
-float-nan-form-spec =
-    tie.close
-    (tie.spec
-    (λ c κs. search needs)
-    returns
-    (λ c κs. search needs)
-    returns-2)
+float-nan-form-spec = tie.close (tie.spec (λ c κs. search needs) returns (λ c κs. search needs) returns-2)

@@ -71,21 +71,6 @@ returns-5 : tie.Need-returns-5 Inv-loop μ-loop
 returns-5 c = ends (c .before .loop .inv) (c .loop-test .left)
 
 pub is-stretch-spec : {M : Type 1} → statement M
-is-stretch-spec =
-    tie.close
-    (tie.spec
-    Inv-loop
-    μ-loop
-    loop-holds
-    (λ c κs. search needs)
-    (λ c. search needs)
-    (λ c. search needs)
-    returns
-    returns-2
-    returns-3
-    (λ c κs. search needs)
-    (λ c κs. search needs)
-    returns-4
-    loop-less
-    loop-again
-    returns-5)
+is-stretch-spec = tie.close (tie.spec Inv-loop μ-loop loop-holds (λ c κs. search needs) (λ c. search needs)
+    (λ c. search needs) returns returns-2 returns-3 (λ c κs. search needs) (λ c κs. search needs) returns-4 loop-less
+    loop-again returns-5)

@@ -30,13 +30,5 @@ returns c =
     )
 
 pub execute-len-spec : {M : Type 1} → statement M
-execute-len-spec =
-    tie.close
-    (tie.spec
-    (λ c. search needs)
-    (λ c κs. search needs)
-    add-result
-    (λ c κs. search needs)
-    (λ c κs. search needs)
-    add-result-2
-    returns)
+execute-len-spec = tie.close (tie.spec (λ c. search needs) (λ c κs. search needs) add-result (λ c κs. search needs)
+    (λ c κs. search needs) add-result-2 returns)

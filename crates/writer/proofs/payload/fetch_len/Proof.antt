@@ -17,6 +17,5 @@ returns c =
     omega (arith, fetch-parts (a .draft))
 
 pub fetch-len-spec : {M : Type 1} → statement M
-fetch-len-spec =
-    tie.close
-    (tie.spec (λ c. search needs) (λ c κs. search needs) (λ c κs. search needs) add-result returns)
+fetch-len-spec = tie.close (tie.spec (λ c. search needs) (λ c κs. search needs) (λ c κs. search needs) add-result
+    returns)

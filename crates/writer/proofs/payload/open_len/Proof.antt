@@ -49,15 +49,5 @@ returns c =
     )
 
 pub open-len-spec : {M : Type 1} → statement M
-open-len-spec =
-    tie.close
-    (tie.spec
-    (λ c κs. search needs)
-    (λ c. search needs)
-    (λ c κs. search needs)
-    (λ c κs. search needs)
-    add-result
-    add-result-2
-    (λ c κs. search needs)
-    add-result-3
-    returns)
+open-len-spec = tie.close (tie.spec (λ c κs. search needs) (λ c. search needs) (λ c κs. search needs)
+    (λ c κs. search needs) add-result add-result-2 (λ c κs. search needs) add-result-3 returns)

@@ -35,12 +35,5 @@ returns c =
     )
 
 pub open-stmt-len-spec : {M : Type 1} → statement M
-open-stmt-len-spec =
-    tie.close
-    (tie.spec
-    (λ c κs. search needs)
-    (λ c κs. search needs)
-    (λ c κs. search needs)
-    add-result
-    add-result-2
-    returns)
+open-stmt-len-spec = tie.close (tie.spec (λ c κs. search needs) (λ c κs. search needs) (λ c κs. search needs) add-result
+    add-result-2 returns)

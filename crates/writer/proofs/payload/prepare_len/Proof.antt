@@ -37,13 +37,5 @@ returns c =
     )
 
 pub prepare-len-spec : {M : Type 1} → statement M
-prepare-len-spec =
-    tie.close
-    (tie.spec
-    (λ c κs. search needs)
-    (λ c. search needs)
-    (λ c κs. search needs)
-    (λ c κs. search needs)
-    add-result
-    add-result-2
-    returns)
+prepare-len-spec = tie.close (tie.spec (λ c κs. search needs) (λ c. search needs) (λ c κs. search needs)
+    (λ c κs. search needs) add-result add-result-2 returns)

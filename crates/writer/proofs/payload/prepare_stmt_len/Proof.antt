@@ -39,13 +39,5 @@ returns c =
     )
 
 pub prepare-stmt-len-spec : {M : Type 1} → statement M
-prepare-stmt-len-spec =
-    tie.close
-    (tie.spec
-    (λ c κs. search needs)
-    (λ c. search needs)
-    (λ c κs. search needs)
-    (λ c κs. search needs)
-    add-result
-    add-result-2
-    returns)
+prepare-stmt-len-spec = tie.close (tie.spec (λ c κs. search needs) (λ c. search needs) (λ c κs. search needs)
+    (λ c κs. search needs) add-result add-result-2 returns)

@@ -19,13 +19,5 @@ returns c =
     (puts-as (ap (λ (v : ℕ). optionalField (d .hascompact) 3 v) (o .before .bit .ensures)) (o .put-optional .ensures))
 
 pub put-execute-spec : {M : Type 1} → statement M
-put-execute-spec =
-    tie.close
-    (tie.spec
-    (λ c. search needs)
-    (λ c. search needs)
-    (λ c. search needs)
-    (λ c. search needs)
-    (λ c. search needs)
-    (λ c. search needs)
-    returns)
+put-execute-spec = tie.close (tie.spec (λ c. search needs) (λ c. search needs) (λ c. search needs) (λ c. search needs)
+    (λ c. search needs) (λ c. search needs) returns)

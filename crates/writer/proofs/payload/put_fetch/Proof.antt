@@ -12,11 +12,5 @@ returns c =
     puts-then (o .before .before .before .before .put-number .ensures) (o .put-optional .ensures)
 
 pub put-fetch-spec : {M : Type 1} → statement M
-put-fetch-spec =
-    tie.close
-    (tie.spec
-    (λ c. search needs)
-    (λ c. search needs)
-    (λ c. search needs)
-    (λ c. search needs)
+put-fetch-spec = tie.close (tie.spec (λ c. search needs) (λ c. search needs) (λ c. search needs) (λ c. search needs)
     returns)

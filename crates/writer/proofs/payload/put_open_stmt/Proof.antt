@@ -19,12 +19,5 @@ returns c =
     (s .put-execute .ensures))
 
 pub put-open-stmt-spec : {M : Type 1} → statement M
-put-open-stmt-spec =
-    tie.close
-    (tie.spec
-    (λ c. search needs)
-    (λ c. search needs)
-    (λ c. search needs)
-    (λ c. search needs)
-    (λ c. search needs)
-    returns)
+put-open-stmt-spec = tie.close (tie.spec (λ c. search needs) (λ c. search needs) (λ c. search needs) (λ c. search needs)
+    (λ c. search needs) returns)

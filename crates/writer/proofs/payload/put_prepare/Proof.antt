@@ -19,13 +19,5 @@ returns c =
     (s .put-prepare-stmt .ensures))
 
 pub put-prepare-spec : {M : Type 1} → statement M
-put-prepare-spec =
-    tie.close
-    (tie.spec
-    (λ c. search needs)
-    (λ c. search needs)
-    (λ c. search needs)
-    (λ c. search needs)
-    (λ c. search needs)
-    (λ c. search needs)
-    returns)
+put-prepare-spec = tie.close (tie.spec (λ c. search needs) (λ c. search needs) (λ c. search needs) (λ c. search needs)
+    (λ c. search needs) (λ c. search needs) returns)

@@ -19,12 +19,5 @@ returns c =
     (puts-as (ap (λ (k : ℕ). bytesField k (a .body .now)) (f .field-of .ensures .0)) (b .put-bytes .ensures))
 
 pub put-prepare-stmt-spec : {M : Type 1} → statement M
-put-prepare-stmt-spec =
-    tie.close
-    (tie.spec
-    (λ c. search needs)
-    (λ c. search needs)
-    (λ c. search needs)
-    (λ c. search needs)
-    (λ c. search needs)
-    returns)
+put-prepare-stmt-spec = tie.close (tie.spec (λ c. search needs) (λ c. search needs) (λ c. search needs)
+    (λ c. search needs) (λ c. search needs) returns)
