@@ -1,15 +1,11 @@
 -- An answer, case by case, and a reply that fits its buffer. Assumes nothing.
 use Prim.Native.Nat.{ℕ, _+_, _≤_}
 use native.Mathlib.Omega.{arith}
-use mathlib.Core.Bool.{Bool, true, false, cond, _||_}
-use mathlib.Core.Path.{_≡_, refl, sym, ap, subst, _∙_}
+use mathlib.Core.Path.{_≡_, ap, subst, _∙_}
 use mathlib.Core.List.{List}
 use lib.ListN.{length}
-use lib.Dec.{eqb}
 use borrow.Author.Tests.{eq-eqb, ne-eqb, le-leb}
 use Rattle.prelude.proofs.Cases.{yes, no as without}
-use Rattle.encode.specs.declared.put.Put.{Put}
-use Rattle.encode.specs.Put.{putAt, written}
 use Rattle.protocol.specs.Reason as Reason
 use Rattle.reply.specs.Reply.{codeOf, replyBytes}
 use Rattle.reply.specs.declared.Reply.{Reply}

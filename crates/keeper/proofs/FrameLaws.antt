@@ -6,11 +6,10 @@ use native.Mathlib.Nat.{le-trans}
 use native.Mathlib.Omega.{arith}
 use mathlib.Core.Bool.{Bool, true, false, cond}
 use mathlib.Core.Path.{_≡_, refl, sym, ap, subst, _∙_}
-use mathlib.Core.List.{List, []}
+use mathlib.Core.List.{List}
 use lib.ListN.{length}
-use lib.Dec.{eqb, leb}
+use lib.Dec.{eqb}
 use borrow.Author.Tests.{ne-eqb, lt-leb, lt-ltb, le-ltb}
-use Rattle.encode.specs.Put.{written}
 use Rattle.protocol.specs.Reason as Reason
 use Rattle.message.specs.Frame.{frameOf, usedOf}
 use Rattle.message.specs.declared.request.Request.{Request}
@@ -23,9 +22,9 @@ use Rattle.reply.specs.declared.Reply.{Reply}
 use Rattle.rules.specs.declared.Answer.{Answer}
 use Rattle.rules.specs.declared.Report.{Report}
 use Rattle.rules.specs.Refusal.{lookReason, reportReason, stepReason}
-use Rattle.rules.specs.Read.{Read, ReadIn}
+use Rattle.rules.specs.Read.{ReadIn}
 use Rattle.rules.specs.Decision.{refusalOf, refusedReply, refused, decisionOf}
-use Rattle.rules.specs.Step.{Step, tooShort, stepBy, stepOn}
+use Rattle.rules.specs.Step.{Step, stepBy, stepOn}
 use Rattle.rules.proofs.ReadLaws.{frames-are-read}
 use Rattle.rules.proofs.StepLaws.{error-fits, written-none}
 use Rattle.keeper.proofs.AnswerLaws.{put-behind}
@@ -160,3 +159,10 @@ readable frame b e f room = record { room = room; read = subst ReadIn (sym e ∙
 pub sym-answer : {x : Step} {a a' : Answer} {s : Session} {after : List ℕ} → a ≡ a' → Does x a' s after →
     Does x a s after
 sym-answer {x} {a} {a'} {s} {after} e h = record { answered = e ∙ h .answered; kept = h .kept; replied = h .replied }
+
+-- the clauses of a step's contract
+abbrev pub Clauses : Step → Answer → Session → List ℕ → Type 0
+Clauses x a s after = (a ≡ x .answer) × ((s ≡ x .session) × (after ≡ x .buffer))
+
+pub clauses : {x : Step} {a : Answer} {s : Session} {after : List ℕ} → Does x a s after → Clauses x a s after
+clauses d = (d .answered, (d .kept, d .replied))

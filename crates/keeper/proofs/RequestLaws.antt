@@ -2,8 +2,9 @@
 -- nothing.
 use Prim.Native.Nat.{ℕ, _+_, _-_, _≤_, _<_, min}
 use native.Mathlib.Omega.{arith}
-use mathlib.Core.Bool.{Bool, true, false, cond, not, _&&_, _||_}
+use mathlib.Core.Bool.{Bool, true, false, cond, not}
 use mathlib.Core.Path.{_≡_, refl, sym, ap, _∙_}
+use mathlib.Core.List.{List}
 use lib.Dec.{eqb, leb}
 use borrow.Author.Tests.{eqb-true, eqb-false, leb-false}
 use Rattle.protocol.specs.Reason as Reason
@@ -13,13 +14,13 @@ use Rattle.message.specs.declared.request.Execute.{Execute}
 use Rattle.message.specs.declared.request.Open.{Open}
 use Rattle.message.specs.declared.request.Fetch.{Fetch}
 use Rattle.message.specs.declared.request.Request.{Request}
-use Rattle.message.specs.declared.request.Frame.the-variants.{Good}
 use Rattle.session.specs.declared.Stmt.{Stmt}
 use Rattle.session.specs.declared.Cursor.{Cursor}
 use Rattle.session.specs.declared.Place.{Place}
-use Rattle.session.specs.Session.{Session, isClosed}
+use Rattle.session.specs.Session.{Session}
+use Rattle.session.specs.Words.{sessionOf}
 use Rattle.session.specs.Lists.{entryAt}
-use Rattle.session.specs.Entry.{noStmt, noCursor, isLiveStmt, isLiveCursor, isCursor, onStmt, withSent, raise}
+use Rattle.session.specs.Entry.{noStmt, noCursor, isLiveStmt, isLiveCursor, isCursor, onStmt, withSent}
 use Rattle.session.specs.Tables.{stmtAt, cursorAt, stmtPlace, cursorPlace, liveStmt, liveCursor, storedCursor, endedBy}
 use Rattle.session.specs.Tables.{preparedAt, freedAt, openedAt, reset, closedNow}
 use Rattle.session.specs.Sound.{maxNumber, maxPlaceholders}
@@ -27,13 +28,13 @@ use Rattle.reply.specs.declared.Reply.{Reply}
 use Rattle.rules.specs.declared.Report.{Report}
 use Rattle.rules.proofs.SoundLaws.{placeholders-fit, rows-fit}
 use Rattle.rules.specs.Report.{isPrepared, isResult, isDone, fails}
-use Rattle.rules.specs.Refusal.{firstOf, noPlace, reportTests, stepReason}
-use Rattle.rules.specs.Rows.{remaining, fetchCount, openCount, firstRow, rowCount, sendsColumns}
+use Rattle.rules.specs.Refusal.{firstOf, noPlace, reportTests}
+use Rattle.rules.specs.Rows.{fetchCount, openCount, firstRow, rowCount, sendsColumns}
 use Rattle.rules.specs.Decision.{sessionAfter, replyTo}
 use Rattle.keeper.specs.declared.answer.Sends.{Sends}
 use Rattle.keeper.specs.private.Reasons.{requestReason, orElse, unless, consulted, fetchReason}
-use Rattle.keeper.specs.private.Does.{sendsOf, sendsAll, sendsFirst, sendsNext}
-use Rattle.keeper.proofs.StepLaws.{open-reason, idle-reason}
+use Rattle.keeper.specs.private.Does.{Ready, sendsOf, sendsAll, sendsFirst, sendsNext}
+use Rattle.keeper.proofs.StepLaws.{Decided, open-reason, idle-reason}
 
 -- ---- entries
 
@@ -46,7 +47,7 @@ unless-full true n = refl
 unless-full false n = refl
 
 -- the entry found is the live one of the id
-pub stmt-found : (s : Session) (id : ℕ) {place : Place} {t : Stmt} → place ≡ stmtAt s id →
+stmt-found : (s : Session) (id : ℕ) {place : Place} {t : Stmt} → place ≡ stmtAt s id →
     t ≡ entryAt (s .stmts) place noStmt → t ≡ liveStmt s id
 stmt-found s id e f = f ∙ ap (λ p. entryAt (s .stmts) p noStmt) e
 
@@ -63,19 +64,20 @@ prepare-looks s p e f =
     f ∙ ap (λ x. unless (not (noPlace x)) Reason.stmtsFull) e
     ∙ unless-full (noPlace (stmtPlace s (p .stmt))) Reason.stmtsFull
 
-pub deallocate-looks : (s : Session) (id : ℕ) {t : Stmt} {n : ℕ} → t ≡ liveStmt s id →
-    n ≡ unless (isLiveStmt t) Reason.noStmt →
+pub deallocate-looks : (s : Session) (id : ℕ) {place : Place} {t : Stmt} {n : ℕ} → place ≡ stmtAt s id →
+    t ≡ entryAt (s .stmts) place noStmt → n ≡ unless (isLiveStmt t) Reason.noStmt →
     n ≡ requestReason s (Request.Deallocate id)
 unfolding requestReason
-deallocate-looks s id e f =
-    f ∙ ap (λ x. unless (isLiveStmt x) Reason.noStmt) e ∙ unless-not (isLiveStmt (liveStmt s id)) Reason.noStmt
+deallocate-looks s id e f g =
+    g ∙ ap (λ x. unless (isLiveStmt x) Reason.noStmt) (stmt-found s id e f)
+    ∙ unless-not (isLiveStmt (liveStmt s id)) Reason.noStmt
 
-pub close-looks : (s : Session) (id : ℕ) {c : Cursor} {n : ℕ} → c ≡ liveCursor s id →
-    n ≡ unless (isLiveCursor c) Reason.noCursor →
+pub close-looks : (s : Session) (id : ℕ) {place : Place} {c : Cursor} {n : ℕ} → place ≡ cursorAt s id →
+    c ≡ entryAt (s .cursors) place noCursor → n ≡ unless (isLiveCursor c) Reason.noCursor →
     n ≡ requestReason s (Request.Close id)
 unfolding requestReason
-close-looks s id e f =
-    f ∙ ap (λ x. unless (isLiveCursor x) Reason.noCursor) e
+close-looks s id e f g =
+    g ∙ ap (λ x. unless (isLiveCursor x) Reason.noCursor) (cursor-found s id e f)
     ∙ unless-not (isLiveCursor (liveCursor s id)) Reason.noCursor
 
 pub fetch-looks : (s : Session) (f : Fetch) {c : Cursor} {n : ℕ} → c ≡ liveCursor s (f .cursor) → n ≡ fetchReason c →
@@ -93,21 +95,10 @@ session-close-looks s = refl
 
 -- ---- what the report refuses
 
-pub prepare-consults : (p : Prepare) (r : Report) {a : Bool} {n : ℕ} → a ≡ isPrepared r → n ≡ consulted a (fails r) →
-    n ≡ firstOf (reportTests (Request.Prepare p) r)
-prepare-consults p r e f = f ∙ ap (λ b. consulted b (fails r)) e
-
-pub execute-consults : (x : Execute) (r : Report) {a : Bool} {n : ℕ} → a ≡ isResult r → n ≡ consulted a (fails r) →
-    n ≡ firstOf (reportTests (Request.Execute x) r)
-execute-consults x r e f = f ∙ ap (λ b. consulted b (fails r)) e
-
-pub open-consults : (o : Open) (r : Report) {a : Bool} {n : ℕ} → a ≡ isResult r → n ≡ consulted a (fails r) →
-    n ≡ firstOf (reportTests (Request.Open o) r)
-open-consults o r e f = f ∙ ap (λ b. consulted b (fails r)) e
-
-pub fetch-consults : (f : Fetch) (r : Report) {a : Bool} {n : ℕ} → a ≡ isDone r → n ≡ consulted a (fails r) →
-    n ≡ firstOf (reportTests (Request.Fetch f) r)
-fetch-consults f r e g = g ∙ ap (λ b. consulted b (fails r)) e
+consults : (q : Request) (r : Report) {a suits : Bool} {n : ℕ} →
+    consulted suits (fails r) ≡ firstOf (reportTests q r) → a ≡ suits → n ≡ consulted a (fails r) →
+    n ≡ firstOf (reportTests q r)
+consults q r e f g = g ∙ ap (λ b. consulted b (fails r)) f ∙ e
 
 -- ---- what is sent
 
@@ -267,41 +258,51 @@ fetch-after s f r {place} {c} {count} {sent} e g k h l =
 
 -- ---- what a step decides, from what its parts answered
 
-module _ (s : Session) (unclosed : isClosed s ≡ false) (used : ℕ) (r : Report) where
-  abbrev Decides : Request → ℕ → Type 0
-  Decides q n = n ≡ stepReason s (Good used q) r
+module _ (used : ℕ) (r : Report) {w b : List ℕ} where
+  -- a request that wants no work, and one that does
+  idle : {q : Request} {n : ℕ} → Ready w q b → firstOf (reportTests q r) ≡ 0 → n ≡ requestReason (sessionOf w) q →
+      Decided w q b used r n
+  idle {q} h e f = record { ready = h; reason = idle-reason (sessionOf w) used q r (h .unclosed) e f }
 
-  pub prepare-decides : (p : Prepare) → {place : Place} {look report n : ℕ} {a : Bool} → place ≡ stmtPlace s (p .stmt) →
-      look ≡ unless (not (noPlace place)) Reason.stmtsFull → a ≡ isPrepared r → report ≡ consulted a (fails r) →
-      n ≡ orElse look report →
-      Decides (Request.Prepare p) n
-  prepare-decides p e f g k =
-      open-reason s used (Request.Prepare p) r unclosed (prepare-looks s p e f) (prepare-consults p r g k)
+  works : {q : Request} {look report n : ℕ} {a suits : Bool} → Ready w q b →
+      consulted suits (fails r) ≡ firstOf (reportTests q r) → look ≡ requestReason (sessionOf w) q → a ≡ suits →
+      report ≡ consulted a (fails r) → n ≡ orElse look report → Decided w q b used r n
+  works {q} h e f g k i =
+      record { ready = h; reason = open-reason (sessionOf w) used q r (h .unclosed) f (consults q r e g k) i }
 
-  pub execute-decides : (x : Execute) → {look report n : ℕ} {a : Bool} → look ≡ requestReason s (Request.Execute x) →
-      a ≡ isResult r → report ≡ consulted a (fails r) → n ≡ orElse look report → Decides (Request.Execute x) n
-  execute-decides x f g k = open-reason s used (Request.Execute x) r unclosed f (execute-consults x r g k)
+  pub prepare-decides : {p : Prepare} {place : Place} {look report n : ℕ} {a : Bool} → Ready w (Request.Prepare p) b →
+      place ≡ stmtPlace (sessionOf w) (p .stmt) → look ≡ unless (not (noPlace place)) Reason.stmtsFull →
+      a ≡ isPrepared r → report ≡ consulted a (fails r) → n ≡ orElse look report →
+      Decided w (Request.Prepare p) b used r n
+  prepare-decides {p} h e f = works h refl (prepare-looks (sessionOf w) p e f)
 
-  pub open-decides : (o : Open) → {look report n : ℕ} {a : Bool} → look ≡ requestReason s (Request.Open o) →
-      a ≡ isResult r → report ≡ consulted a (fails r) → n ≡ orElse look report → Decides (Request.Open o) n
-  open-decides o f g k = open-reason s used (Request.Open o) r unclosed f (open-consults o r g k)
+  pub execute-decides : {x : Execute} {look report n : ℕ} {a : Bool} → Ready w (Request.Execute x) b →
+      look ≡ requestReason (sessionOf w) (Request.Execute x) → a ≡ isResult r → report ≡ consulted a (fails r) →
+      n ≡ orElse look report → Decided w (Request.Execute x) b used r n
+  execute-decides h = works h refl
 
-  pub fetch-decides : (f : Fetch) → {c : Cursor} {look report n : ℕ} {a : Bool} → c ≡ liveCursor s (f .cursor) →
-      look ≡ fetchReason c → a ≡ isDone r → report ≡ consulted a (fails r) → n ≡ orElse look report →
-      Decides (Request.Fetch f) n
-  fetch-decides f e g d k = open-reason s used (Request.Fetch f) r unclosed (fetch-looks s f e g)
-      (fetch-consults f r d k)
+  pub open-decides : {o : Open} {look report n : ℕ} {a : Bool} → Ready w (Request.Open o) b →
+      look ≡ requestReason (sessionOf w) (Request.Open o) → a ≡ isResult r → report ≡ consulted a (fails r) →
+      n ≡ orElse look report → Decided w (Request.Open o) b used r n
+  open-decides h = works h refl
 
-  pub deallocate-decides : (id : ℕ) → {t : Stmt} {n : ℕ} → t ≡ liveStmt s id →
-      n ≡ unless (isLiveStmt t) Reason.noStmt → Decides (Request.Deallocate id) n
-  deallocate-decides id e f = idle-reason s used (Request.Deallocate id) r unclosed refl (deallocate-looks s id e f)
+  pub fetch-decides : {f : Fetch} {c : Cursor} {look report n : ℕ} {a : Bool} → Ready w (Request.Fetch f) b →
+      c ≡ liveCursor (sessionOf w) (f .cursor) → look ≡ fetchReason c → a ≡ isDone r → report ≡ consulted a (fails r) →
+      n ≡ orElse look report → Decided w (Request.Fetch f) b used r n
+  fetch-decides {f} h e g = works h refl (fetch-looks (sessionOf w) f e g)
 
-  pub close-decides : (id : ℕ) → {c : Cursor} {n : ℕ} → c ≡ liveCursor s id →
-      n ≡ unless (isLiveCursor c) Reason.noCursor → Decides (Request.Close id) n
-  close-decides id e f = idle-reason s used (Request.Close id) r unclosed refl (close-looks s id e f)
+  pub deallocate-decides : {id : ℕ} {place : Place} {t : Stmt} {n : ℕ} → Ready w (Request.Deallocate id) b →
+      place ≡ stmtAt (sessionOf w) id → t ≡ entryAt (sessionOf w .stmts) place noStmt →
+      n ≡ unless (isLiveStmt t) Reason.noStmt → Decided w (Request.Deallocate id) b used r n
+  deallocate-decides {id} h e f g = idle h refl (deallocate-looks (sessionOf w) id e f g)
 
-  pub reset-decides : 0 ≡ stepReason s (Good used Request.Reset) r
-  reset-decides = idle-reason s used Request.Reset r unclosed refl (reset-looks s)
+  pub close-decides : {id : ℕ} {place : Place} {c : Cursor} {n : ℕ} → Ready w (Request.Close id) b →
+      place ≡ cursorAt (sessionOf w) id → c ≡ entryAt (sessionOf w .cursors) place noCursor →
+      n ≡ unless (isLiveCursor c) Reason.noCursor → Decided w (Request.Close id) b used r n
+  close-decides {id} h e f g = idle h refl (close-looks (sessionOf w) id e f g)
 
-  pub session-close-decides : 0 ≡ stepReason s (Good used Request.SessionClose) r
-  session-close-decides = idle-reason s used Request.SessionClose r unclosed refl (session-close-looks s)
+  pub reset-decides : Ready w Request.Reset b → Decided w Request.Reset b used r 0
+  reset-decides h = idle h refl (reset-looks (sessionOf w))
+
+  pub session-close-decides : Ready w Request.SessionClose b → Decided w Request.SessionClose b used r 0
+  session-close-decides h = idle h refl (session-close-looks (sessionOf w))

@@ -3,7 +3,7 @@
 use Prim.Native.Nat.{ℕ, _≤_}
 use native.Mathlib.Nat.{le-trans}
 use native.Mathlib.Omega.{arith}
-use mathlib.Core.Bool.{Bool, true, false, cond, not}
+use mathlib.Core.Bool.{Bool, true, false, cond}
 use mathlib.Core.Path.{_≡_, refl, sym, ap, subst, _∙_}
 use mathlib.Core.List.{List}
 use lib.ListN.{length}
@@ -22,9 +22,9 @@ use Rattle.rules.specs.declared.Answer.{Answer}
 use Rattle.rules.specs.declared.Report.{Report}
 use Rattle.rules.specs.Refusal.{firstOf, lookReason, reportTests, reportReason, stepReason}
 use Rattle.rules.specs.Read.{Read}
-use Rattle.rules.specs.Decision.{Decision, sessionAfter, replyTo, named, namedKind, refusalOf, refusedReply, refused}
+use Rattle.rules.specs.Decision.{Decision, sessionAfter, named, namedKind, refusalOf, refusedReply, refused}
 use Rattle.rules.specs.Decision.{accepted, decisionOf}
-use Rattle.rules.specs.Step.{Step, stepBy, stepOn}
+use Rattle.rules.specs.Step.{stepBy, stepOn}
 use Rattle.rules.proofs.RefusalLaws.{late-read}
 use Rattle.rules.proofs.StepLaws.{error-fits}
 use Rattle.rules.proofs.BufferLaws.{reply-fits}
@@ -86,9 +86,9 @@ module _ (s : Session) (used : ℕ) (q : Request) (r : Report) (b : List ℕ) (r
   reply-long : lengthIn b (sendsOf s q r .reply) ≡ length (replyBytes (sendsOf s q r .reply))
   reply-long = put-behind b (sendsOf s q r .reply) (le-trans (reply-fits s q r) room)
 
-  pub refuses : {n : ℕ} {names : Names} {a : Answer} {after : List ℕ} → n ≡ reason → (n ≡ 0 → ⊥) → names ≡ namesOf q →
+  refused-so : {n : ℕ} {names : Names} {a : Answer} {after : List ℕ} → n ≡ reason → (n ≡ 0 → ⊥) → names ≡ namesOf q →
       Answers (refusing used n) (Reply.Error (errorOf n names r)) b a after → Does (stepOn s x r b) a s after
-  refuses {n} {names} {a} {after} e some f h =
+  refused-so {n} {names} {a} {after} e some f h =
       let none : reason ≡ 0 → ⊥ = λ z. some (e ∙ z) in
       let g = subst (λ (k : ℕ). Answers (refusing used k) (Reply.Error (errorOf k (namesOf q) r)) b a after) e
       (subst (λ y. Answers (refusing used n) (Reply.Error (errorOf n y r)) b a after) f h) in
@@ -100,11 +100,11 @@ module _ (s : Session) (used : ℕ) (q : Request) (r : Report) (b : List ℕ) (r
         replied = g .stored ∙ ap (λ y. y .buffer) is;
       }
 
-  pub accepts : {n : ℕ} {sends : Sends} {s' : Session} {a : Answer} {after : List ℕ} → n ≡ reason → n ≡ 0 →
+  accepted-so : {n : ℕ} {sends : Sends} {s' : Session} {a : Answer} {after : List ℕ} → n ≡ reason → n ≡ 0 →
       sends ≡ sendsOf s q r →
       s' ≡ sessionAfter s q r → Answers (accepting used sends) (sends .reply) b a after →
       Does (stepOn s x r b) a s' after
-  accepts {n} {sends} {s'} {a} {after} e z f k h =
+  accepted-so {n} {sends} {s'} {a} {after} e z f k h =
       let g = subst (λ y. Answers (accepting used y) (y .reply) b a after) f h in
       let is = sym (step-accepted (sym e ∙ z)) in
       record {
@@ -115,6 +115,24 @@ module _ (s : Session) (used : ℕ) (q : Request) (r : Report) (b : List ℕ) (r
         kept = k ∙ ap (λ y. y .session) is;
         replied = g .stored ∙ ap (λ y. y .buffer) is;
       }
+
+-- ---- in an open session, where the reason is known
+
+pub record Decided (w : List ℕ) (q : Request) (b : List ℕ) (used : ℕ) (r : Report) (n : ℕ) : Type 0 where
+  pub ready : Ready w q b
+  pub reason : n ≡ stepReason (sessionOf w) (Good used q) r
+
+module _ {w b : List ℕ} {q : Request} {used : ℕ} {r : Report} {n : ℕ} (d : Decided w q b used r n) where
+  pub refuses : {names : Names} {a : Answer} {after : List ℕ} → (n ≡ 0 → ⊥) → names ≡ namesOf q →
+      Answers (refusing used n) (Reply.Error (errorOf n names r)) b a after →
+      Does (stepOn (sessionOf w) (Good used q) r b) a (sessionOf w) after
+  refuses = refused-so (sessionOf w) used q r b (d .ready .room) (d .ready .read) (d .reason)
+
+  pub accepts : {sends : Sends} {s' : Session} {a : Answer} {after : List ℕ} → n ≡ 0 →
+      sends ≡ sendsOf (sessionOf w) q r → s' ≡ sessionAfter (sessionOf w) q r →
+      Answers (accepting used sends) (sends .reply) b a after →
+      Does (stepOn (sessionOf w) (Good used q) r b) a s' after
+  accepts = accepted-so (sessionOf w) used q r b (d .ready .room) (d .ready .read) (d .reason)
 
 -- ---- the reason, in an open session and in a closed one
 
@@ -154,7 +172,7 @@ module _ (s : Session) (used : ℕ) (q : Request) (r : Report) (b : List ℕ) (r
       Answers (refusing used Reason.closed) (Reply.Error (errorOf Reason.closed noNames r)) b a after →
       Does (stepOn s (Good used q) r b) a s after
   closed-refuses {a} {after} h =
-      refuses s used q r b room read (closed-reason s used q r closed) (λ e. omega arith) refl
+      refused-so s used q r b room read (closed-reason s used q r closed) (λ e. omega arith) refl
       (subst (λ x. Answers (refusing used Reason.closed) x b a after) nameless h)
 
 -- ---- by the request

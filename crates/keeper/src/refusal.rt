@@ -21,6 +21,9 @@ use session::Place;
 use session::Stmt;
 use session::WORDS;
 
+// The kind of arguments that are all scalars: no object and no array is among them.
+const ALL_SCALARS: u64 = 0;
+
 // The first of two refusals.
 pub(crate) fn or_else(first: u64, next: u64) -> u64
     ensures { λ r. ⌜ r ≡ orElse first next ⌝ }
@@ -77,7 +80,7 @@ fn binding(stmt: Stmt, args: Arguments) -> u64
     if stmt.live == 0 {
         return reason::NO_STMT;
     }
-    if args.kind != 0 {
+    if args.kind != ALL_SCALARS {
         return reason::NOT_SCALAR;
     }
     if args.count < stmt.placeholders as usize {

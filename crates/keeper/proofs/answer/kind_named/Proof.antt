@@ -1,5 +1,4 @@
 -- `keeper::answer::kind_named` meets its contract: 8 alone names a type. Assumes nothing.
-use borrow.Author.Needs.{needs}
 use Rattle.keeper.proofs.AnswerLaws.{kind-told, kind-none}
 use Rattle.keeper.proofs.answer.kind_named.Statement.{statement}
 use Rattle.keeper.proofs.answer.kind_named.Tie as tie

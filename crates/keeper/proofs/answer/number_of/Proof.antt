@@ -1,5 +1,4 @@
 -- `keeper::answer::number_of` meets its contract: one law for each refusal that names a number. Assumes nothing.
-use borrow.Author.Needs.{needs}
 use Rattle.keeper.proofs.AnswerLaws.{number-stmt, number-index, number-count, number-dead, number-sent}
 use Rattle.keeper.proofs.AnswerLaws.{number-none}
 use Rattle.keeper.proofs.answer.number_of.Statement.{statement}

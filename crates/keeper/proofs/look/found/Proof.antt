@@ -1,5 +1,5 @@
 -- `keeper::look::found` meets its contract: the reason chooses. Assumes nothing.
-use mathlib.Core.Path.{sym, _∙_}
+use mathlib.Core.Path.{_∙_}
 use borrow.Author.Needs.{needs}
 use Rattle.keeper.proofs.LookLaws.{found-not, found-work}
 use Rattle.keeper.proofs.look.found.Statement.{statement}
@@ -13,9 +13,4 @@ returns-2 : tie.Need-returns-2
 returns-2 c = let a = c .before .args in found-work (a .reason) (a .work) (c .if1 .left)
 
 pub found-spec : {M : Type 1} → statement M
-found-spec =
-    tie.close
-    (tie.spec
-    (λ c κs. search needs)
-    returns
-    returns-2)
+found-spec = tie.close (tie.spec (λ c κs. search needs) returns returns-2)

@@ -1,11 +1,20 @@
 -- `keeper::look::look_at` meets its contract: closed comes first, then each request by its own entries. Assumes
 -- nothing.
-use mathlib.Core.Path.{sym, _∙_}
+use Prim.Native.Nat.{ℕ}
+use mathlib.Core.Bool.{false, cond}
+use mathlib.Core.Path.{_≡_, sym, _∙_}
+use lib.Dec.{eqb}
 use borrow.Author.Needs.{needs}
 use Rattle.message.specs.declared.request.Request.{Request}
+use Rattle.message.specs.declared.request.Frame.the-variants.{Good}
+use Rattle.protocol.specs.Reason as Reason
+use Rattle.session.specs.Session.{isClosed}
 use Rattle.session.specs.Words.{sessionOf}
+use Rattle.rules.specs.declared.Look.{Look}
+use Rattle.rules.specs.Decision.{looked, lookRefused, lookOf}
+use Rattle.keeper.specs.private.Reasons.{requestReason}
 use Rattle.keeper.proofs.RequestLaws.{reset-looks, session-close-looks, prepare-looks, deallocate-looks}
-use Rattle.keeper.proofs.RequestLaws.{close-looks, stmt-found, cursor-found}
+use Rattle.keeper.proofs.RequestLaws.{close-looks}
 use Rattle.keeper.proofs.LookLaws.{closed-look, found-look, as-look, reset-wants, session-close-wants}
 use Rattle.keeper.proofs.LookLaws.{prepare-wants, execute-wants, deallocate-wants, close-wants}
 use Rattle.keeper.proofs.look.look_at.Statement.{statement}
@@ -18,146 +27,84 @@ returns c =
     c .refused .ensures ∙ closed-look (sessionOf (a .words .now)) (a .request)
     (sym (k .is-closed .ensures) ∙ c .before .if1 .taken)
 
+-- where the request is looked at, the session is open
+abbrev start : tie.Else1 → tie.Start
+start t = t .before .before
+
+unclosed : (t : tie.Else1) → isClosed (sessionOf (start t .args .words .now)) ≡ false
+unclosed t = sym (t .before .is-closed .ensures) ∙ t .if1 .left
+
+-- of the request that it is: an answer to it, and what was found of it
+of : (t : tie.Else1) {p : Request} {l : Look} → start t .args .request ≡ p →
+    l ≡ lookOf (sessionOf (start t .args .words .now)) (Good 0 p) →
+    l ≡ lookOf (sessionOf (start t .args .words .now)) (Good 0 (start t .args .request))
+of t = as-look (sessionOf (start t .args .words .now)) (start t .args .request)
+
+told : (t : tie.Else1) {p : Request} {n : ℕ} {work l : Look} → start t .args .request ≡ p →
+    n ≡ requestReason (sessionOf (start t .args .words .now)) p →
+    work ≡ looked (sessionOf (start t .args .words .now)) p → l ≡ cond (eqb n Reason.accepted) work (lookRefused n) →
+    l ≡ lookOf (sessionOf (start t .args .words .now)) (Good 0 (start t .args .request))
+told t {p} {n} {work} e f g h =
+    of t e (h ∙ found-look (sessionOf (start t .args .words .now)) p (unclosed t) f work g)
+
 returns-2 : tie.Need-returns-2
 returns-2 c =
-    let q = c .before in
-    let t = q .before .before in
-    let k = t .before in
-    let a = k .before .args in
-    let s = sessionOf (a .words .now) in
-    let unclosed = sym (k .is-closed .ensures) ∙ t .if1 .left in
-    as-look s (a .request) (q .enum-told .given .1)
-    (c .found .ensures ∙ found-look s Request.Reset unclosed (reset-looks s) _ (reset-wants s))
+    let t = c .before .before .before in
+    let s = sessionOf (start t .args .words .now) in
+    told t (c .before .enum-told .given .1) (reset-looks s) (reset-wants s) (c .found .ensures)
 
 returns-3 : tie.Need-returns-3
 returns-3 c =
-    let q = c .before in
-    let t = q .before .before in
-    let k = t .before in
-    let a = k .before .args in
-    let s = sessionOf (a .words .now) in
-    let unclosed = sym (k .is-closed .ensures) ∙ t .if1 .left in
-    as-look s (a .request) (q .enum-told2 .given .1)
-    (c .found2 .ensures ∙ found-look s Request.SessionClose unclosed (session-close-looks s) _ (session-close-wants s))
+    let t = c .before .before .before in
+    let s = sessionOf (start t .args .words .now) in
+    told t (c .before .enum-told2 .given .1) (session-close-looks s) (session-close-wants s) (c .found2 .ensures)
 
 returns-4 : tie.Need-returns-4
 returns-4 c =
     let q = c .before .before .before .before in
-    let t = q .before .before in
-    let k = t .before in
-    let a = k .before .args in
-    let s = sessionOf (a .words .now) in
-    let unclosed = sym (k .is-closed .ensures) ∙ t .if1 .left in
-    as-look s (a .request) (q .request .given .1)
-    (c .found3 .ensures ∙ found-look s (Request.Prepare _) unclosed
-    (prepare-looks s _ (c .before .before .stmt-place .ensures) (c .before .full .ensures)) _ (prepare-wants s _))
+    let s = sessionOf (start (q .before .before) .args .words .now) in
+    told (q .before .before) (q .request .given .1)
+    (prepare-looks s _ (c .before .before .stmt-place .ensures) (c .before .full .ensures)) (prepare-wants s _)
+    (c .found3 .ensures)
 
 returns-5 : tie.Need-returns-5
 returns-5 c =
     let q = c .before .before .before in
-    let t = q .before .before in
-    let k = t .before in
-    let a = k .before .args in
-    let s = sessionOf (a .words .now) in
-    let unclosed = sym (k .is-closed .ensures) ∙ t .if1 .left in
-    as-look s (a .request) (q .request2 .given .1)
-    (c .found4 .ensures ∙ found-look s (Request.Execute _) unclosed (c .before .execute .ensures) _ (execute-wants s _))
+    told (q .before .before) (q .request2 .given .1) (c .before .execute .ensures) (execute-wants _ _)
+    (c .found4 .ensures)
 
 returns-6 : tie.Need-returns-6
 returns-6 c =
     let q = c .before .before .before .before .before in
-    let t = q .before .before in
-    let k = t .before in
-    let a = k .before .args in
-    let s = sessionOf (a .words .now) in
-    let unclosed = sym (k .is-closed .ensures) ∙ t .if1 .left in
-    as-look s (a .request) (q .request3 .given .1)
-    (c .found5 .ensures ∙ found-look s (Request.Deallocate _) unclosed
-    (deallocate-looks s _ (stmt-found s _ (c .before .before .before .find-stmt .ensures)
-    (c .before .before .stmt-at .ensures)) (c .before .dead-stmt .ensures)) _ (deallocate-wants s _))
-
-look-open-requires : tie.Need-look-open-requires
-look-open-requires c κs =
-    let t = c .before .before .before in
-    sym (t .before .is-closed .ensures) ∙ t .if1 .left
+    let s = sessionOf (start (q .before .before) .args .words .now) in
+    told (q .before .before) (q .request3 .given .1)
+    (deallocate-looks s _ (c .before .before .before .find-stmt .ensures) (c .before .before .stmt-at .ensures)
+    (c .before .dead-stmt .ensures)) (deallocate-wants s _) (c .found5 .ensures)
 
 returns-7 : tie.Need-returns-7
 returns-7 c =
     let q = c .before .before in
-    let t = q .before .before in
-    let k = t .before in
-    let a = k .before .args in
-    let s = sessionOf (a .words .now) in
-    let unclosed = sym (k .is-closed .ensures) ∙ t .if1 .left in
-    as-look s (a .request) (q .request4 .given .1)
-    (c .look-open .ensures)
+    of (q .before .before) (q .request4 .given .1) (c .look-open .ensures)
 
 returns-8 : tie.Need-returns-8
 returns-8 c =
     let q = c .before .before .before .before .before in
-    let t = q .before .before in
-    let k = t .before in
-    let a = k .before .args in
-    let s = sessionOf (a .words .now) in
-    let unclosed = sym (k .is-closed .ensures) ∙ t .if1 .left in
-    as-look s (a .request) (q .request5 .given .1)
-    (c .found6 .ensures ∙ found-look s (Request.Close _) unclosed
-    (close-looks s _ (cursor-found s _ (c .before .before .before .find-cursor .ensures)
-    (c .before .before .cursor-at .ensures)) (c .before .dead-cursor .ensures)) _ (close-wants s _))
-
-look-fetch-requires : tie.Need-look-fetch-requires
-look-fetch-requires c κs =
-    let t = c .before .before .before in
-    sym (t .before .is-closed .ensures) ∙ t .if1 .left
+    let s = sessionOf (start (q .before .before) .args .words .now) in
+    told (q .before .before) (q .request5 .given .1)
+    (close-looks s _ (c .before .before .before .find-cursor .ensures) (c .before .before .cursor-at .ensures)
+    (c .before .dead-cursor .ensures)) (close-wants s _) (c .found6 .ensures)
 
 returns-9 : tie.Need-returns-9
 returns-9 c =
     let q = c .before .before in
-    let t = q .before .before in
-    let k = t .before in
-    let a = k .before .args in
-    let s = sessionOf (a .words .now) in
-    let unclosed = sym (k .is-closed .ensures) ∙ t .if1 .left in
-    as-look s (a .request) (q .request6 .given .1)
-    (c .look-fetch .ensures)
+    of (q .before .before) (q .request6 .given .1) (c .look-fetch .ensures)
 
 pub look-at-spec : {M : Type 1} → statement M
-look-at-spec =
-    tie.close
-    (tie.spec
-    (λ c κs. search needs)
-    (λ c κs. search needs)
-    returns
-    (λ c. search needs)
-    (λ c κs. search needs)
-    (λ c. search needs)
-    (λ c κs. search needs)
-    (λ c. search needs)
-    (λ c κs. search needs)
-    (λ c κs. search needs)
-    (λ c κs. search needs)
-    (λ c. search needs)
-    (λ c κs. search needs)
-    (λ c κs. search needs)
-    (λ c. search needs)
-    (λ c κs. search needs)
-    (λ c κs. search needs)
-    (λ c κs. search needs)
-    (λ c κs. search needs)
-    (λ c. search needs)
-    look-open-requires
-    (λ c. search needs)
-    (λ c κs. search needs)
-    (λ c κs. search needs)
-    (λ c κs. search needs)
-    (λ c κs. search needs)
-    (λ c. search needs)
-    look-fetch-requires
-    returns-2
-    returns-3
-    returns-4
-    returns-5
-    returns-6
-    returns-7
-    returns-8
+look-at-spec = tie.close (tie.spec (λ c κs. search needs) (λ c κs. search needs) returns (λ c. search needs)
+    (λ c κs. search needs) (λ c. search needs) (λ c κs. search needs) (λ c. search needs) (λ c κs. search needs)
+    (λ c κs. search needs) (λ c κs. search needs) (λ c. search needs) (λ c κs. search needs) (λ c κs. search needs)
+    (λ c. search needs) (λ c κs. search needs) (λ c κs. search needs) (λ c κs. search needs) (λ c κs. search needs)
+    (λ c. search needs) (λ c κs. unclosed (c .before .before .before)) (λ c. search needs) (λ c κs. search needs)
+    (λ c κs. search needs) (λ c κs. search needs) (λ c κs. search needs) (λ c. search needs)
+    (λ c κs. unclosed (c .before .before .before)) returns-2 returns-3 returns-4 returns-5 returns-6 returns-7 returns-8
     returns-9)

@@ -1,7 +1,6 @@
 -- `keeper::look::look_fetch` meets its contract: the cursor looked up decides. Assumes nothing.
-use mathlib.Core.Path.{sym, _∙_}
+use mathlib.Core.Path.{_∙_}
 use borrow.Author.Needs.{needs}
-use Rattle.message.specs.declared.request.Request.{Request}
 use Rattle.session.specs.Words.{sessionOf}
 use Rattle.keeper.proofs.RequestLaws.{cursor-found}
 use Rattle.keeper.proofs.LookLaws.{fetch-refused, fetch-wanted}
@@ -34,14 +33,5 @@ returns-2 c =
     (c .fetch-count .ensures)
 
 pub look-fetch-spec : {M : Type 1} → statement M
-look-fetch-spec =
-    tie.close
-    (tie.spec
-    (λ c κs. search needs)
-    (λ c κs. search needs)
-    (λ c κs. search needs)
-    (λ c κs. search needs)
-    returns
-    (λ c. search needs)
-    (λ c κs. search needs)
-    returns-2)
+look-fetch-spec = tie.close (tie.spec (λ c κs. search needs) (λ c κs. search needs) (λ c κs. search needs)
+    (λ c κs. search needs) returns (λ c. search needs) (λ c κs. search needs) returns-2)

@@ -1,5 +1,5 @@
 -- `keeper::look::look_open` meets its contract: its refusals decide. Assumes nothing.
-use mathlib.Core.Path.{sym, _∙_}
+use mathlib.Core.Path.{_∙_}
 use borrow.Author.Needs.{needs}
 use Rattle.message.specs.declared.request.Request.{Request}
 use Rattle.session.specs.Words.{sessionOf}
@@ -16,10 +16,4 @@ returns c =
     c .found .ensures ∙ found-look s (Request.Open (a .o)) (st .pre) (o .«open» .ensures) _ (open-wants s (a .o))
 
 pub look-open-spec : {M : Type 1} → statement M
-look-open-spec =
-    tie.close
-    (tie.spec
-    (λ c κs. search needs)
-    (λ c κs. search needs)
-    (λ c κs. search needs)
-    returns)
+look-open-spec = tie.close (tie.spec (λ c κs. search needs) (λ c κs. search needs) (λ c κs. search needs) returns)

@@ -14,10 +14,4 @@ returns c =
     (p .find-stmt .ensures) (t .stmt-at .ensures) (c .binding .ensures)
 
 pub execute-spec : {M : Type 1} → statement M
-execute-spec =
-    tie.close
-    (tie.spec
-    (λ c κs. search needs)
-    (λ c κs. search needs)
-    (λ c κs. search needs)
-    returns)
+execute-spec = tie.close (tie.spec (λ c κs. search needs) (λ c κs. search needs) (λ c κs. search needs) returns)

@@ -18,10 +18,4 @@ returns-2 c =
     fetch-rest (a .cursor) (a .rows) (l .remaining .result) (l .remaining .ensures .0) (c .if1 .left)
 
 pub fetch-count-spec : {M : Type 1} → statement M
-fetch-count-spec =
-    tie.close
-    (tie.spec
-    (λ c κs. search needs)
-    (λ c κs. search needs)
-    returns
-    returns-2)
+fetch-count-spec = tie.close (tie.spec (λ c κs. search needs) (λ c κs. search needs) returns returns-2)

@@ -11,12 +11,5 @@ returns c =
     sends-with false (a .cursor .sent) (a .count) (c .end-of .ensures)
 
 pub fetched-spec : {M : Type 1} → statement M
-fetched-spec =
-    tie.close
-    (tie.spec
-    (λ c. search needs)
-    (λ c. search needs)
-    (λ c. search needs)
-    (λ c. search needs)
-    (λ c κs. search needs)
-    returns)
+fetched-spec = tie.close (tie.spec (λ c. search needs) (λ c. search needs) (λ c. search needs) (λ c. search needs)
+    (λ c κs. search needs) returns)

@@ -1,9 +1,9 @@
 -- `keeper::step::open` meets its contract: the statement, the arguments and the cursors decide, and the cursor is
 -- stored. Assumes nothing.
 use native.Mathlib.Omega.{arith}
-use mathlib.Core.Path.{refl}
+use Prim.Native.Nat.{_≤_}
 use borrow.Author.Needs.{needs}
-use Rattle.message.specs.declared.request.Request.{Request}
+use Rattle.session.specs.Sound.{maxNumber}
 use Rattle.session.specs.Words.{sessionOf}
 use Rattle.keeper.proofs.StepLaws.{refuses, accepts}
 use Rattle.keeper.proofs.RequestLaws.{open-decides, open-sends, open-after, open-within, result-within}
@@ -12,53 +12,31 @@ use Rattle.keeper.proofs.step.open.Tie as tie
 
 returns : tie.Need-returns
 returns c =
-    let w = c .before .before in
-    let t = w .before .before .before .before in
-    let o = t .before in
-    let p = o .before in
-    let d = p .before in
-    let e = d .before in
-    let g = e .before .before in
-    let st = g .before .before .before .before in
-    let a = st .args in
-    refuses (sessionOf (a .words .now)) (a .used) (Request.Open (a .o)) (a .report) (a .buf .now) (st .pre .room)
-    (st .pre .read)
-    (open-decides (sessionOf (a .words .now)) (st .pre .unclosed) (a .used) (a .report) (a .o) (e .«open» .ensures)
-    (d .is-result .ensures)
-    (p .report .ensures) (o .or-else .ensures))
-    (t .if1 .taken) (w .before .before .bound .ensures) (w .refuse .ensures)
+    let t = c .before .before .before .before .before .before in
+    let d = t .before .before .before in
+    let st = d .before .before .before .before .before .before .before in
+    refuses (open-decides (st .args .used) (st .args .report) (st .pre) (d .before .«open» .ensures)
+    (d .is-result .ensures) (t .before .before .report .ensures) (t .before .or-else .ensures))
+    (t .if1 .taken) (c .before .before .before .before .bound .ensures) (c .before .before .refuse .ensures)
 
-cast-open : tie.Need-cast-open
-cast-open c =
-    let t = c .before .before .before .before in
-    let o = t .before in
-    let p = o .before in
-    let d = p .before in
-    let r = d .before .before .before .before .before .before .before .args .report in
-    record {
-      fits = omega (
-        arith,
-        result-within r (d .before .«open» .result) (d .is-result .ensures)
-            (p .report .ensures) (o .or-else .ensures) (t .if1 .left),
-      );
-    }
+-- an accepted report's rows are a number of 32 bits
+rows-within : (t : tie.Else1) → t .before .before .before .before .before .before .before .before .before .before .args
+    .report .rows ≤ maxNumber
+rows-within t =
+    let d = t .before .before .before in
+    result-within (d .before .before .before .before .before .before .before .args .report) (d .before .«open» .result)
+    (d .is-result .ensures) (t .before .before .report .ensures) (t .before .or-else .ensures) (t .if1 .left)
 
 cast-open-2 : tie.Need-cast-open-2
 cast-open-2 c =
     let n = c .before .before in
-    let t = n .before .before in
-    let o = t .before in
-    let p = o .before in
-    let d = p .before in
-    let a = d .before .before .before .before .before .before .before .args in
+    let a = n .before .before .before .before .before .before .before .before .before .before .before .before .args in
     record {
-      fits =
-          omega (
-            arith,
-            open-within (a .report) (a .o .rows) (n .open-count .ensures),
-            result-within (a .report) (d .before .«open» .result) (d .is-result .ensures) (p .report .ensures)
-                (o .or-else .ensures) (t .if1 .left),
-          );
+      fits = omega (
+        arith,
+        open-within (a .report) (a .o .rows) (n .open-count .ensures),
+        rows-within (n .before .before),
+      );
     }
 
 opened-requires : tie.Need-opened-requires
@@ -69,47 +47,24 @@ opened-requires c κs =
 
 returns-2 : tie.Need-returns-2
 returns-2 c =
-    let w = c .before .before in
-    let h = w .before in
+    let h = c .before .before .before in
     let u = h .before .before in
     let n = u .before .before .before in
     let t = n .before .before in
-    let o = t .before in
-    let p = o .before in
-    let d = p .before in
-    let e = d .before in
-    let g = e .before .before in
+    let d = t .before .before .before in
+    let g = d .before .before .before in
     let st = g .before .before .before .before in
     let a = st .args in
-    accepts (sessionOf (a .words .now)) (a .used) (Request.Open (a .o)) (a .report) (a .buf .now) (st .pre .room)
-    (st .pre .read)
-    (open-decides (sessionOf (a .words .now)) (st .pre .unclosed) (a .used) (a .report) (a .o) (e .«open» .ensures)
-    (d .is-result .ensures)
-    (p .report .ensures) (o .or-else .ensures))
-    (t .if1 .left) (open-sends (sessionOf (a .words .now)) (a .o) (a .report) (n .open-count .ensures)
-    (h .opened .ensures))
-    (open-after (sessionOf (a .words .now)) (a .o) (a .report) (g .cursor-place .ensures) (n .open-count .ensures)
-    (u .open2 .ensures))
-    (w .accept .ensures)
+    let s = sessionOf (a .words .now) in
+    accepts (open-decides (a .used) (a .report) (st .pre) (d .before .«open» .ensures) (d .is-result .ensures)
+    (t .before .before .report .ensures) (t .before .or-else .ensures))
+    (t .if1 .left) (open-sends s (a .o) (a .report) (n .open-count .ensures) (h .opened .ensures))
+    (open-after s (a .o) (a .report) (g .cursor-place .ensures) (n .open-count .ensures) (u .open2 .ensures))
+    (c .before .before .accept .ensures)
 
 pub open-spec : {M : Type 1} → statement M
-open-spec =
-    tie.close
-    (tie.spec
-    (λ c κs. search needs)
-    (λ c κs. search needs)
-    (λ c κs. search needs)
-    (λ c κs. search needs)
-    (λ c κs. search needs)
-    (λ c κs. search needs)
-    (λ c κs. search needs)
-    (λ c. search needs)
-    returns
-    (λ c κs. search needs)
-    cast-open
-    cast-open-2
-    (λ c κs. search needs)
-    opened-requires
-    (λ c κs. search needs)
-    (λ c. search needs)
-    returns-2)
+open-spec = tie.close (tie.spec (λ c κs. search needs) (λ c κs. search needs) (λ c κs. search needs)
+    (λ c κs. search needs) (λ c κs. search needs) (λ c κs. search needs) (λ c κs. search needs) (λ c. search needs)
+    returns (λ c κs. search needs)
+    (λ c. record { fits = omega (arith, rows-within (c .before .before .before .before)) }) cast-open-2
+    (λ c κs. search needs) opened-requires (λ c κs. search needs) (λ c. search needs) returns-2)

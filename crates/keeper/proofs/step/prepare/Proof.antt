@@ -1,9 +1,7 @@
 -- `keeper::step::prepare` meets its contract: the place that the statement takes decides, and it is stored there.
 -- Assumes nothing.
 use native.Mathlib.Omega.{arith}
-use mathlib.Core.Path.{refl}
 use borrow.Author.Needs.{needs}
-use Rattle.message.specs.declared.request.Request.{Request}
 use Rattle.session.specs.Words.{sessionOf}
 use Rattle.keeper.proofs.StepLaws.{refuses, accepts}
 use Rattle.keeper.proofs.RequestLaws.{prepare-decides, prepare-sends, prepare-after, prepared-within}
@@ -12,21 +10,13 @@ use Rattle.keeper.proofs.step.prepare.Tie as tie
 
 returns : tie.Need-returns
 returns c =
-    let w = c .before .before in
-    let t = w .before .before .before .before in
-    let o = t .before in
-    let p = o .before in
-    let d = p .before in
-    let e = d .before in
-    let g = e .before in
-    let st = g .before .before .before in
-    let a = st .args in
-    refuses (sessionOf (a .words .now)) (a .used) (Request.Prepare (a .p)) (a .report) (a .buf .now) (st .pre .room)
-    (st .pre .read)
-    (prepare-decides (sessionOf (a .words .now)) (st .pre .unclosed) (a .used) (a .report) (a .p)
-    (g .stmt-place .ensures) (e .full .ensures)
-    (d .is-prepared .ensures) (p .report .ensures) (o .or-else .ensures))
-    (t .if1 .taken) (w .before .before .bound .ensures) (w .refuse .ensures)
+    let t = c .before .before .before .before .before .before in
+    let d = t .before .before .before in
+    let st = d .before .before .before .before .before in
+    refuses (prepare-decides (st .args .used) (st .args .report) (st .pre) (d .before .before .stmt-place .ensures)
+    (d .before .full .ensures) (d .is-prepared .ensures) (t .before .before .report .ensures)
+    (t .before .or-else .ensures))
+    (t .if1 .taken) (c .before .before .before .before .bound .ensures) (c .before .before .refuse .ensures)
 
 cast-prepare : tie.Need-cast-prepare
 cast-prepare c =
@@ -45,40 +35,20 @@ cast-prepare c =
 
 returns-2 : tie.Need-returns-2
 returns-2 c =
-    let w = c .before .before in
-    let u = w .before .before in
+    let u = c .before .before .before .before in
     let t = u .before .before .before in
-    let o = t .before in
-    let p = o .before in
-    let d = p .before in
-    let e = d .before in
-    let g = e .before in
+    let d = t .before .before .before in
+    let g = d .before .before in
     let st = g .before .before .before in
-    let a = st .args in
-    accepts (sessionOf (a .words .now)) (a .used) (Request.Prepare (a .p)) (a .report) (a .buf .now) (st .pre .room)
-    (st .pre .read)
-    (prepare-decides (sessionOf (a .words .now)) (st .pre .unclosed) (a .used) (a .report) (a .p)
-    (g .stmt-place .ensures) (e .full .ensures)
-    (d .is-prepared .ensures) (p .report .ensures) (o .or-else .ensures))
-    (t .if1 .left) (prepare-sends (sessionOf (a .words .now)) (a .p) (a .report))
-    (prepare-after (sessionOf (a .words .now)) (a .p) (a .report) (g .stmt-place .ensures) (u .prepare .ensures))
-    (w .accept .ensures)
+    let s = sessionOf (st .args .words .now) in
+    accepts (prepare-decides (st .args .used) (st .args .report) (st .pre) (g .stmt-place .ensures)
+    (d .before .full .ensures) (d .is-prepared .ensures) (t .before .before .report .ensures)
+    (t .before .or-else .ensures))
+    (t .if1 .left) (prepare-sends s (st .args .p) (st .args .report))
+    (prepare-after s (st .args .p) (st .args .report) (g .stmt-place .ensures) (u .prepare .ensures))
+    (c .before .before .accept .ensures)
 
 pub prepare-spec : {M : Type 1} → statement M
-prepare-spec =
-    tie.close
-    (tie.spec
-    (λ c κs. search needs)
-    (λ c κs. search needs)
-    (λ c κs. search needs)
-    (λ c κs. search needs)
-    (λ c κs. search needs)
-    (λ c κs. search needs)
-    (λ c κs. search needs)
-    (λ c. search needs)
-    returns
-    cast-prepare
-    (λ c κs. search needs)
-    (λ c κs. search needs)
-    (λ c. search needs)
-    returns-2)
+prepare-spec = tie.close (tie.spec (λ c κs. search needs) (λ c κs. search needs) (λ c κs. search needs)
+    (λ c κs. search needs) (λ c κs. search needs) (λ c κs. search needs) (λ c κs. search needs) (λ c. search needs)
+    returns cast-prepare (λ c κs. search needs) (λ c κs. search needs) (λ c. search needs) returns-2)

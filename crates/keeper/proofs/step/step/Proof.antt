@@ -1,110 +1,90 @@
 -- `keeper::step::step` meets its contract: room comes first, then what the frame is by itself, then its request.
--- Assumes
--- nothing.
-use mathlib.Core.Path.{refl}
+-- Assumes nothing.
+use Prim.Native.Nat.{ℕ}
+use mathlib.Core.Path.{_≡_}
+use mathlib.Core.List.{List}
 use borrow.Author.Needs.{needs}
 use Rattle.message.specs.Frame.{frameOf}
+use Rattle.message.specs.declared.request.Frame.{Frame}
+use Rattle.session.specs.Session.{Session}
 use Rattle.session.specs.Words.{sessionOf}
 use Rattle.keeper.proofs.FrameLaws.{short-step, cut-step, length-step, unknown-refuses, payload-refuses}
-use Rattle.keeper.proofs.FrameLaws.{does-read, readable, sym-answer}
+use Rattle.rules.specs.declared.Answer.{Answer}
+use Rattle.rules.specs.Step.{stepOn, stepOf}
+use Rattle.keeper.specs.private.Does.{Does}
+use Rattle.keeper.proofs.FrameLaws.{does-read, readable, sym-answer, Clauses, clauses}
 use Rattle.keeper.proofs.step.step.Statement.{statement}
 use Rattle.keeper.proofs.step.step.Tie as tie
 
 returns : tie.Need-returns
 returns c =
     let a = c .before .before .before .before .args in
-    let d = sym-answer (c .refuse-silently .ensures)
+    clauses (sym-answer (c .refuse-silently .ensures)
     (short-step (sessionOf (a .words .now)) (a .report) (a .reply .now) (frameOf (a .frame .now))
-    (c .before .if1 .taken)) in
-    (d .answered, (d .kept, d .replied))
+    (c .before .if1 .taken)))
+
+-- there is room, where the frame was read; what is done is done of what it was read as
+abbrev start : tie.After-read-frame → tie.Start
+start f = f .before .before .before .before
+
+of : (f : tie.After-read-frame) {x : Frame} {a : Answer} {s : Session} {after : List ℕ} →
+    f .read-frame .result ≡ x →
+    Does (stepOn (sessionOf (start f .args .words .now)) x (start f .args .report) (start f .args .reply .now)) a s
+    after →
+    Clauses (stepOf (sessionOf (start f .args .words .now)) (start f .args .frame .now) (start f .args .report)
+    (start f .args .reply .now)) a s after
+of f e h =
+    let a = start f .args in
+    clauses (does-read (sessionOf (a .words .now)) (a .frame .now) (a .report) (a .reply .now)
+    (f .read-frame .ensures) e h)
 
 returns-2 : tie.Need-returns-2
 returns-2 c =
-    let t = c .before in
-    let f = t .before .before in
-    let a = f .before .before .before .before .args in
-    let s = sessionOf (a .words .now) in
-    let d = does-read s (a .frame .now) (a .report) (a .reply .now) (f .read-frame .ensures) (t .enum-told .given .1)
-    (sym-answer (c .refuse-silently2 .ensures) (cut-step s (a .report) (a .reply .now) (f .before .if1 .left))) in
-    (d .answered, (d .kept, d .replied))
+    let f = c .before .before .before in
+    let a = start f .args in
+    of f (c .before .enum-told .given .1) (sym-answer (c .refuse-silently2 .ensures)
+    (cut-step (sessionOf (a .words .now)) (a .report) (a .reply .now) (f .before .if1 .left)))
 
 returns-3 : tie.Need-returns-3
 returns-3 c =
-    let t = c .before in
-    let f = t .before .before in
-    let a = f .before .before .before .before .args in
-    let s = sessionOf (a .words .now) in
-    let d = does-read s (a .frame .now) (a .report) (a .reply .now) (f .read-frame .ensures) (t .enum-told2 .given .1)
-    (sym-answer (c .refuse-silently3 .ensures) (length-step s (a .report) (a .reply .now) (f .before .if1 .left))) in
-    (d .answered, (d .kept, d .replied))
+    let f = c .before .before .before in
+    let a = start f .args in
+    of f (c .before .enum-told2 .given .1) (sym-answer (c .refuse-silently3 .ensures)
+    (length-step (sessionOf (a .words .now)) (a .report) (a .reply .now) (f .before .if1 .left)))
 
 returns-4 : tie.Need-returns-4
 returns-4 c =
-    let w = c .before .before in
-    let k = w .before .before in
-    let u = k .before .before .before in
-    let f = u .before .before in
-    let a = f .before .before .before .before .args in
-    let s = sessionOf (a .words .now) in
-    let d = does-read s (a .frame .now) (a .report) (a .reply .now) (f .read-frame .ensures) (u .used .given .1)
-    (unknown-refuses s _ (a .report) (a .reply .now) (f .before .if1 .left) (k .closed-or .ensures)
-    (w .refuse .ensures)) in
-    (d .answered, (d .kept, d .replied))
+    let k = c .before .before .before .before in
+    let f = k .before .before .before .before .before in
+    let a = start f .args in
+    of f (k .before .before .before .used .given .1)
+    (unknown-refuses (sessionOf (a .words .now)) _ (a .report) (a .reply .now) (f .before .if1 .left)
+    (k .closed-or .ensures) (c .before .before .refuse .ensures))
 
 returns-5 : tie.Need-returns-5
 returns-5 c =
-    let w = c .before .before in
-    let k = w .before .before in
-    let u = k .before .before .before in
-    let f = u .before .before in
-    let a = f .before .before .before .before .args in
-    let s = sessionOf (a .words .now) in
-    let d = does-read s (a .frame .now) (a .report) (a .reply .now) (f .read-frame .ensures) (u .used2 .given .1)
-    (payload-refuses s _ (a .report) (a .reply .now) (f .before .if1 .left) _ (k .closed-or2 .ensures)
-    (w .refuse2 .ensures)) in
-    (d .answered, (d .kept, d .replied))
+    let k = c .before .before .before .before in
+    let f = k .before .before .before .before .before in
+    let a = start f .args in
+    of f (k .before .before .before .used2 .given .1)
+    (payload-refuses (sessionOf (a .words .now)) _ (a .report) (a .reply .now) (f .before .if1 .left) _
+    (k .closed-or2 .ensures) (c .before .before .refuse2 .ensures))
 
 step-on-requires : tie.Need-step-on-requires
 step-on-requires c κs =
     let u = c .before .before .before in
     let f = u .before .before in
-    let a = f .before .before .before .before .args in
-    readable (a .frame .now) (a .reply .now) (f .read-frame .ensures) (u .used3 .given .1) (f .before .if1 .left)
+    readable (start f .args .frame .now) (start f .args .reply .now) (f .read-frame .ensures) (u .used3 .given .1)
+    (f .before .if1 .left)
 
 returns-6 : tie.Need-returns-6
 returns-6 c =
-    let w = c .before .before in
-    let u = w .before .before .before .before in
-    let f = u .before .before in
-    let a = f .before .before .before .before .args in
-    let d = does-read (sessionOf (a .words .now)) (a .frame .now) (a .report) (a .reply .now) (f .read-frame .ensures)
-    (u .used3 .given .1) (w .step-on .ensures) in
-    (d .answered, (d .kept, d .replied))
+    let u = c .before .before .before .before .before .before in
+    of (u .before .before) (u .used3 .given .1) (c .before .before .step-on .ensures)
 
 pub step-spec : {M : Type 1} → statement M
-step-spec =
-    tie.close
-    (tie.spec
-    (λ c κs. search needs)
-    returns
-    (λ c κs. search needs)
-    (λ c. search needs)
-    (λ c κs. search needs)
-    (λ c. search needs)
-    (λ c κs. search needs)
-    (λ c. search needs)
-    (λ c κs. search needs)
-    (λ c κs. search needs)
-    (λ c. search needs)
-    (λ c κs. search needs)
-    (λ c κs. search needs)
-    (λ c. search needs)
-    step-on-requires
-    returns-2
-    returns-3
-    (λ c. search needs)
-    returns-4
-    (λ c. search needs)
-    returns-5
-    (λ c. search needs)
+step-spec = tie.close (tie.spec (λ c κs. search needs) returns (λ c κs. search needs) (λ c. search needs)
+    (λ c κs. search needs) (λ c. search needs) (λ c κs. search needs) (λ c. search needs) (λ c κs. search needs)
+    (λ c κs. search needs) (λ c. search needs) (λ c κs. search needs) (λ c κs. search needs) (λ c. search needs)
+    step-on-requires returns-2 returns-3 (λ c. search needs) returns-4 (λ c. search needs) returns-5 (λ c. search needs)
     returns-6)
