@@ -15,6 +15,11 @@ fitsAt buf at bytes = leb (at + length bytes) (length buf)
 abbrev pub putAt : List ℕ → ℕ → List ℕ → Put
 putAt buf at bytes = cond (fitsAt buf at bytes) (Next (at + length bytes)) Full
 
+-- the place behind what was put, 0 where it does not fit
+abbrev pub placeBehind : Put → ℕ
+placeBehind (Next n) = n
+placeBehind Full = 0
+
 -- the buffer afterwards: the bytes at their place and every other byte as it was; unchanged where they do not fit
 abbrev pub written : List ℕ → ℕ → List ℕ → List ℕ
 written buf at bytes =

@@ -2,10 +2,10 @@
 // one goes on; who needs all or nothing counts first.
 ghost use mathlib.Core.Path.{_≡_};
 ghost use mathlib.Core.List.{[], _∷_};
-ghost use Prim.Native.Nat.{_+_};
+ghost use Prim.Native.Nat.{_+_, min};
 ghost use lib.Dec.{leb};
 ghost use Rattle.encode.specs.Fixed.{fixedBytes};
-ghost use Rattle.encode.specs.Put.{putAt, written};
+ghost use Rattle.encode.specs.Put.{placeBehind, putAt, written};
 ghost use Rattle.encode.specs.Puts.{Puts};
 
 // What writing all or nothing at a place comes to: the place behind the bytes, or no room for them.
@@ -78,6 +78,22 @@ pub fn write_bytes(buf: &mut [u8], at: usize, src: &[u8]) -> Put
         return Put::Full;
     }
     Put::Next(put_slice(buf, at, src))
+}
+
+// The place behind what was put, 0 where it does not fit.
+pub fn place_behind(put: Put) -> usize
+    ensures { λ r. ⌜ r ≡ placeBehind put ⌝ }
+{
+    match put {
+        Put::Next(n) => n,
+        Put::Full => 0,
+    }
+}
+
+pub fn lesser(a: usize, b: usize) -> usize
+    ensures { λ r. ⌜ r ≡ min a b ⌝ }
+{
+    if a < b { a } else { b }
 }
 
 // Whether n bytes from the place `at` on end within a buffer of this size.

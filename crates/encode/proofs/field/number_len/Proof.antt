@@ -7,14 +7,7 @@ use Rattle.encode.proofs.FieldLaws.{number-parts}
 use Rattle.encode.proofs.field.number_len.Statement.{statement}
 use Rattle.encode.proofs.field.number_len.Tie as tie
 
-add-result : tie.Need-add-result
-add-result c =
-    let a = c .before .before .args in
-    omega (arith, varint-length (a .num * 8), varint-length (a .v))
-
-returns : tie.Need-returns
-returns c = let a = c .before .before .args in omega (arith, number-parts (a .num) (a .v))
-
 pub number-len-spec : {M : Type 1} → statement M
-number-len-spec = tie.close (tie.spec (λ c. search needs) (λ c κs. search needs) (λ c κs. search needs) add-result
-    returns)
+number-len-spec = tie.close (tie.spec (λ c. search needs) (λ c κs. search needs) (λ c κs. search needs)
+    (λ c. let a = c .before .before .args in omega (arith, varint-length (a .num * 8), varint-length (a .v)))
+    (λ c. let a = c .before .before .args in omega (arith, number-parts (a .num) (a .v))))

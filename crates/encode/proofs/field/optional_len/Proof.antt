@@ -6,13 +6,8 @@ use Rattle.encode.proofs.FieldLaws.{optional-there, optional-absent}
 use Rattle.encode.proofs.field.optional_len.Statement.{statement}
 use Rattle.encode.proofs.field.optional_len.Tie as tie
 
-returns : tie.Need-returns
-returns c =
-    let a = c .before .before .args in
-    c .number-len .ensures ∙ ap length (optional-there (a .num) (a .v) (c .before .if1 .taken))
-
-returns-2 : tie.Need-returns-2
-returns-2 c = let a = c .before .args in ap length (optional-absent (a .num) (a .v) (c .if1 .left))
-
 pub optional-len-spec : {M : Type 1} → statement M
-optional-len-spec = tie.close (tie.spec (λ c κs. search needs) returns returns-2)
+optional-len-spec = tie.close (tie.spec (λ c κs. search needs)
+    (λ c. let a = c .before .before .args in c .number-len .ensures ∙ ap length
+    (optional-there (a .num) (a .v) (c .before .if1 .taken)))
+    (λ c. let a = c .before .args in ap length (optional-absent (a .num) (a .v) (c .if1 .left))))

@@ -7,13 +7,7 @@ use Rattle.encode.proofs.FieldLaws.{prefix-parts}
 use Rattle.encode.proofs.field.prefix_len.Statement.{statement}
 use Rattle.encode.proofs.field.prefix_len.Tie as tie
 
-add-result : tie.Need-add-result
-add-result c =
-    let a = c .before .before .args in
-    omega (arith, varint-length (a .num * 8 + 2), varint-length (a .n))
-
-returns : tie.Need-returns
-returns c = let a = c .before .before .args in omega (arith, prefix-parts (a .num) (a .n))
-
 pub prefix-len-spec : {M : Type 1} → statement M
-prefix-len-spec = tie.close (tie.spec (λ c. search needs) (λ c. search needs) add-result returns)
+prefix-len-spec = tie.close (tie.spec (λ c. search needs) (λ c. search needs)
+    (λ c. let a = c .before .before .args in omega (arith, varint-length (a .num * 8 + 2), varint-length (a .n)))
+    (λ c. let a = c .before .before .args in omega (arith, prefix-parts (a .num) (a .n))))

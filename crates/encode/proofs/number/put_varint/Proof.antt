@@ -19,9 +19,6 @@ Inv-loop buf₀ at v x₀ p₀ buf x p =
 abbrev μ-loop : tie.MeasureT-loop
 μ-loop buf₀ at v x₀ p₀ buf x p = x
 
-loop-holds : tie.Need-loop-holds Inv-loop μ-loop
-loop-holds c = let a = c .before .args in (9, omega arith, putting-starts (a .buf .now) (a .at) (varintBytes (a .v)))
-
 loop-again : tie.Need-loop-again Inv-loop μ-loop
 loop-again c =
     let w = c .before .before in
@@ -38,9 +35,8 @@ last c =
     putting-ends (l .inv .2) (shortest-last (l .inv .0) (l .x) (t .loop-test .left))
     (puts-as (ap (λ (b : ℕ). b ∷ []) (mod-eq-of-lt (t .loop-test .left))) (w .put-byte2 .ensures))
 
-same-length : tie.Need-same-length Inv-loop μ-loop
-same-length c = puts-length (last c)
-
 pub put-varint-spec : {M : Type 1} → statement M
-put-varint-spec = tie.close (tie.spec Inv-loop μ-loop loop-holds (λ c. search needs) (λ c. search needs)
-    (λ c κs. search needs) (λ c. omega arith) loop-again (λ c. search needs) (λ c κs. search needs) same-length last)
+put-varint-spec = tie.close (tie.spec Inv-loop μ-loop
+    (λ c. let a = c .before .args in (9, omega arith, putting-starts (a .buf .now) (a .at) (varintBytes (a .v))))
+    (λ c. search needs) (λ c. search needs) (λ c κs. search needs) (λ c. omega arith) loop-again (λ c. search needs)
+    (λ c κs. search needs) (λ c. puts-length (last c)) last)

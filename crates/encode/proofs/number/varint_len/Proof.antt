@@ -9,14 +9,7 @@ use Rattle.varint.proofs.ShortestLaws.{shortest-last, length-by-zeros}
 use Rattle.encode.proofs.number.varint_len.Statement.{statement}
 use Rattle.encode.proofs.number.varint_len.Tie as tie
 
-returns : tie.Need-returns
-returns c = sym (ap length (shortest-last 9 (c .before .args .v) (omega arith)))
-
-sub-result : tie.Need-sub-result
-sub-result c = omega (arith, leading-le 64 (c .before .args .v))
-
-returns-2 : tie.Need-returns-2
-returns-2 c = omega (arith, length-by-zeros (c .before .args .v) (omega arith) (c .before .fits .v .fits))
-
 pub varint-len-spec : {M : Type 1} → statement M
-varint-len-spec = tie.close (tie.spec returns sub-result (λ c. search needs) returns-2)
+varint-len-spec = tie.close (tie.spec (λ c. sym (ap length (shortest-last 9 (c .before .args .v) (omega arith))))
+    (λ c. omega (arith, leading-le 64 (c .before .args .v))) (λ c. search needs)
+    (λ c. omega (arith, length-by-zeros (c .before .args .v) (omega arith) (c .before .fits .v .fits))))

@@ -1,4 +1,5 @@
--- `encode::put::has_room` meets its contract. Assumes nothing.
+-- `encode::put::has_room` meets its contract: what is left behind the place is compared, so that nothing wraps.
+-- Assumes nothing.
 use native.Mathlib.Omega.{arith}
 use mathlib.Core.Path.{sym}
 use borrow.Author.Tests.{lt-leb}
@@ -7,11 +8,7 @@ use Rattle.encode.proofs.PutsLaws.{room-left}
 use Rattle.encode.proofs.put.has_room.Statement.{statement}
 use Rattle.encode.proofs.put.has_room.Tie as tie
 
-returns : tie.Need-returns
-returns c = let a = c .before .args in sym (lt-leb (a .at + a .n) (a .size) (omega arith))
-
-returns-2 : tie.Need-returns-2
-returns-2 c = let a = c .before .args in room-left (a .size) (a .at) (a .n) (c .if1 .left)
-
 pub has-room-spec : {M : Type 1} → statement M
-has-room-spec = tie.close (tie.spec returns returns-2)
+has-room-spec = tie.close (tie.spec
+    (λ c. let a = c .before .args in sym (lt-leb (a .at + a .n) (a .size) (omega arith)))
+    (λ c. let a = c .before .args in room-left (a .size) (a .at) (a .n) (c .if1 .left)))

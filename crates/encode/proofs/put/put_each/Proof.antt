@@ -14,9 +14,6 @@ Inv-loop buf₀ at src p₀ i₀ buf p i = Putting buf₀ at src buf p (drop i s
 abbrev μ-loop : tie.MeasureT-loop
 μ-loop buf₀ at src p₀ i₀ buf p i = length src - i
 
-loop-holds : tie.Need-loop-holds Inv-loop μ-loop
-loop-holds c = let a = c .before .before .args in putting-starts (a .buf .now) (a .at) (a .src .now)
-
 loop-again : tie.Need-loop-again Inv-loop μ-loop
 loop-again c =
     let w = c .before .before in
@@ -27,12 +24,9 @@ loop-again c =
     (t .loop-test .taken))
     (w .put-byte .ensures))
 
-same-length : tie.Need-same-length Inv-loop μ-loop
-same-length c = puts-length (c .before .loop .inv .put)
-
-returns : tie.Need-returns Inv-loop μ-loop
-returns c = let l = c .before .loop in putting-ended (l .inv) (drop-of-length-le _ (c .loop-test .left))
-
 pub put-each-spec : {M : Type 1} → statement M
-put-each-spec = tie.close (tie.spec Inv-loop μ-loop loop-holds (λ c. search needs) (λ c κs. search needs)
-    (λ c. search needs) (λ c. search needs) loop-again same-length returns)
+put-each-spec = tie.close (tie.spec Inv-loop μ-loop
+    (λ c. let a = c .before .before .args in putting-starts (a .buf .now) (a .at) (a .src .now)) (λ c. search needs)
+    (λ c κs. search needs) (λ c. search needs) (λ c. search needs) loop-again
+    (λ c. puts-length (c .before .loop .inv .put))
+    (λ c. let l = c .before .loop in putting-ended (l .inv) (drop-of-length-le _ (c .loop-test .left))))

@@ -13,21 +13,10 @@ Inv-loop buf₀ at k v x₀ p₀ left₀ buf x p left = Putting buf₀ at (fixed
 abbrev μ-loop : tie.MeasureT-loop
 μ-loop buf₀ at k v x₀ p₀ left₀ buf x p left = left
 
-loop-holds : tie.Need-loop-holds Inv-loop μ-loop
-loop-holds c = let a = c .before .args in putting-starts (a .buf .now) (a .at) (fixedBytes (a .k) (a .v))
-
-loop-again : tie.Need-loop-again Inv-loop μ-loop
-loop-again c =
-    let w = c .before .before in
-    let l = w .before .before .before .loop in
-    putting-goes-on (l .inv) (fixed-more (l .left) (l .x) (omega arith)) (w .put-byte .ensures)
-
-same-length : tie.Need-same-length Inv-loop μ-loop
-same-length c = puts-length (c .before .loop .inv .put)
-
-returns : tie.Need-returns Inv-loop μ-loop
-returns c = let l = c .before .loop in putting-ended (l .inv) (fixed-none (l .left) (l .x) (omega arith))
-
 pub put-fixed-spec : {M : Type 1} → statement M
-put-fixed-spec = tie.close (tie.spec Inv-loop μ-loop loop-holds (λ c. search needs) (λ c κs. search needs)
-    (λ c. search needs) (λ c. search needs) loop-again same-length returns)
+put-fixed-spec = tie.close (tie.spec Inv-loop μ-loop
+    (λ c. let a = c .before .args in putting-starts (a .buf .now) (a .at) (fixedBytes (a .k) (a .v)))
+    (λ c. search needs) (λ c κs. search needs) (λ c. search needs) (λ c. search needs)
+    (λ c. let w = c .before .before in let l = w .before .before .before .loop in putting-goes-on (l .inv)
+    (fixed-more (l .left) (l .x) (omega arith)) (w .put-byte .ensures)) (λ c. puts-length (c .before .loop .inv .put))
+    (λ c. let l = c .before .loop in putting-ended (l .inv) (fixed-none (l .left) (l .x) (omega arith))))

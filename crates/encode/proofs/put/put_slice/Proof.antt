@@ -23,16 +23,8 @@ loop-holds c =
     (leb-true (a .at + length (a .src .now)) (length (a .buf .now))
     (sym (h .has-room .ensures) ∙ not-false _ (c .if1 .left)))
 
-loop-again : tie.Need-loop-again Inv-loop μ-loop
-loop-again c = copy-goes-on (c .before .before .loop .inv) (c .before .loop-test .taken)
-
-same-length-2 : tie.Need-same-length-2 Inv-loop μ-loop
-same-length-2 c = c .before .loop .inv .kept
-
-returns-2 : tie.Need-returns-2 Inv-loop μ-loop
-returns-2 c = copy-ends (c .before .loop .inv) (c .loop-test .left)
-
 pub put-slice-spec : {M : Type 1} → statement M
 put-slice-spec = tie.close (tie.spec Inv-loop μ-loop (λ c κs. search needs) (λ c κs. search needs) (λ c. search needs)
     (λ c. search needs) loop-holds (λ c. search needs) (λ c. search needs) (λ c. search needs) (λ c. search needs)
-    (λ c. search needs) loop-again (λ c. search needs) same-length-2 returns-2)
+    (λ c. search needs) (λ c. copy-goes-on (c .before .before .loop .inv) (c .before .loop-test .taken))
+    (λ c. search needs) (λ c. c .before .loop .inv .kept) (λ c. copy-ends (c .before .loop .inv) (c .loop-test .left)))
