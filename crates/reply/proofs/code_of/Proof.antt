@@ -7,8 +7,6 @@ use Rattle.reply.specs.Reply.{codes}
 use Rattle.reply.proofs.code_of.Statement.{statement}
 use Rattle.reply.proofs.code_of.Tie as tie
 
-returns : tie.Need-returns
-returns c = sym (List·getD-eq-default codes 0 {n = c .before .args .reason} (omega arith))
-
 pub code-of-spec : {M : Type 1} → statement M
-code-of-spec = tie.close (tie.spec returns (λ c. search needs) (λ c. search needs) (λ c. search needs))
+code-of-spec = tie.close (tie.spec (λ c. sym (List·getD-eq-default codes 0 {n = c .before .args .reason} (omega arith)))
+    (λ c. search needs) (λ c. search needs) (λ c. search needs))

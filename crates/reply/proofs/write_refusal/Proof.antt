@@ -17,12 +17,6 @@ use Rattle.reply.proofs.write_refusal.Tie as tie
 room : (r : Refusal) → length (messageOf r) ≤ length (replicate {A = ℕ} 128 0)
 room r = omega (arith, text-within (r .reason) (r .number) (r .kind))
 
-slice-aggregate-write-error : tie.Need-slice-aggregate-write-error
-slice-aggregate-write-error c =
-    let t = c .before .before .before in
-    let a = t .before .before .before .args .refusal in
-    sym (length-take-le (t .put-text .result) _ (front-within (room a) (t .put-text .ensures)))
-
 returns : tie.Need-returns
 returns c =
     let w = c .before .before in
@@ -32,4 +26,6 @@ returns c =
 
 pub write-refusal-spec : {M : Type 1} → statement M
 write-refusal-spec = tie.close (tie.spec (λ c. search needs) (λ c. search needs) (λ c. search needs)
-    slice-aggregate-write-error (λ c. search needs) (λ c. search needs) returns)
+    (λ c. let t = c .before .before .before in let a = t .before .before .before .args .refusal in sym
+    (length-take-le (t .put-text .result) _ (front-within (room a) (t .put-text .ensures)))) (λ c. search needs)
+    (λ c. search needs) returns)

@@ -1,4 +1,5 @@
--- `reply::frame::write_empty` meets its contract. Assumes nothing.
+-- `reply::frame::write_empty` meets its contract: the head is the whole frame, put where there is room.
+-- Assumes nothing.
 use borrow.Author.Needs.{needs}
 use native.Mathlib.Omega.{arith}
 use mathlib.Core.List.{[]}
@@ -7,11 +8,6 @@ use Rattle.encode.proofs.PutsLaws.{puts-none, puts-room}
 use Rattle.reply.proofs.frame.write_empty.Statement.{statement}
 use Rattle.reply.proofs.frame.write_empty.Tie as tie
 
-returns : tie.Need-returns
-returns c = puts-none (frame (c .before .before .args .kind) []) (omega arith)
-
-returns-2 : tie.Need-returns-2
-returns-2 c = puts-room (omega arith) (c .before .before .put-head .ensures)
-
 pub write-empty-spec : {M : Type 1} → statement M
-write-empty-spec = tie.close (tie.spec returns (λ c κs. search needs) (λ c. search needs) returns-2)
+write-empty-spec = tie.close (tie.spec (λ c. puts-none (frame (c .before .before .args .kind) []) (omega arith))
+    (λ c κs. search needs) (λ c. search needs) (λ c. puts-room (omega arith) (c .before .before .put-head .ensures)))

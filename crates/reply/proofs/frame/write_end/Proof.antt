@@ -9,9 +9,6 @@ use Rattle.reply.specs.Frame.{stmtExecuteOk}
 use Rattle.reply.proofs.frame.write_end.Statement.{statement}
 use Rattle.reply.proofs.frame.write_end.Tie as tie
 
-returns : tie.Need-returns
-returns c = puts-none (frame (c .before .before .args .kind) [] ++ stmtExecuteOk) (omega arith)
-
 returns-2 : tie.Need-returns-2
 returns-2 c =
     let g = c .before .before in
@@ -21,5 +18,7 @@ returns-2 c =
     (puts-then (f .put-head .ensures) (puts-rest (omega (arith, n)) refl (g .put-head2 .ensures)))
 
 pub write-end-spec : {M : Type 1} → statement M
-write-end-spec = tie.close (tie.spec (λ c. search needs) returns (λ c κs. search needs) (λ c. search needs)
-    (λ c. search needs) (λ c. search needs) (λ c κs. search needs) (λ c. search needs) (λ c. search needs) returns-2)
+write-end-spec = tie.close (tie.spec (λ c. search needs)
+    (λ c. puts-none (frame (c .before .before .args .kind) [] ++ stmtExecuteOk) (omega arith)) (λ c κs. search needs)
+    (λ c. search needs) (λ c. search needs) (λ c. search needs) (λ c κs. search needs) (λ c. search needs)
+    (λ c. search needs) returns-2)

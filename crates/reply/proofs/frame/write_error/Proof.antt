@@ -10,29 +10,6 @@ use Rattle.reply.proofs.FrameLaws.{error-framed, payload-length}
 use Rattle.reply.proofs.frame.write_error.Statement.{statement}
 use Rattle.reply.proofs.frame.write_error.Tie as tie
 
-add-size : tie.Need-add-size
-add-size c = let a = c .before .before .before .args in omega (arith, varint-length (a .code))
-
-add-size-2 : tie.Need-add-size-2
-add-size-2 c =
-    let a = c .before .before .before .before .args in
-    omega (arith, varint-length (a .code), varint-length (length (a .message .now)))
-
-add-size-3 : tie.Need-add-size-3
-add-size-3 c =
-    let a = c .before .before .before .before .args in
-    omega (arith, varint-length (a .code), varint-length (length (a .message .now)))
-
-add-if1 : tie.Need-add-if1
-add-if1 c =
-    let a = c .before .before .before .before .args in
-    omega (arith, varint-length (a .code), varint-length (length (a .message .now)))
-
-returns : tie.Need-returns
-returns c =
-    let a = c .before .before .before .before .before .args in
-    puts-none (errorFrame (a .code) (a .message .now)) (omega (arith, payload-length (a .code) (a .message .now)))
-
 returns-2 : tie.Need-returns-2
 returns-2 c =
     let p = c .before .before in
@@ -43,5 +20,14 @@ returns-2 c =
     (error-framed (a .code) (a .message .now) (h .put-head .ensures) (p .put-error .ensures) (omega arith))
 
 pub write-error-spec : {M : Type 1} → statement M
-write-error-spec = tie.close (tie.spec (λ c. search needs) add-size (λ c. search needs) add-size-2 add-size-3 add-if1
-    returns (λ c. search needs) (λ c. search needs) (λ c. search needs) returns-2)
+write-error-spec = tie.close (tie.spec (λ c. search needs)
+    (λ c. let a = c .before .before .before .args in omega (arith, varint-length (a .code))) (λ c. search needs)
+    (λ c. let a = c .before .before .before .before .args in omega
+    (arith, varint-length (a .code), varint-length (length (a .message .now))))
+    (λ c. let a = c .before .before .before .before .args in omega
+    (arith, varint-length (a .code), varint-length (length (a .message .now))))
+    (λ c. let a = c .before .before .before .before .args in omega
+    (arith, varint-length (a .code), varint-length (length (a .message .now))))
+    (λ c. let a = c .before .before .before .before .before .args in puts-none (errorFrame (a .code) (a .message .now))
+    (omega (arith, payload-length (a .code) (a .message .now)))) (λ c. search needs) (λ c. search needs)
+    (λ c. search needs) returns-2)

@@ -4,13 +4,8 @@ use Rattle.encode.proofs.PutsLaws.{puts-then}
 use Rattle.reply.proofs.text.put_numbered.Statement.{statement}
 use Rattle.reply.proofs.text.put_numbered.Tie as tie
 
-returns : tie.Need-returns
-returns c =
-    let h = c .before .before in
-    let g = h .before .before .before .before in
-    let f = g .before .before .before .before in
-    puts-then (puts-then (f .put-slice .ensures) (g .put-decimal .ensures)) (h .put-slice2 .ensures)
-
 pub put-numbered-spec : {M : Type 1} → statement M
 put-numbered-spec = tie.close (tie.spec (λ c. search needs) (λ c. search needs) (λ c. search needs) (λ c. search needs)
-    returns)
+    (λ c. let h = c .before .before in let g = h .before .before .before .before in let f =
+    g .before .before .before .before in puts-then (puts-then (f .put-slice .ensures) (g .put-decimal .ensures))
+    (h .put-slice2 .ensures)))

@@ -5,41 +5,6 @@ use Rattle.reply.proofs.TextLaws.{text-7, text-8, text-9, text-10, text
 use Rattle.reply.proofs.text.put_text.Statement.{statement}
 use Rattle.reply.proofs.text.put_text.Tie as tie
 
-returns : tie.Need-returns
-returns c =
-    let w = c .before .before in
-    let m = w .before .before .before .before in
-    let a = m .before .before .args in
-    puts-as (text-7 (a .number) (a .kind) (m .match .keys1)) (w .put-numbered .ensures)
-
-returns-2 : tie.Need-returns-2
-returns-2 c =
-    let w = c .before .before in
-    let m = w .before .before in
-    let a = m .before .before .args in
-    puts-as (text-8 (a .number) (a .kind) (m .match .keys2)) (w .put-unsupported .ensures)
-
-returns-3 : tie.Need-returns-3
-returns-3 c =
-    let w = c .before .before in
-    let m = w .before .before .before .before in
-    let a = m .before .before .args in
-    puts-as (text-9 (a .number) (a .kind) (m .match .keys3)) (w .put-numbered2 .ensures)
-
-returns-4 : tie.Need-returns-4
-returns-4 c =
-    let w = c .before .before in
-    let m = w .before .before .before .before in
-    let a = m .before .before .args in
-    puts-as (text-10 (a .number) (a .kind) (m .match .keys4)) (w .put-numbered3 .ensures)
-
-returns-5 : tie.Need-returns-5
-returns-5 c =
-    let w = c .before .before in
-    let m = w .before .before .before .before in
-    let a = m .before .before .args in
-    puts-as (text-11 (a .number) (a .kind) (m .match .keys5)) (w .put-numbered4 .ensures)
-
 returns-6 : tie.Need-returns-6
 returns-6 c =
     let w = c .before .before in
@@ -54,6 +19,14 @@ pub put-text-spec : {M : Type 1} → statement M
 put-text-spec = tie.close (tie.spec (λ c. search needs) (λ c. search needs) (λ c. search needs) (λ c. search needs)
     (λ c. search needs) (λ c. search needs) (λ c. search needs) (λ c. search needs) (λ c. search needs)
     (λ c. search needs) (λ c. search needs) (λ c. search needs) (λ c. search needs) (λ c. search needs)
-    (λ c. search needs) (λ c. search needs) (λ c. search needs) returns (λ c. search needs) returns-2
-    (λ c. search needs) returns-3 (λ c. search needs) returns-4 (λ c. search needs) returns-5 (λ c. search needs)
-    returns-6)
+    (λ c. search needs) (λ c. search needs) (λ c. search needs)
+    (λ c. puts-as (text-7 _ _ (c .before .before .before .before .before .before .match .keys1))
+    (c .before .before .put-numbered .ensures)) (λ c. search needs)
+    (λ c. puts-as (text-8 _ _ (c .before .before .before .before .match .keys2))
+    (c .before .before .put-unsupported .ensures)) (λ c. search needs)
+    (λ c. puts-as (text-9 _ _ (c .before .before .before .before .before .before .match .keys3))
+    (c .before .before .put-numbered2 .ensures)) (λ c. search needs)
+    (λ c. puts-as (text-10 _ _ (c .before .before .before .before .before .before .match .keys4))
+    (c .before .before .put-numbered3 .ensures)) (λ c. search needs)
+    (λ c. puts-as (text-11 _ _ (c .before .before .before .before .before .before .match .keys5))
+    (c .before .before .put-numbered4 .ensures)) (λ c. search needs) returns-6)

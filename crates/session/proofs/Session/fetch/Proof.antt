@@ -6,11 +6,7 @@ use Rattle.session.specs.Words.{sessionOf}
 use Rattle.session.proofs.Session.fetch.Statement.{statement}
 use Rattle.session.proofs.Session.fetch.Tie as tie
 
-returns : tie.Need-returns
-returns c =
-    let f = c .before .before in
-    let a = f .before .before .before .args in
-    c .fetch .ensures ∙ ap (λ p. fetchedAt (sessionOf (a .t1 .words)) p (a .count)) (f .find-cursor .ensures)
-
 pub fetch-spec : {M : Type 1} → statement M
-fetch-spec = tie.close (tie.spec (λ c κs. search needs) (λ c κs. search needs) returns)
+fetch-spec = tie.close (tie.spec (λ c κs. search needs) (λ c κs. search needs)
+    (λ c. let f = c .before .before in let a = f .before .before .before .args in c .fetch .ensures ∙ ap
+    (λ p. fetchedAt (sessionOf (a .t1 .words)) p (a .count)) (f .find-cursor .ensures)))

@@ -6,11 +6,7 @@ use Rattle.session.specs.Words.{sessionOf}
 use Rattle.session.proofs.Session.free.Statement.{statement}
 use Rattle.session.proofs.Session.free.Tie as tie
 
-returns : tie.Need-returns
-returns c =
-    let f = c .before .before in
-    let a = f .before .before .before .args in
-    c .free .ensures ∙ ap (λ p. freedAt (sessionOf (a .t1 .words)) p (a .id)) (f .find-stmt .ensures)
-
 pub free-spec : {M : Type 1} → statement M
-free-spec = tie.close (tie.spec (λ c κs. search needs) (λ c κs. search needs) returns)
+free-spec = tie.close (tie.spec (λ c κs. search needs) (λ c κs. search needs)
+    (λ c. let f = c .before .before in let a = f .before .before .before .args in c .free .ensures ∙ ap
+    (λ p. freedAt (sessionOf (a .t1 .words)) p (a .id)) (f .find-stmt .ensures)))

@@ -4,8 +4,5 @@ use Rattle.session.proofs.WordLaws.{holds-fresh}
 use Rattle.session.proofs.Session.fresh.Statement.{statement}
 use Rattle.session.proofs.Session.fresh.Tie as tie
 
-returns : tie.Need-returns
-returns c = holds-fresh wordCount
-
 pub fresh-spec : {M : Type 1} → statement M
-fresh-spec = tie.close (tie.spec returns)
+fresh-spec = tie.close (tie.spec (λ c. holds-fresh wordCount))

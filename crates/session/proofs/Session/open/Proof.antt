@@ -6,12 +6,7 @@ use Rattle.session.specs.Words.{sessionOf}
 use Rattle.session.proofs.Session.open.Statement.{statement}
 use Rattle.session.proofs.Session.open.Tie as tie
 
-returns : tie.Need-returns
-returns c =
-    let f = c .before .before in
-    let a = f .before .before .before .args in
-    c .open .ensures
-    ∙ ap (λ p. openedAt (sessionOf (a .t1 .words)) p (a .id) (a .stmt) (a .rows) (a .sent)) (f .cursor-place .ensures)
-
 pub open-spec : {M : Type 1} → statement M
-open-spec = tie.close (tie.spec (λ c κs. search needs) (λ c κs. search needs) returns)
+open-spec = tie.close (tie.spec (λ c κs. search needs) (λ c κs. search needs)
+    (λ c. let f = c .before .before in let a = f .before .before .before .args in c .open .ensures ∙ ap
+    (λ p. openedAt (sessionOf (a .t1 .words)) p (a .id) (a .stmt) (a .rows) (a .sent)) (f .cursor-place .ensures)))

@@ -16,9 +16,6 @@ Inv-loop words₀ which i₀ words i = Ending (passes which) words₀ i words
 abbrev μ-loop : tie.MeasureT-loop
 μ-loop words₀ which i₀ words i = maxCursors - i
 
-loop-holds : tie.Need-loop-holds Inv-loop μ-loop
-loop-holds c = begins (passes (c .args .which)) (c .args .words .now)
-
 loop-again : tie.Need-loop-again Inv-loop μ-loop
 loop-again c =
     let l = c .before .before .before in
@@ -30,9 +27,7 @@ loop-again c =
     (λ w. rw (w .1) (leaves-it state inside (passing ∙ w .0 .left)))
     (c .if1 .came)
 
-returns : tie.Need-returns Inv-loop μ-loop
-returns c = all-ended (c .before .loop .inv) (c .loop-test .left)
-
 pub end-spec : {M : Type 1} → statement M
-end-spec = tie.close (tie.spec Inv-loop μ-loop loop-holds (λ c κs. omega arith) (λ c κs. search needs)
-    (λ c. omega arith) (λ c. omega arith) loop-again returns)
+end-spec = tie.close (tie.spec Inv-loop μ-loop (λ c. begins (passes (c .args .which)) (c .args .words .now))
+    (λ c κs. omega arith) (λ c κs. search needs) (λ c. omega arith) (λ c. omega arith) loop-again
+    (λ c. all-ended (c .before .loop .inv) (c .loop-test .left)))

@@ -6,10 +6,7 @@ use Rattle.session.specs.Tables.{storedStmt}
 use Rattle.session.proofs.change.free.Statement.{statement}
 use Rattle.session.proofs.change.free.Tie as tie
 
-returns : tie.Need-returns
-returns c =
-    let e = c .before .before in
-    c .put-stmt .ensures ∙ ap (λ s. storedStmt s (e .before .before .args .place) noStmt) (e .end .ensures)
-
 pub free-spec : {M : Type 1} → statement M
-free-spec = tie.close (tie.spec (λ c κs. search needs) (λ c κs. search needs) returns)
+free-spec = tie.close (tie.spec (λ c κs. search needs) (λ c κs. search needs)
+    (λ c. let e = c .before .before in c .put-stmt .ensures ∙ ap
+    (λ s. storedStmt s (e .before .before .args .place) noStmt) (e .end .ensures)))

@@ -6,12 +6,7 @@ use Rattle.session.specs.Tables.{storedStmt}
 use Rattle.session.proofs.change.prepare.Statement.{statement}
 use Rattle.session.proofs.change.prepare.Tie as tie
 
-returns : tie.Need-returns
-returns c =
-    let e = c .before .before in
-    let a = e .before .before .args in
-    c .put-stmt .ensures
-    ∙ ap (λ s. storedStmt s (a .place) (newStmt (a .id) (a .placeholders))) (e .end .ensures)
-
 pub prepare-spec : {M : Type 1} → statement M
-prepare-spec = tie.close (tie.spec (λ c κs. search needs) (λ c κs. search needs) returns)
+prepare-spec = tie.close (tie.spec (λ c κs. search needs) (λ c κs. search needs)
+    (λ c. let e = c .before .before in let a = e .before .before .args in c .put-stmt .ensures ∙ ap
+    (λ s. storedStmt s (a .place) (newStmt (a .id) (a .placeholders))) (e .end .ensures)))

@@ -7,11 +7,5 @@ use Rattle.session.proofs.change.raised.Tie as tie
 returns : tie.Need-returns
 returns c = omega arith
 
-returns-2 : tie.Need-returns-2
-returns-2 c = omega arith
-
-returns-3 : tie.Need-returns-3
-returns-3 c = omega arith
-
 pub raised-spec : {M : Type 1} → statement M
-raised-spec = tie.close (tie.spec returns (λ c. search needs) (λ c. search needs) returns-2 returns-3)
+raised-spec = tie.close (tie.spec returns (λ c. search needs) (λ c. search needs) (λ c. omega arith) (λ c. omega arith))

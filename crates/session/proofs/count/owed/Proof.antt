@@ -15,18 +15,8 @@ Inv-loop words sum₀ i₀ sum i = Summing owes maxNumber (cursorIn words) maxCu
 abbrev μ-loop : tie.MeasureT-loop
 μ-loop words sum₀ i₀ sum i = maxCursors - i
 
-loop-holds : tie.Need-loop-holds Inv-loop μ-loop
-loop-holds c = sums
-
-loop-again : tie.Need-loop-again Inv-loop μ-loop
-loop-again c =
-    let l = c .before in
-    sums-on (l .before .loop .inv) (c .owes .result) (l .loop-test .taken) (c .owes .ensures .0) (c .owes .ensures .1)
-
-returns : tie.Need-returns Inv-loop μ-loop
-returns c = summed (c .before .loop .inv) (c .loop-test .left)
-
 pub owed-spec : {M : Type 1} → statement M
-owed-spec = tie.close (tie.spec Inv-loop μ-loop loop-holds (λ c κs. omega arith)
+owed-spec = tie.close (tie.spec Inv-loop μ-loop (λ c. sums) (λ c κs. omega arith)
     (λ c. omega (arith, c .owes .ensures .1, c .before .before .loop .inv .small)) (λ c. omega arith) (λ c. omega arith)
-    loop-again returns)
+    (λ c. let l = c .before in sums-on (l .before .loop .inv) (c .owes .result) (l .loop-test .taken)
+    (c .owes .ensures .0) (c .owes .ensures .1)) (λ c. summed (c .before .loop .inv) (c .loop-test .left)))

@@ -7,11 +7,6 @@ use Rattle.session.proofs.EntryLaws.{owes-dead, owes-live}
 use Rattle.session.proofs.count.owes.Statement.{statement}
 use Rattle.session.proofs.count.owes.Tie as tie
 
-returns : tie.Need-returns
-returns c =
-    let a = c .before .before .args in
-    (owes-dead (cursorIn (a .words .now) (a .i)) (sym (c .before .cursor-live .ensures) ∙ c .if1 .taken), omega arith)
-
 returns-2 : tie.Need-returns-2
 returns-2 c =
     let r = c .before .before in
@@ -33,5 +28,7 @@ returns-3 c =
     )
 
 pub owes-spec : {M : Type 1} → statement M
-owes-spec = tie.close (tie.spec (λ c κs. search needs) returns (λ c κs. search needs) (λ c κs. search needs) returns-2
-    (λ c. search needs) (λ c. search needs) returns-3)
+owes-spec = tie.close (tie.spec (λ c κs. search needs)
+    (λ c. let a = c .before .before .args in
+    (owes-dead (cursorIn (a .words .now) (a .i)) (sym (c .before .cursor-live .ensures) ∙ c .if1 .taken), omega arith))
+    (λ c κs. search needs) (λ c κs. search needs) returns-2 (λ c. search needs) (λ c. search needs) returns-3)

@@ -5,14 +5,8 @@ use Rattle.session.proofs.LoopLaws.{own-place, other-place}
 use Rattle.session.proofs.find.cursor_place.Statement.{statement}
 use Rattle.session.proofs.find.cursor_place.Tie as tie
 
-returns : tie.Need-returns
-returns c = own-place (c .before .before .before .find-cursor .ensures) _ (c .before .i .given .1)
-
-returns-2 : tie.Need-returns-2
-returns-2 c =
-    c .free-cursor .ensures
-    ∙ other-place (c .before .before .before .find-cursor .ensures) _ (c .before .enum-told .given .1)
-
 pub cursor-place-spec : {M : Type 1} → statement M
 cursor-place-spec = tie.close (tie.spec (λ c κs. search needs) (λ c. search needs) (λ c. search needs)
-    (λ c κs. search needs) returns returns-2)
+    (λ c κs. search needs) (λ c. own-place (c .before .before .before .find-cursor .ensures) _ (c .before .i .given .1))
+    (λ c. c .free-cursor .ensures ∙ other-place (c .before .before .before .find-cursor .ensures) _
+    (c .before .enum-told .given .1)))

@@ -15,20 +15,10 @@ Inv-loop words id b₀ b = Skipping id words b
 abbrev μ-loop : tie.MeasureT-loop
 μ-loop words id b₀ b = maxStmts - b
 
-loop-holds : tie.Need-loop-holds Inv-loop μ-loop
-loop-holds c = skips (c .args .id) (c .args .words .now)
-
-returns : tie.Need-returns Inv-loop μ-loop
-returns c = c .scan .ensures ∙ c .before .before .before .before .loop .inv .look .rest
-
-loop-again : tie.Need-loop-again Inv-loop μ-loop
-loop-again c =
-    let l = c .before .before in
-    skips-on (l .before .loop .inv) (l .loop-test .taken) (sym (c .before .has .ensures) ∙ c .if1 .left)
-
-returns-2 : tie.Need-returns-2 Inv-loop μ-loop
-returns-2 c = no-place (c .before .loop .inv .look) (c .loop-test .left)
-
 pub find-stmt-spec : {M : Type 1} → statement M
-find-stmt-spec = tie.close (tie.spec Inv-loop μ-loop loop-holds (λ c κs. omega arith) (λ c κs. search needs) returns
-    (λ c. omega arith) (λ c. omega arith) loop-again returns-2)
+find-stmt-spec = tie.close (tie.spec Inv-loop μ-loop (λ c. skips (c .args .id) (c .args .words .now))
+    (λ c κs. omega arith) (λ c κs. search needs)
+    (λ c. c .scan .ensures ∙ c .before .before .before .before .loop .inv .look .rest) (λ c. omega arith)
+    (λ c. omega arith)
+    (λ c. let l = c .before .before in skips-on (l .before .loop .inv) (l .loop-test .taken)
+    (sym (c .before .has .ensures) ∙ c .if1 .left)) (λ c. no-place (c .before .loop .inv .look) (c .loop-test .left)))

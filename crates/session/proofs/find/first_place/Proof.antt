@@ -15,22 +15,9 @@ Inv-loop words which i₀ i = Looking (passes which) (cursorIn words) maxCursors
 abbrev μ-loop : tie.MeasureT-loop
 μ-loop words which i₀ i = maxCursors - i
 
-loop-holds : tie.Need-loop-holds Inv-loop μ-loop
-loop-holds c = looks
-
-returns : tie.Need-returns Inv-loop μ-loop
-returns c =
-    let l = c .before .before in
-    placed (l .before .loop .inv) (l .loop-test .taken) (sym (c .before .passes .ensures) ∙ c .if1 .taken)
-
-loop-again : tie.Need-loop-again Inv-loop μ-loop
-loop-again c =
-    let l = c .before .before in
-    looks-on (l .before .loop .inv) (l .loop-test .taken) (sym (c .before .passes .ensures) ∙ c .if1 .left)
-
-returns-2 : tie.Need-returns-2 Inv-loop μ-loop
-returns-2 c = no-place (c .before .loop .inv) (c .loop-test .left)
-
 pub first-place-spec : {M : Type 1} → statement M
-first-place-spec = tie.close (tie.spec Inv-loop μ-loop loop-holds (λ c κs. omega arith) returns (λ c. omega arith)
-    (λ c. omega arith) loop-again returns-2)
+first-place-spec = tie.close (tie.spec Inv-loop μ-loop (λ c. looks) (λ c κs. omega arith)
+    (λ c. let l = c .before .before in placed (l .before .loop .inv) (l .loop-test .taken)
+    (sym (c .before .passes .ensures) ∙ c .if1 .taken)) (λ c. omega arith) (λ c. omega arith)
+    (λ c. let l = c .before .before in looks-on (l .before .loop .inv) (l .loop-test .taken)
+    (sym (c .before .passes .ensures) ∙ c .if1 .left)) (λ c. no-place (c .before .loop .inv) (c .loop-test .left)))

@@ -16,24 +16,10 @@ Inv-loop words i₀ i = Looking freeStmt (stmtIn words) maxStmts 0 i
 abbrev μ-loop : tie.MeasureT-loop
 μ-loop words i₀ i = maxStmts - i
 
-loop-holds : tie.Need-loop-holds Inv-loop μ-loop
-loop-holds c = looks
-
-returns : tie.Need-returns Inv-loop μ-loop
-returns c =
-    let l = c .before .before in
-    placed (l .before .loop .inv) (l .loop-test .taken)
-    (free-yes _ (sym (c .before .stmt-live .ensures) ∙ c .if1 .taken))
-
-loop-again : tie.Need-loop-again Inv-loop μ-loop
-loop-again c =
-    let l = c .before .before in
-    looks-on (l .before .loop .inv) (l .loop-test .taken)
-    (free-no _ (λ e. c .if1 .left (c .before .stmt-live .ensures ∙ e)))
-
-returns-2 : tie.Need-returns-2 Inv-loop μ-loop
-returns-2 c = no-place (c .before .loop .inv) (c .loop-test .left)
-
 pub free-stmt-spec : {M : Type 1} → statement M
-free-stmt-spec = tie.close (tie.spec Inv-loop μ-loop loop-holds (λ c κs. omega arith) returns (λ c. omega arith)
-    (λ c. omega arith) loop-again returns-2)
+free-stmt-spec = tie.close (tie.spec Inv-loop μ-loop (λ c. looks) (λ c κs. omega arith)
+    (λ c. let l = c .before .before in placed (l .before .loop .inv) (l .loop-test .taken)
+    (free-yes _ (sym (c .before .stmt-live .ensures) ∙ c .if1 .taken))) (λ c. omega arith) (λ c. omega arith)
+    (λ c. let l = c .before .before in looks-on (l .before .loop .inv) (l .loop-test .taken)
+    (free-no _ (λ e. c .if1 .left (c .before .stmt-live .ensures ∙ e))))
+    (λ c. no-place (c .before .loop .inv) (c .loop-test .left)))

@@ -14,9 +14,6 @@ Inv-loop words at id hit₀ k₀ hit k = Testing id words at blockIds k hit
 abbrev μ-loop : tie.MeasureT-loop
 μ-loop words at id hit₀ k₀ hit k = blockIds - k
 
-loop-holds : tie.Need-loop-holds Inv-loop μ-loop
-loop-holds c = tests (c .args .id) (c .args .words .now) (c .args .at) blockIds
-
 loop-again : tie.Need-loop-again Inv-loop μ-loop
 loop-again c =
     let i = c .before in
@@ -27,9 +24,7 @@ loop-again c =
     (λ w. rw (w .1) (misses l inside (λ e. w .0 .left (i .stmt-id .ensures ∙ e))))
     (c .if1 .came)
 
-returns : tie.Need-returns Inv-loop μ-loop
-returns c = tested (c .before .loop .inv) (c .loop-test .left)
-
 pub has-spec : {M : Type 1} → statement M
-has-spec = tie.close (tie.spec Inv-loop μ-loop loop-holds (λ c. omega arith) (λ c κs. omega arith) (λ c. omega arith)
-    (λ c. omega arith) loop-again returns)
+has-spec = tie.close (tie.spec Inv-loop μ-loop (λ c. tests (c .args .id) (c .args .words .now) (c .args .at) blockIds)
+    (λ c. omega arith) (λ c κs. omega arith) (λ c. omega arith) (λ c. omega arith) loop-again
+    (λ c. tested (c .before .loop .inv) (c .loop-test .left)))

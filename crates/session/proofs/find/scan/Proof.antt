@@ -16,9 +16,6 @@ Inv-loop words from id i₀ i = Looking (isStmt id) (stmtIn words) maxStmts from
 abbrev μ-loop : tie.MeasureT-loop
 μ-loop words from id i₀ i = maxStmts - i
 
-loop-holds : tie.Need-loop-holds Inv-loop μ-loop
-loop-holds c = looks
-
 returns : tie.Need-returns Inv-loop μ-loop
 returns c =
     let n = c .before .before in
@@ -35,9 +32,7 @@ loop-again c =
     (rw (sym (n .before .stmt-live .ensures), sym (n .stmt-id .ensures))
     (sym (c .before .tells .ensures) ∙ c .if1 .left))
 
-returns-2 : tie.Need-returns-2 Inv-loop μ-loop
-returns-2 c = no-place (c .before .loop .inv) (c .loop-test .left)
-
 pub scan-spec : {M : Type 1} → statement M
-scan-spec = tie.close (tie.spec Inv-loop μ-loop loop-holds (λ c κs. omega arith) (λ c κs. omega arith)
-    (λ c κs. search needs) returns (λ c. omega arith) (λ c. omega arith) loop-again returns-2)
+scan-spec = tie.close (tie.spec Inv-loop μ-loop (λ c. looks) (λ c κs. omega arith) (λ c κs. omega arith)
+    (λ c κs. search needs) returns (λ c. omega arith) (λ c. omega arith) loop-again
+    (λ c. no-place (c .before .loop .inv) (c .loop-test .left)))

@@ -5,14 +5,8 @@ use Rattle.session.proofs.LoopLaws.{own-place, other-place}
 use Rattle.session.proofs.find.stmt_place.Statement.{statement}
 use Rattle.session.proofs.find.stmt_place.Tie as tie
 
-returns : tie.Need-returns
-returns c = own-place (c .before .before .before .find-stmt .ensures) _ (c .before .i .given .1)
-
-returns-2 : tie.Need-returns-2
-returns-2 c =
-    c .free-stmt .ensures
-    ∙ other-place (c .before .before .before .find-stmt .ensures) _ (c .before .enum-told .given .1)
-
 pub stmt-place-spec : {M : Type 1} → statement M
 stmt-place-spec = tie.close (tie.spec (λ c κs. search needs) (λ c. search needs) (λ c. search needs)
-    (λ c κs. search needs) returns returns-2)
+    (λ c κs. search needs) (λ c. own-place (c .before .before .before .find-stmt .ensures) _ (c .before .i .given .1))
+    (λ c. c .free-stmt .ensures ∙ other-place (c .before .before .before .find-stmt .ensures) _
+    (c .before .enum-told .given .1)))

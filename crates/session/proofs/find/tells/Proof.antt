@@ -4,11 +4,7 @@ use Rattle.session.proofs.EntryLaws.{tells-off, tells-on}
 use Rattle.session.proofs.find.tells.Statement.{statement}
 use Rattle.session.proofs.find.tells.Tie as tie
 
-returns : tie.Need-returns
-returns c = let a = c .before .args in tells-on (a .live) (eqb (a .number) (a .asked)) (c .if1 .taken)
-
-returns-2 : tie.Need-returns-2
-returns-2 c = let a = c .before .args in tells-off (a .live) (eqb (a .number) (a .asked)) (c .if1 .left)
-
 pub tells-spec : {M : Type 1} → statement M
-tells-spec = tie.close (tie.spec returns returns-2)
+tells-spec = tie.close (tie.spec
+    (λ c. let a = c .before .args in tells-on (a .live) (eqb (a .number) (a .asked)) (c .if1 .taken))
+    (λ c. let a = c .before .args in tells-off (a .live) (eqb (a .number) (a .asked)) (c .if1 .left)))

@@ -5,8 +5,6 @@ use Rattle.session.specs.Session.{withClosed}
 use Rattle.session.proofs.words.close.Statement.{statement}
 use Rattle.session.proofs.words.close.Tie as tie
 
-returns : tie.Need-returns
-returns c = c .set-closed .ensures ∙ ap (λ s. withClosed s 1) (c .before .before .wipe .ensures)
-
 pub close-spec : {M : Type 1} → statement M
-close-spec = tie.close (tie.spec (λ c κs. search needs) (λ c κs. search needs) returns)
+close-spec = tie.close (tie.spec (λ c κs. search needs) (λ c κs. search needs)
+    (λ c. c .set-closed .ensures ∙ ap (λ s. withClosed s 1) (c .before .before .wipe .ensures)))

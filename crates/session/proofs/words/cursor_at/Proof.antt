@@ -20,12 +20,8 @@ returns c =
     (rw (s .cursor-sent .ensures, c .cursor-live .ensures)
     (read-there (cursorIn w) maxCursors (a .place) _ (x .index .ensures) noCursor (i .before .if1 .taken)))
 
-returns-2 : tie.Need-returns-2
-returns-2 c =
-    let x = c .before in
-    let a = x .before .args in
-    read-past (cursorIn (a .words .now)) maxCursors (a .place) _ (x .index .ensures) noCursor (c .if1 .left)
-
 pub cursor-at-spec : {M : Type 1} → statement M
 cursor-at-spec = tie.close (tie.spec (λ c κs. search needs) (λ c κs. search needs) (λ c κs. search needs)
-    (λ c κs. search needs) (λ c κs. search needs) (λ c κs. search needs) returns returns-2)
+    (λ c κs. search needs) (λ c κs. search needs) (λ c κs. search needs) returns
+    (λ c. let x = c .before in let a = x .before .args in read-past (cursorIn (a .words .now)) maxCursors (a .place) _
+    (x .index .ensures) noCursor (c .if1 .left)))

@@ -17,13 +17,7 @@ returns c =
     c .store-sent .ensures
     ∙ ap (withCursors (sessionOf w)) (sent-there w (a .place) _ (a .sent) (x .index .ensures) (t .if1 .taken))
 
-returns-2 : tie.Need-returns-2
-returns-2 c =
-    let x = c .before in
-    let a = x .before .args in
-    let w = a .words .now in
-    ap (withCursors (sessionOf w))
-    (put-past (cursorIn w) maxCursors (a .place) _ (x .index .ensures) _ (c .if1 .left))
-
 pub put-sent-spec : {M : Type 1} → statement M
-put-sent-spec = tie.close (tie.spec (λ c κs. search needs) (λ c κs. search needs) returns returns-2)
+put-sent-spec = tie.close (tie.spec (λ c κs. search needs) (λ c κs. search needs) returns
+    (λ c. let x = c .before in let a = x .before .args in let w = a .words .now in ap (withCursors (sessionOf w))
+    (put-past (cursorIn w) maxCursors (a .place) _ (x .index .ensures) _ (c .if1 .left))))

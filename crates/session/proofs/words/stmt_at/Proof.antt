@@ -16,12 +16,8 @@ returns c =
     rw (i .stmt-id .ensures, p .stmt-placeholders .ensures, c .stmt-live .ensures)
     (read-there (stmtIn (a .words .now)) maxStmts (a .place) _ (x .index .ensures) noStmt (i .before .if1 .taken))
 
-returns-2 : tie.Need-returns-2
-returns-2 c =
-    let x = c .before in
-    let a = x .before .args in
-    read-past (stmtIn (a .words .now)) maxStmts (a .place) _ (x .index .ensures) noStmt (c .if1 .left)
-
 pub stmt-at-spec : {M : Type 1} → statement M
 stmt-at-spec = tie.close (tie.spec (λ c κs. search needs) (λ c κs. search needs) (λ c κs. search needs)
-    (λ c κs. search needs) returns returns-2)
+    (λ c κs. search needs) returns
+    (λ c. let x = c .before in let a = x .before .args in read-past (stmtIn (a .words .now)) maxStmts (a .place) _
+    (x .index .ensures) noStmt (c .if1 .left)))

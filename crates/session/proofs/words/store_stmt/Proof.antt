@@ -9,19 +9,10 @@ use Rattle.session.proofs.WordLaws.{stmt-stored}
 use Rattle.session.proofs.words.store_stmt.Statement.{statement}
 use Rattle.session.proofs.words.store_stmt.Tie as tie
 
-slice-write-words-2 : tie.Need-slice-write-words-2
-slice-write-words-2 c = let a = c .args in omega (arith, length-set (a .words .now) (a .i) (a .t .id))
-
-slice-write-words-3 : tie.Need-slice-write-words-3
-slice-write-words-3 c =
-    let a = c .args in
-    still-below (set (a .words .now) (a .i) (a .t .id)) _ (a .t .placeholders) [] _
-    (omega (arith, length-set (a .words .now) (a .i) (a .t .id)))
-
-returns : tie.Need-returns
-returns c = stmt-stored (c .args .words .now) (c .args .i) (c .args .t) (c .pre .0) (c .pre .1)
-
 pub store-stmt-spec : {M : Type 1} → statement M
 store-stmt-spec = tie.close (tie.spec (λ c. search needs) (λ c. search needs) (λ c. search needs) (λ c. search needs)
-    (λ c. search needs) slice-write-words-2 (λ c. search needs) (λ c. search needs) slice-write-words-3
-    (λ c. search needs) returns)
+    (λ c. search needs) (λ c. let a = c .args in omega (arith, length-set (a .words .now) (a .i) (a .t .id)))
+    (λ c. search needs) (λ c. search needs)
+    (λ c. let a = c .args in still-below (set (a .words .now) (a .i) (a .t .id)) _ (a .t .placeholders) [] _
+    (omega (arith, length-set (a .words .now) (a .i) (a .t .id)))) (λ c. search needs)
+    (λ c. stmt-stored (c .args .words .now) (c .args .i) (c .args .t) (c .pre .0) (c .pre .1)))

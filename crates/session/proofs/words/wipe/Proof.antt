@@ -12,15 +12,8 @@ Inv-loop words₀ i₀ words i = Wiping words₀ i words
 abbrev μ-loop : tie.MeasureT-loop
 μ-loop words₀ i₀ words i = closedAt - i
 
-loop-holds : tie.Need-loop-holds Inv-loop μ-loop
-loop-holds c = wipes (c .args .words .now) (c .pre)
-
-loop-again : tie.Need-loop-again Inv-loop μ-loop
-loop-again c = wipes-on (c .before .loop .inv) (c .loop-test .taken)
-
-returns : tie.Need-returns Inv-loop μ-loop
-returns c = wiped-all (c .before .loop .inv) (c .loop-test .left)
-
 pub wipe-spec : {M : Type 1} → statement M
-wipe-spec = tie.close (tie.spec Inv-loop μ-loop loop-holds (λ c. omega arith) (λ c. omega arith) (λ c. omega arith)
-    (λ c. omega arith) loop-again (λ c. omega arith) returns)
+wipe-spec = tie.close (tie.spec Inv-loop μ-loop (λ c. wipes (c .args .words .now) (c .pre)) (λ c. omega arith)
+    (λ c. omega arith) (λ c. omega arith) (λ c. omega arith)
+    (λ c. wipes-on (c .before .loop .inv) (c .loop-test .taken)) (λ c. omega arith)
+    (λ c. wiped-all (c .before .loop .inv) (c .loop-test .left)))
