@@ -2,14 +2,13 @@
 ghost use mathlib.Core.Path.{_≡_};
 ghost use mathlib.Core.Bool.{false};
 ghost use Rattle.protocol.specs.Reason as Reason;
-ghost use Rattle.encode.specs.declared.put.Put.{Put};
 ghost use Rattle.args.specs.Arguments.{noArguments};
 ghost use Rattle.reply.specs.declared.Reply.{Reply};
 ghost use Rattle.rules.specs.Decision.{wireCode};
 ghost use Rattle.keeper.specs.private.Does.{Answers, Replies, accepting, errorOf, kindNamed, namesBy, numberOf};
-ghost use Rattle.keeper.specs.private.Does.{placeBehind, refusing};
+ghost use Rattle.keeper.specs.private.Does.{refusing};
 use args::arguments::Arguments;
-use encode::put::Put;
+use encode::put::place_behind;
 use protocol::reason;
 use reply::Refusal;
 use reply::Reply;
@@ -73,16 +72,6 @@ pub(crate) fn unbound(stmt: u32, cursor: u32) -> Names
         index: 0,
         count: 0,
         kind: 0,
-    }
-}
-
-// The place behind what was put.
-fn place_behind(put: Put) -> usize
-    ensures { λ r. ⌜ r ≡ placeBehind put ⌝ }
-{
-    match put {
-        Put::Next(n) => n,
-        Put::Full => 0,
     }
 }
 

@@ -13,7 +13,7 @@ use reply::Reply;
 use rules::Report;
 use session::Cursor;
 
-fn least(a: u64, b: u64) -> u64
+fn lesser(a: u64, b: u64) -> u64
     ensures { λ r. ⌜ r ≡ min a b ⌝ }
 {
     if a < b { a } else { b }
@@ -35,7 +35,7 @@ pub(crate) fn fetch_count(cursor: Cursor, rows: Optional) -> u64
 {
     let left = remaining(cursor);
     if rows.present {
-        return least(rows.value, left);
+        return lesser(rows.value, left);
     }
     left
 }
@@ -45,7 +45,7 @@ pub(crate) fn open_count(rows: Optional, reported: u64) -> u64
     ensures { λ r. ⌜ r ≡ openCount rows reported ⌝ }
 {
     if rows.present {
-        return least(rows.value, reported);
+        return lesser(rows.value, reported);
     }
     0
 }

@@ -6,8 +6,7 @@ use mathlib.Core.List.{List}
 use lib.ListN.{length}
 use lib.Dec.{eqb}
 use Rattle.protocol.specs.Reason as Reason
-use Rattle.encode.specs.Put.{putAt, written}
-use Rattle.encode.specs.declared.put.Put.{Put}
+use Rattle.encode.specs.Put.{placeBehind, putAt, written}
 use Rattle.args.specs.declared.arguments.Arguments.{Arguments}
 use Rattle.message.specs.Request.{stmtOf, cursorOf, argsOf}
 use Rattle.message.specs.declared.request.Request.{Request}
@@ -26,11 +25,6 @@ use Rattle.rules.specs.Read.{Read}
 use Rattle.rules.specs.Step.{Step}
 use Rattle.keeper.specs.declared.answer.Names.{Names}
 use Rattle.keeper.specs.declared.answer.Sends.{Sends}
-
--- the place behind what was put
-abbrev pub placeBehind : Put → ℕ
-placeBehind (Put.Next n) = n
-placeBehind Put.Full = 0
 
 -- a step's answer, session and buffer
 pub record Does (step : Step) (answer : Answer) (session : Session) (buffer : List ℕ) : Type 0 where

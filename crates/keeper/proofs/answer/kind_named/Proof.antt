@@ -3,11 +3,6 @@ use Rattle.keeper.proofs.AnswerLaws.{kind-told, kind-none}
 use Rattle.keeper.proofs.answer.kind_named.Statement.{statement}
 use Rattle.keeper.proofs.answer.kind_named.Tie as tie
 
-returns : tie.Need-returns
-returns c = let a = c .before .args in kind-told (a .reason) (a .names) (c .if1 .taken)
-
-returns-2 : tie.Need-returns-2
-returns-2 c = let a = c .before .args in kind-none (a .reason) (a .names) (c .if1 .left)
-
 pub kind-named-spec : {M : Type 1} → statement M
-kind-named-spec = tie.close (tie.spec returns returns-2)
+kind-named-spec = tie.close (tie.spec (λ c. let a = c .before .args in kind-told (a .reason) (a .names) (c .if1 .taken))
+    (λ c. let a = c .before .args in kind-none (a .reason) (a .names) (c .if1 .left)))

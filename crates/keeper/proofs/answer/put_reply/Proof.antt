@@ -1,14 +1,11 @@
 -- `keeper::answer::put_reply` meets its contract: the length told is that of what was put. Assumes nothing.
 use borrow.Author.Needs.{needs}
 use mathlib.Core.Path.{ap, _∙_}
-use Rattle.keeper.specs.private.Does.{placeBehind}
+use Rattle.encode.specs.Put.{placeBehind}
 use Rattle.keeper.proofs.answer.put_reply.Statement.{statement}
 use Rattle.keeper.proofs.answer.put_reply.Tie as tie
 
-returns : tie.Need-returns
-returns c =
-    let w = c .before .before .before .write-reply .ensures in
-    record { long = c .place-behind .ensures ∙ ap placeBehind (w .0); stored = w .1 }
-
 pub put-reply-spec : {M : Type 1} → statement M
-put-reply-spec = tie.close (tie.spec (λ c κs. search needs) (λ c κs. search needs) (λ c. search needs) returns)
+put-reply-spec = tie.close (tie.spec (λ c κs. search needs) (λ c κs. search needs) (λ c. search needs)
+    (λ c. let w = c .before .before .before .write-reply .ensures in record
+    { long = c .place-behind .ensures ∙ ap placeBehind (w .0); stored = w .1 }))

@@ -6,13 +6,8 @@ use Rattle.keeper.proofs.AnswerLaws.{code-own, code-listed}
 use Rattle.keeper.proofs.answer.wire_code.Statement.{statement}
 use Rattle.keeper.proofs.answer.wire_code.Tie as tie
 
-returns : tie.Need-returns
-returns c = let a = c .before .args in code-own (a .report) (a .reason) (c .if1 .taken)
-
-returns-2 : tie.Need-returns-2
-returns-2 c =
-    let a = c .before .before .args in
-    c .code-of .ensures ∙ code-listed (a .report) (a .reason) (c .before .if1 .left)
-
 pub wire-code-spec : {M : Type 1} → statement M
-wire-code-spec = tie.close (tie.spec returns (λ c κs. search needs) returns-2)
+wire-code-spec = tie.close (tie.spec (λ c. let a = c .before .args in code-own (a .report) (a .reason) (c .if1 .taken))
+    (λ c κs. search needs)
+    (λ c. let a = c .before .before .args in c .code-of .ensures ∙ code-listed (a .report) (a .reason)
+    (c .before .if1 .left)))

@@ -20,13 +20,6 @@ use Rattle.keeper.proofs.LookLaws.{prepare-wants, execute-wants, deallo
 use Rattle.keeper.proofs.look.look_at.Statement.{statement}
 use Rattle.keeper.proofs.look.look_at.Tie as tie
 
-returns : tie.Need-returns
-returns c =
-    let k = c .before .before in
-    let a = k .before .args in
-    c .refused .ensures ∙ closed-look (sessionOf (a .words .now)) (a .request)
-    (sym (k .is-closed .ensures) ∙ c .before .if1 .taken)
-
 -- where the request is looked at, the session is open
 abbrev start : tie.Else1 → tie.Start
 start t = t .before .before
@@ -47,18 +40,6 @@ told : (t : tie.Else1) {p : Request} {n : ℕ} {work l : Look} → start t .args
 told t {p} {n} {work} e f g h =
     of t e (h ∙ found-look (sessionOf (start t .args .words .now)) p (unclosed t) f work g)
 
-returns-2 : tie.Need-returns-2
-returns-2 c =
-    let t = c .before .before .before in
-    let s = sessionOf (start t .args .words .now) in
-    told t (c .before .enum-told .given .1) (reset-looks s) (reset-wants s) (c .found .ensures)
-
-returns-3 : tie.Need-returns-3
-returns-3 c =
-    let t = c .before .before .before in
-    let s = sessionOf (start t .args .words .now) in
-    told t (c .before .enum-told2 .given .1) (session-close-looks s) (session-close-wants s) (c .found2 .ensures)
-
 returns-4 : tie.Need-returns-4
 returns-4 c =
     let q = c .before .before .before .before in
@@ -66,12 +47,6 @@ returns-4 c =
     told (q .before .before) (q .request .given .1)
     (prepare-looks s _ (c .before .before .stmt-place .ensures) (c .before .full .ensures)) (prepare-wants s _)
     (c .found3 .ensures)
-
-returns-5 : tie.Need-returns-5
-returns-5 c =
-    let q = c .before .before .before in
-    told (q .before .before) (q .request2 .given .1) (c .before .execute .ensures) (execute-wants _ _)
-    (c .found4 .ensures)
 
 returns-6 : tie.Need-returns-6
 returns-6 c =
@@ -81,11 +56,6 @@ returns-6 c =
     (deallocate-looks s _ (c .before .before .before .find-stmt .ensures) (c .before .before .stmt-at .ensures)
     (c .before .dead-stmt .ensures)) (deallocate-wants s _) (c .found5 .ensures)
 
-returns-7 : tie.Need-returns-7
-returns-7 c =
-    let q = c .before .before in
-    of (q .before .before) (q .request4 .given .1) (c .look-open .ensures)
-
 returns-8 : tie.Need-returns-8
 returns-8 c =
     let q = c .before .before .before .before .before in
@@ -94,17 +64,21 @@ returns-8 c =
     (close-looks s _ (c .before .before .before .find-cursor .ensures) (c .before .before .cursor-at .ensures)
     (c .before .dead-cursor .ensures)) (close-wants s _) (c .found6 .ensures)
 
-returns-9 : tie.Need-returns-9
-returns-9 c =
-    let q = c .before .before in
-    of (q .before .before) (q .request6 .given .1) (c .look-fetch .ensures)
-
 pub look-at-spec : {M : Type 1} → statement M
-look-at-spec = tie.close (tie.spec (λ c κs. search needs) (λ c κs. search needs) returns (λ c. search needs)
+look-at-spec = tie.close (tie.spec (λ c κs. search needs) (λ c κs. search needs)
+    (λ c. let k = c .before .before in let a = k .before .args in c .refused .ensures ∙ closed-look
+    (sessionOf (a .words .now)) (a .request) (sym (k .is-closed .ensures) ∙ c .before .if1 .taken)) (λ c. search needs)
     (λ c κs. search needs) (λ c. search needs) (λ c κs. search needs) (λ c. search needs) (λ c κs. search needs)
     (λ c κs. search needs) (λ c κs. search needs) (λ c. search needs) (λ c κs. search needs) (λ c κs. search needs)
     (λ c. search needs) (λ c κs. search needs) (λ c κs. search needs) (λ c κs. search needs) (λ c κs. search needs)
     (λ c. search needs) (λ c κs. unclosed (c .before .before .before)) (λ c. search needs) (λ c κs. search needs)
     (λ c κs. search needs) (λ c κs. search needs) (λ c κs. search needs) (λ c. search needs)
-    (λ c κs. unclosed (c .before .before .before)) returns-2 returns-3 returns-4 returns-5 returns-6 returns-7 returns-8
-    returns-9)
+    (λ c κs. unclosed (c .before .before .before))
+    (λ c. let t = c .before .before .before in let s = sessionOf (start t .args .words .now) in told t
+    (c .before .enum-told .given .1) (reset-looks s) (reset-wants s) (c .found .ensures))
+    (λ c. let t = c .before .before .before in let s = sessionOf (start t .args .words .now) in told t
+    (c .before .enum-told2 .given .1) (session-close-looks s) (session-close-wants s) (c .found2 .ensures)) returns-4
+    (λ c. let q = c .before .before .before in told (q .before .before) (q .request2 .given .1)
+    (c .before .execute .ensures) (execute-wants _ _) (c .found4 .ensures)) returns-6
+    (λ c. let q = c .before .before in of (q .before .before) (q .request4 .given .1) (c .look-open .ensures)) returns-8
+    (λ c. let q = c .before .before in of (q .before .before) (q .request6 .given .1) (c .look-fetch .ensures)))

@@ -6,15 +6,8 @@ use Rattle.protocol.specs.Reason as Reason
 use Rattle.keeper.proofs.refusal.closed_or.Statement.{statement}
 use Rattle.keeper.proofs.refusal.closed_or.Tie as tie
 
-returns : tie.Need-returns
-returns c =
-    let w = c .before in
-    yes Reason.closed (w .before .args .other) (sym (w .is-closed .ensures) ∙ c .if1 .taken)
-
-returns-2 : tie.Need-returns-2
-returns-2 c =
-    let w = c .before in
-    without Reason.closed (w .before .args .other) (sym (w .is-closed .ensures) ∙ c .if1 .left)
-
 pub closed-or-spec : {M : Type 1} → statement M
-closed-or-spec = tie.close (tie.spec (λ c κs. search needs) returns returns-2)
+closed-or-spec = tie.close (tie.spec (λ c κs. search needs)
+    (λ c. let w = c .before in yes Reason.closed (w .before .args .other) (sym (w .is-closed .ensures) ∙ c .if1 .taken))
+    (λ c. let w = c .before in without Reason.closed (w .before .args .other)
+    (sym (w .is-closed .ensures) ∙ c .if1 .left)))

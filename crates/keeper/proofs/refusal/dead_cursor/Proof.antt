@@ -4,11 +4,7 @@ use Rattle.keeper.proofs.ReasonLaws.{dead, alive}
 use Rattle.keeper.proofs.refusal.dead_cursor.Statement.{statement}
 use Rattle.keeper.proofs.refusal.dead_cursor.Tie as tie
 
-returns : tie.Need-returns
-returns c = dead (c .before .before .args .cursor .live) Reason.noCursor (c .if1 .taken)
-
-returns-2 : tie.Need-returns-2
-returns-2 c = alive (c .before .before .args .cursor .live) Reason.noCursor (c .if1 .left)
-
 pub dead-cursor-spec : {M : Type 1} → statement M
-dead-cursor-spec = tie.close (tie.spec returns returns-2)
+dead-cursor-spec = tie.close (tie.spec
+    (λ c. dead (c .before .before .args .cursor .live) Reason.noCursor (c .if1 .taken))
+    (λ c. alive (c .before .before .args .cursor .live) Reason.noCursor (c .if1 .left)))

@@ -3,11 +3,6 @@ use Rattle.keeper.proofs.ReasonLaws.{prepared-not, prepared-limit}
 use Rattle.keeper.proofs.refusal.is_prepared.Statement.{statement}
 use Rattle.keeper.proofs.refusal.is_prepared.Tie as tie
 
-returns : tie.Need-returns
-returns c = prepared-not (c .before .before .args .r) (c .if1 .taken)
-
-returns-2 : tie.Need-returns-2
-returns-2 c = let l = c .before in prepared-limit (l .before .before .args .r) (l .if1 .left)
-
 pub is-prepared-spec : {M : Type 1} → statement M
-is-prepared-spec = tie.close (tie.spec returns returns-2)
+is-prepared-spec = tie.close (tie.spec (λ c. prepared-not (c .before .before .args .r) (c .if1 .taken))
+    (λ c. let l = c .before in prepared-limit (l .before .before .args .r) (l .if1 .left)))

@@ -6,20 +6,10 @@ use borrow.Author.Needs.{needs}
 use Rattle.keeper.proofs.refusal.opening.Statement.{statement}
 use Rattle.keeper.proofs.refusal.opening.Tie as tie
 
-returns : tie.Need-returns
-returns c =
-    let l = c .before .before in
-    let a = l .before .before .args in
-    opening-other (a .id) (a .carried) (a .place) (l .if1 .taken) (c .if2 .taken)
-
-returns-2 : tie.Need-returns-2
-returns-2 c =
-    let a = c .before .before .before .args in
-    c .full .ensures
-    ∙ ⊎-elim
-    (λ w. opening-same (a .id) (a .carried) (a .place) (w .2 .left))
-    (λ w. opening-none (a .id) (a .carried) (a .place) (w .left))
-    (c .before .if1 .came)
-
 pub opening-spec : {M : Type 1} → statement M
-opening-spec = tie.close (tie.spec returns (λ c κs. search needs) returns-2)
+opening-spec = tie.close (tie.spec
+    (λ c. let l = c .before .before in let a = l .before .before .args in opening-other (a .id) (a .carried) (a .place)
+    (l .if1 .taken) (c .if2 .taken)) (λ c κs. search needs)
+    (λ c. let a = c .before .before .before .args in c .full .ensures ∙ ⊎-elim
+    (λ w. opening-same (a .id) (a .carried) (a .place) (w .2 .left))
+    (λ w. opening-none (a .id) (a .carried) (a .place) (w .left)) (c .before .if1 .came)))

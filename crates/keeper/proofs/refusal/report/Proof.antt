@@ -6,25 +6,11 @@ use Rattle.rules.specs.Report.{fails}
 use Rattle.keeper.proofs.refusal.report.Statement.{statement}
 use Rattle.keeper.proofs.refusal.report.Tie as tie
 
-returns : tie.Need-returns
-returns c =
-    let f = c .before in
-    let a = f .before .args in
-    report-failed (a .suits) (fails (a .r)) (sym (f .has-failed .ensures) ∙ c .if1 .taken)
-
-returns-2 : tie.Need-returns-2
-returns-2 c =
-    let l = c .before in
-    let f = l .before in
-    let a = f .before .args in
-    report-suited (a .suits) (fails (a .r)) (sym (f .has-failed .ensures) ∙ l .if1 .left) (c .if2 .taken)
-
-returns-3 : tie.Need-returns-3
-returns-3 c =
-    let l = c .before in
-    let f = l .before in
-    let a = f .before .args in
-    report-wrong (a .suits) (fails (a .r)) (sym (f .has-failed .ensures) ∙ l .if1 .left) (c .if2 .left)
-
 pub report-spec : {M : Type 1} → statement M
-report-spec = tie.close (tie.spec (λ c κs. search needs) returns returns-2 returns-3)
+report-spec = tie.close (tie.spec (λ c κs. search needs)
+    (λ c. let f = c .before in let a = f .before .args in report-failed (a .suits) (fails (a .r))
+    (sym (f .has-failed .ensures) ∙ c .if1 .taken))
+    (λ c. let l = c .before in let f = l .before in let a = f .before .args in report-suited (a .suits) (fails (a .r))
+    (sym (f .has-failed .ensures) ∙ l .if1 .left) (c .if2 .taken))
+    (λ c. let l = c .before in let f = l .before in let a = f .before .args in report-wrong (a .suits) (fails (a .r))
+    (sym (f .has-failed .ensures) ∙ l .if1 .left) (c .if2 .left)))

@@ -3,11 +3,6 @@ use Rattle.keeper.proofs.RowsLaws.{end-done, end-suspended}
 use Rattle.keeper.proofs.rows.end_of.Statement.{statement}
 use Rattle.keeper.proofs.rows.end_of.Tie as tie
 
-returns : tie.Need-returns
-returns c = end-done (c .before .args .left) (c .if1 .taken)
-
-returns-2 : tie.Need-returns-2
-returns-2 c = end-suspended (c .before .args .left) (c .if1 .left)
-
 pub end-of-spec : {M : Type 1} → statement M
-end-of-spec = tie.close (tie.spec returns returns-2)
+end-of-spec = tie.close (tie.spec (λ c. end-done (c .before .args .left) (c .if1 .taken))
+    (λ c. end-suspended (c .before .args .left) (c .if1 .left)))

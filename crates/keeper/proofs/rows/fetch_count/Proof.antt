@@ -4,18 +4,9 @@ use borrow.Author.Needs.{needs}
 use Rattle.keeper.proofs.rows.fetch_count.Statement.{statement}
 use Rattle.keeper.proofs.rows.fetch_count.Tie as tie
 
-returns : tie.Need-returns
-returns c =
-    let l = c .before .before in
-    let a = l .before .args in
-    fetch-some (a .cursor) (a .rows) (l .remaining .result) (l .remaining .ensures .0)
-    (c .least .result) (c .before .if1 .taken) (c .least .ensures)
-
-returns-2 : tie.Need-returns-2
-returns-2 c =
-    let l = c .before in
-    let a = l .before .args in
-    fetch-rest (a .cursor) (a .rows) (l .remaining .result) (l .remaining .ensures .0) (c .if1 .left)
-
 pub fetch-count-spec : {M : Type 1} → statement M
-fetch-count-spec = tie.close (tie.spec (λ c κs. search needs) (λ c κs. search needs) returns returns-2)
+fetch-count-spec = tie.close (tie.spec (λ c κs. search needs) (λ c κs. search needs)
+    (λ c. let l = c .before .before in let a = l .before .args in fetch-some (a .cursor) (a .rows)
+    (l .remaining .result) (l .remaining .ensures .0) (c .lesser .result) (c .before .if1 .taken) (c .lesser .ensures))
+    (λ c. let l = c .before in let a = l .before .args in fetch-rest (a .cursor) (a .rows) (l .remaining .result)
+    (l .remaining .ensures .0) (c .if1 .left)))

@@ -5,11 +5,8 @@ use borrow.Author.Needs.{needs}
 use Rattle.keeper.proofs.rows.fetched.Statement.{statement}
 use Rattle.keeper.proofs.rows.fetched.Tie as tie
 
-returns : tie.Need-returns
-returns c =
-    let a = c .before .before .before .args in
-    sends-with false (a .cursor .sent) (a .count) (c .end-of .ensures)
-
 pub fetched-spec : {M : Type 1} → statement M
 fetched-spec = tie.close (tie.spec (λ c. search needs) (λ c. search needs) (λ c. search needs) (λ c. search needs)
-    (λ c κs. search needs) returns)
+    (λ c κs. search needs)
+    (λ c. let a = c .before .before .before .args in sends-with false (a .cursor .sent) (a .count)
+    (c .end-of .ensures)))

@@ -4,13 +4,8 @@ use borrow.Author.Needs.{needs}
 use Rattle.keeper.proofs.rows.open_count.Statement.{statement}
 use Rattle.keeper.proofs.rows.open_count.Tie as tie
 
-returns : tie.Need-returns
-returns c =
-    let a = c .before .before .args in
-    open-some (a .rows) (a .reported) (c .least .result) (c .before .if1 .taken) (c .least .ensures)
-
-returns-2 : tie.Need-returns-2
-returns-2 c = let a = c .before .args in open-none (a .rows) (a .reported) (c .if1 .left)
-
 pub open-count-spec : {M : Type 1} → statement M
-open-count-spec = tie.close (tie.spec (λ c κs. search needs) returns returns-2)
+open-count-spec = tie.close (tie.spec (λ c κs. search needs)
+    (λ c. let a = c .before .before .args in open-some (a .rows) (a .reported) (c .lesser .result)
+    (c .before .if1 .taken) (c .lesser .ensures))
+    (λ c. let a = c .before .args in open-none (a .rows) (a .reported) (c .if1 .left)))

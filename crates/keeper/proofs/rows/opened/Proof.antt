@@ -7,11 +7,7 @@ use borrow.Author.Needs.{needs}
 use Rattle.keeper.proofs.rows.opened.Statement.{statement}
 use Rattle.keeper.proofs.rows.opened.Tie as tie
 
-returns : tie.Need-returns
-returns c =
-    let a = c .before .before .before .args in
-    sends-with (not (eqb (a .report .columns) 0)) 0 (a .count)
-    (c .end-of .ensures ∙ left-first (a .report .rows) (a .count))
-
 pub opened-spec : {M : Type 1} → statement M
-opened-spec = tie.close (tie.spec (λ c. search needs) (λ c κs. search needs) returns)
+opened-spec = tie.close (tie.spec (λ c. search needs) (λ c κs. search needs)
+    (λ c. let a = c .before .before .before .args in sends-with (not (eqb (a .report .columns) 0)) 0 (a .count)
+    (c .end-of .ensures ∙ left-first (a .report .rows) (a .count))))

@@ -16,13 +16,6 @@ use Rattle.keeper.proofs.FrameLaws.{does-read, readable, sym-answer, Cl
 use Rattle.keeper.proofs.step.step.Statement.{statement}
 use Rattle.keeper.proofs.step.step.Tie as tie
 
-returns : tie.Need-returns
-returns c =
-    let a = c .before .before .before .before .args in
-    clauses (sym-answer (c .refuse-silently .ensures)
-    (short-step (sessionOf (a .words .now)) (a .report) (a .reply .now) (frameOf (a .frame .now))
-    (c .before .if1 .taken)))
-
 -- there is room, where the frame was read; what is done is done of what it was read as
 abbrev start : tie.After-read-frame → tie.Start
 start f = f .before .before .before .before
@@ -70,21 +63,15 @@ returns-5 c =
     (payload-refuses (sessionOf (a .words .now)) _ (a .report) (a .reply .now) (f .before .if1 .left) _
     (k .closed-or2 .ensures) (c .before .before .refuse2 .ensures))
 
-step-on-requires : tie.Need-step-on-requires
-step-on-requires c κs =
-    let u = c .before .before .before in
-    let f = u .before .before in
-    readable (start f .args .frame .now) (start f .args .reply .now) (f .read-frame .ensures) (u .used3 .given .1)
-    (f .before .if1 .left)
-
-returns-6 : tie.Need-returns-6
-returns-6 c =
-    let u = c .before .before .before .before .before .before in
-    of (u .before .before) (u .used3 .given .1) (c .before .before .step-on .ensures)
-
 pub step-spec : {M : Type 1} → statement M
-step-spec = tie.close (tie.spec (λ c κs. search needs) returns (λ c κs. search needs) (λ c. search needs)
-    (λ c κs. search needs) (λ c. search needs) (λ c κs. search needs) (λ c. search needs) (λ c κs. search needs)
+step-spec = tie.close (tie.spec (λ c κs. search needs)
+    (λ c. let a = c .before .before .before .before .args in clauses (sym-answer (c .refuse-silently .ensures)
+    (short-step (sessionOf (a .words .now)) (a .report) (a .reply .now) (frameOf (a .frame .now))
+    (c .before .if1 .taken)))) (λ c κs. search needs) (λ c. search needs) (λ c κs. search needs) (λ c. search needs)
     (λ c κs. search needs) (λ c. search needs) (λ c κs. search needs) (λ c κs. search needs) (λ c. search needs)
-    step-on-requires returns-2 returns-3 (λ c. search needs) returns-4 (λ c. search needs) returns-5 (λ c. search needs)
-    returns-6)
+    (λ c κs. search needs) (λ c κs. search needs) (λ c. search needs)
+    (λ c κs. let u = c .before .before .before in let f = u .before .before in readable (start f .args .frame .now)
+    (start f .args .reply .now) (f .read-frame .ensures) (u .used3 .given .1) (f .before .if1 .left)) returns-2
+    returns-3 (λ c. search needs) returns-4 (λ c. search needs) returns-5 (λ c. search needs)
+    (λ c. let u = c .before .before .before .before .before .before in of (u .before .before) (u .used3 .given .1)
+    (c .before .before .step-on .ensures)))
