@@ -11,12 +11,6 @@ use borrow.Author.Needs.{needs}
 use Rattle.writer.proofs.write_message.Statement.{statement}
 use Rattle.writer.proofs.write_message.Tie as tie
 
-returns : tie.Need-returns
-returns c =
-    let a = c .before .before .before .before .before .args in
-    wrote-bad (a .draft) (a .body .now) (a .args .now) (a .buf .now)
-    (sym (c .before .is-accepted .ensures) ∙ not-true _ (c .if1 .taken))
-
 returns-2 : tie.Need-returns-2
 returns-2 c =
     let a = c .before .before .before .before .before .before .before .args in
@@ -47,6 +41,8 @@ returns-4 c =
     (w .put-payload .ensures)
 
 pub write-message-spec : {M : Type 1} → statement M
-write-message-spec = tie.close (tie.spec (λ c κs. search needs) returns (λ c κs. search needs) returns-2
+write-message-spec = tie.close (tie.spec (λ c κs. search needs)
+    (λ c. let a = c .before .before .before .before .before .args in wrote-bad (a .draft) (a .body .now) (a .args .now)
+    (a .buf .now) (sym (c .before .is-accepted .ensures) ∙ not-true _ (c .if1 .taken))) (λ c κs. search needs) returns-2
     (λ c. search needs) returns-3 (λ c. search needs) (λ c. search needs) (λ c κs. search needs) (λ c κs. search needs)
     (λ c. search needs) returns-4)

@@ -9,12 +9,6 @@ use Rattle.writer.specs.Judge.{goodBody}
 use Rattle.writer.proofs.judge.is_prepare.Statement.{statement}
 use Rattle.writer.proofs.judge.is_prepare.Tie as tie
 
-returns : tie.Need-returns
-returns c =
-    let a = c .before .before .before .args in
-    without (goodBody (a .operation) (a .body .now)) false
-    (sym (c .before .is-type .ensures) ∙ not-true _ (c .if1 .taken))
-
 returns-2 : tie.Need-returns-2
 returns-2 c =
     let a = c .before .before .before .before .args in
@@ -23,4 +17,6 @@ returns-2 c =
     (sym (c .before .before .is-type .ensures) ∙ not-false _ (c .before .if1 .left))
 
 pub is-prepare-spec : {M : Type 1} → statement M
-is-prepare-spec = tie.close (tie.spec (λ c κs. search needs) returns (λ c κs. search needs) returns-2)
+is-prepare-spec = tie.close (tie.spec (λ c κs. search needs)
+    (λ c. let a = c .before .before .before .args in without (goodBody (a .operation) (a .body .now)) false
+    (sym (c .before .is-type .ensures) ∙ not-true _ (c .if1 .taken))) (λ c κs. search needs) returns-2)

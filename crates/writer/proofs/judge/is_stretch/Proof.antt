@@ -16,14 +16,6 @@ Inv-loop s p₀ p = Judging s p
 abbrev μ-loop : tie.MeasureT-loop
 μ-loop s p₀ p = length s - p
 
-loop-holds : tie.Need-loop-holds Inv-loop μ-loop
-loop-holds c = starts (c .before .args .s .now)
-
-returns : tie.Need-returns Inv-loop μ-loop
-returns c =
-    no-field (c .before .before .before .before .loop .inv) (c .before .before .before .loop-test .taken) (sym
-    (c .before .before .read-field .ensures) ∙ c .enum-told .given .1)
-
 returns-2 : tie.Need-returns-2 Inv-loop μ-loop
 returns-2 c =
     other-number (c .before .before .before .before .before .before .loop .inv)
@@ -67,10 +59,9 @@ loop-again c =
     (c .before .before .before .before .if1 .left) (c .before .before .before .if2 .left)
     (λ z. c .if3 .left (c .before .any-type .ensures ∙ ap anyTypeOf (c .before .before .read-argument .ensures) ∙ z))
 
-returns-5 : tie.Need-returns-5 Inv-loop μ-loop
-returns-5 c = ends (c .before .loop .inv) (c .loop-test .left)
-
 pub is-stretch-spec : {M : Type 1} → statement M
-is-stretch-spec = tie.close (tie.spec Inv-loop μ-loop loop-holds (λ c κs. search needs) (λ c. search needs)
-    (λ c. search needs) returns returns-2 returns-3 (λ c κs. search needs) (λ c κs. search needs) returns-4 loop-less
-    loop-again returns-5)
+is-stretch-spec = tie.close (tie.spec Inv-loop μ-loop (λ c. starts (c .before .args .s .now)) (λ c κs. search needs)
+    (λ c. search needs) (λ c. search needs)
+    (λ c. no-field (c .before .before .before .before .loop .inv) (c .before .before .before .loop-test .taken)
+    (sym (c .before .before .read-field .ensures) ∙ c .enum-told .given .1)) returns-2 returns-3 (λ c κs. search needs)
+    (λ c κs. search needs) returns-4 loop-less loop-again (λ c. ends (c .before .loop .inv) (c .loop-test .left)))

@@ -10,25 +10,15 @@ use borrow.Author.Needs.{needs}
 use Rattle.writer.proofs.payload.execute_len.Statement.{statement}
 use Rattle.writer.proofs.payload.execute_len.Tie as tie
 
-add-result : tie.Need-add-result
-add-result c =
-    let a = c .before .before .before .args in
-    omega (arith, number-short 1 (a .draft .stmt))
-
-add-result-2 : tie.Need-add-result-2
-add-result-2 c =
-    let a = c .before .before .before .before .before .args in
-    omega (arith, number-short 1 (a .draft .stmt), optional-short (a .draft .hascompact) 3 (c .before .bit .result))
-
-returns : tie.Need-returns
-returns c =
-    let a = c .before .before .before .before .before .args in
-    omega (
-      arith,
-      execute-parts (a .draft) (a .args .now),
-      ap (λ (v : ℕ). length (optionalField (a .draft .hascompact) 3 v)) (c .before .bit .ensures),
-    )
-
 pub execute-len-spec : {M : Type 1} → statement M
-execute-len-spec = tie.close (tie.spec (λ c. search needs) (λ c κs. search needs) add-result (λ c κs. search needs)
-    (λ c κs. search needs) add-result-2 returns)
+execute-len-spec = tie.close (tie.spec (λ c. search needs) (λ c κs. search needs)
+    (λ c. let a = c .before .before .before .args in omega (arith, number-short 1 (a .draft .stmt)))
+    (λ c κs. search needs) (λ c κs. search needs)
+    (λ c. let a = c .before .before .before .before .before .args in omega
+    (arith, number-short 1 (a .draft .stmt), optional-short (a .draft .hascompact) 3 (c .before .bit .result)))
+    (λ c. let a = c .before .before .before .before .before .args in omega (
+      arith,
+      execute-parts (a .draft)
+          (a .args .now),
+      ap (λ (v : ℕ). length (optionalField (a .draft .hascompact) 3 v)) (c .before .bit .ensures),
+    )))

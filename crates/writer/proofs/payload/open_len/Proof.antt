@@ -10,22 +10,6 @@ use borrow.Author.Needs.{needs}
 use Rattle.writer.proofs.payload.open_len.Statement.{statement}
 use Rattle.writer.proofs.payload.open_len.Tie as tie
 
-add-result : tie.Need-add-result
-add-result c =
-    let a = c .before .before .before .before .before .args in
-    omega (arith, number-short 1 (a .draft .cursor), prefix-short 4 (c .before .before .before .open-stmt-len .result))
-
-add-result-2 : tie.Need-add-result-2
-add-result-2 c =
-    let a = c .before .before .before .before .before .args in
-    omega (
-      arith,
-      number-short 1 (a .draft .cursor),
-      prefix-short 4 (c .before .before .before .open-stmt-len .result),
-      open-stmt-short (a .draft)
-          (a .args .now),
-    )
-
 add-result-3 : tie.Need-add-result-3
 add-result-3 c =
     let a = c .before .before .before .before .before .before .args in
@@ -38,16 +22,21 @@ add-result-3 c =
       optional-short (a .draft .hasrows) 5 (a .draft .rows),
     )
 
-returns : tie.Need-returns
-returns c =
-    let a = c .before .before .before .before .before .before .args in
-    omega (
-      arith,
-      open-parts (a .draft) (a .args .now),
-      ap (λ (n : ℕ). length (prefixOf 4 n))
-          (c .before .before .before .before .open-stmt-len .ensures),
-    )
-
 pub open-len-spec : {M : Type 1} → statement M
 open-len-spec = tie.close (tie.spec (λ c κs. search needs) (λ c. search needs) (λ c κs. search needs)
-    (λ c κs. search needs) add-result add-result-2 (λ c κs. search needs) add-result-3 returns)
+    (λ c κs. search needs)
+    (λ c. let a = c .before .before .before .before .before .args in omega
+    (arith, number-short 1 (a .draft .cursor), prefix-short 4 (c .before .before .before .open-stmt-len .result)))
+    (λ c. let a = c .before .before .before .before .before .args in omega (
+      arith,
+      number-short 1 (a .draft .cursor),
+      prefix-short 4 (c .before .before .before .open-stmt-len .result),
+      open-stmt-short (a .draft) (a .args .now),
+    ))
+    (λ c κs. search needs) add-result-3
+    (λ c. let a = c .before .before .before .before .before .before .args in omega (
+      arith,
+      open-parts (a .draft)
+          (a .args .now),
+      ap (λ (n : ℕ). length (prefixOf 4 n)) (c .before .before .before .before .open-stmt-len .ensures),
+    )))

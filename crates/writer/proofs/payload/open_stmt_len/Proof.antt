@@ -10,30 +10,19 @@ use borrow.Author.Needs.{needs}
 use Rattle.writer.proofs.payload.open_stmt_len.Statement.{statement}
 use Rattle.writer.proofs.payload.open_stmt_len.Tie as tie
 
-add-result : tie.Need-add-result
-add-result c =
-    let a = c .before .before .before .before .args in
-    omega (arith, number-short 1 0, prefix-short 2 (c .before .before .execute-len .result))
-
-add-result-2 : tie.Need-add-result-2
-add-result-2 c =
-    let a = c .before .before .before .before .args in
-    omega (
+pub open-stmt-len-spec : {M : Type 1} → statement M
+open-stmt-len-spec = tie.close (tie.spec (λ c κs. search needs) (λ c κs. search needs) (λ c κs. search needs)
+    (λ c. let a = c .before .before .before .before .args in omega
+    (arith, number-short 1 0, prefix-short 2 (c .before .before .execute-len .result)))
+    (λ c. let a = c .before .before .before .before .args in omega (
       arith,
       number-short 1 0,
-      prefix-short 2 (c .before .before .execute-len .result),
+      prefix-short 2
+          (c .before .before .execute-len .result),
       execute-short (a .draft) (a .args .now),
-    )
-
-returns : tie.Need-returns
-returns c =
-    let a = c .before .before .before .before .args in
-    omega (
+    ))
+    (λ c. let a = c .before .before .before .before .args in omega (
       arith,
       open-stmt-parts (a .draft) (a .args .now),
       ap (λ (n : ℕ). length (prefixOf 2 n)) (c .before .before .execute-len .ensures),
-    )
-
-pub open-stmt-len-spec : {M : Type 1} → statement M
-open-stmt-len-spec = tie.close (tie.spec (λ c κs. search needs) (λ c κs. search needs) (λ c κs. search needs) add-result
-    add-result-2 returns)
+    )))

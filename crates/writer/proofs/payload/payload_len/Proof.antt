@@ -7,41 +7,6 @@ use borrow.Author.Needs.{needs}
 use Rattle.writer.proofs.payload.payload_len.Statement.{statement}
 use Rattle.writer.proofs.payload.payload_len.Tie as tie
 
-returns : tie.Need-returns
-returns c =
-    let a = c .before .before .before .before .args in
-    c .prepare-len .ensures
-    ∙ ap length (sym (as-prepare (a .draft) (a .body .now) (a .args .now) (c .before .match .keys1)))
-
-returns-2 : tie.Need-returns-2
-returns-2 c =
-    let a = c .before .before .before .before .args in
-    c .execute-len .ensures
-    ∙ ap length (sym (as-execute (a .draft) (a .body .now) (a .args .now) (c .before .match .keys2)))
-
-returns-3 : tie.Need-returns-3
-returns-3 c =
-    let a = c .before .before .before .before .before .args in
-    c .number-len .ensures
-    ∙ ap length (sym (as-deallocate (a .draft) (a .body .now) (a .args .now) (c .before .before .match .keys3)))
-
-returns-4 : tie.Need-returns-4
-returns-4 c =
-    let a = c .before .before .before .before .args in
-    c .open-len .ensures ∙ ap length (sym (as-open (a .draft) (a .body .now) (a .args .now) (c .before .match .keys4)))
-
-returns-5 : tie.Need-returns-5
-returns-5 c =
-    let a = c .before .before .before .before .before .args in
-    c .number-len2 .ensures
-    ∙ ap length (sym (as-close (a .draft) (a .body .now) (a .args .now) (c .before .before .match .keys5)))
-
-returns-6 : tie.Need-returns-6
-returns-6 c =
-    let a = c .before .before .before .before .args in
-    c .fetch-len .ensures
-    ∙ ap length (sym (as-fetch (a .draft) (a .body .now) (a .args .now) (c .before .match .keys6)))
-
 returns-7 : tie.Need-returns-7
 returns-7 c =
     let a = c .before .before .before .args in
@@ -52,4 +17,15 @@ returns-7 c =
 pub payload-len-spec : {M : Type 1} → statement M
 payload-len-spec = tie.close (tie.spec (λ c κs. search needs) (λ c κs. search needs) (λ c. search needs)
     (λ c κs. search needs) (λ c κs. search needs) (λ c. search needs) (λ c κs. search needs) (λ c κs. search needs)
-    returns returns-2 returns-3 returns-4 returns-5 returns-6 returns-7)
+    (λ c. let a = c .before .before .before .before .args in c .prepare-len .ensures ∙ ap length
+    (sym (as-prepare (a .draft) (a .body .now) (a .args .now) (c .before .match .keys1))))
+    (λ c. let a = c .before .before .before .before .args in c .execute-len .ensures ∙ ap length
+    (sym (as-execute (a .draft) (a .body .now) (a .args .now) (c .before .match .keys2))))
+    (λ c. let a = c .before .before .before .before .before .args in c .number-len .ensures ∙ ap length
+    (sym (as-deallocate (a .draft) (a .body .now) (a .args .now) (c .before .before .match .keys3))))
+    (λ c. let a = c .before .before .before .before .args in c .open-len .ensures ∙ ap length
+    (sym (as-open (a .draft) (a .body .now) (a .args .now) (c .before .match .keys4))))
+    (λ c. let a = c .before .before .before .before .before .args in c .number-len2 .ensures ∙ ap length
+    (sym (as-close (a .draft) (a .body .now) (a .args .now) (c .before .before .match .keys5))))
+    (λ c. let a = c .before .before .before .before .args in c .fetch-len .ensures ∙ ap length
+    (sym (as-fetch (a .draft) (a .body .now) (a .args .now) (c .before .match .keys6)))) returns-7)

@@ -10,11 +10,6 @@ use borrow.Author.Needs.{needs}
 use Rattle.writer.proofs.payload.prepare_len.Statement.{statement}
 use Rattle.writer.proofs.payload.prepare_len.Tie as tie
 
-add-result : tie.Need-add-result
-add-result c =
-    let a = c .before .before .before .before .before .args in
-    omega (arith, number-short 1 (a .draft .stmt), prefix-short 2 (c .before .before .before .prepare-stmt-len .result))
-
 add-result-2 : tie.Need-add-result-2
 add-result-2 c =
     let a = c .before .before .before .before .before .args in
@@ -26,16 +21,15 @@ add-result-2 c =
           (a .draft) (a .body .now),
     )
 
-returns : tie.Need-returns
-returns c =
-    let a = c .before .before .before .before .before .args in
-    omega (
-      arith,
-      prepare-parts (a .draft) (a .body .now),
-      ap (λ (n : ℕ). length (prefixOf 2 n))
-          (c .before .before .before .prepare-stmt-len .ensures),
-    )
-
 pub prepare-len-spec : {M : Type 1} → statement M
 prepare-len-spec = tie.close (tie.spec (λ c κs. search needs) (λ c. search needs) (λ c κs. search needs)
-    (λ c κs. search needs) add-result add-result-2 returns)
+    (λ c κs. search needs)
+    (λ c. let a = c .before .before .before .before .before .args in omega
+    (arith, number-short 1 (a .draft .stmt), prefix-short 2 (c .before .before .before .prepare-stmt-len .result)))
+    add-result-2
+    (λ c. let a = c .before .before .before .before .before .args in omega (
+      arith,
+      prepare-parts (a .draft)
+          (a .body .now),
+      ap (λ (n : ℕ). length (prefixOf 2 n)) (c .before .before .before .prepare-stmt-len .ensures),
+    )))

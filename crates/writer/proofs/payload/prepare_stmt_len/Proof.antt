@@ -10,34 +10,23 @@ use borrow.Author.Needs.{needs}
 use Rattle.writer.proofs.payload.prepare_stmt_len.Statement.{statement}
 use Rattle.writer.proofs.payload.prepare_stmt_len.Tie as tie
 
-add-result : tie.Need-add-result
-add-result c =
-    let a = c .before .before .before .before .args in
-    omega (
-      arith,
-      number-short 1 (a .draft .operation),
-      prefix-short (c .before .before .field-of .result) (length (a .body .now)),
-    )
-
-add-result-2 : tie.Need-add-result-2
-add-result-2 c =
-    let a = c .before .before .before .before .args in
-    omega (
-      arith,
-      number-short 1 (a .draft .operation),
-      prefix-short (c .before .before .field-of .result) (length (a .body .now)),
-    )
-
-returns : tie.Need-returns
-returns c =
-    let a = c .before .before .before .before .args in
-    omega (
-      arith,
-      prepare-stmt-parts (a .draft) (a .body .now),
-      ap (λ (k : ℕ). length (prefixOf k (length (a .body .now))))
-          (c .before .before .field-of .ensures .0),
-    )
-
 pub prepare-stmt-len-spec : {M : Type 1} → statement M
 prepare-stmt-len-spec = tie.close (tie.spec (λ c κs. search needs) (λ c. search needs) (λ c κs. search needs)
-    (λ c κs. search needs) add-result add-result-2 returns)
+    (λ c κs. search needs)
+    (λ c. let a = c .before .before .before .before .args in omega (
+      arith,
+      number-short 1 (a .draft .operation),
+      prefix-short (c .before .before .field-of .result) (length (a .body .now)),
+    ))
+    (λ c. let a = c .before .before .before .before .args in omega (
+      arith,
+      number-short 1 (a .draft .operation),
+      prefix-short (c .before .before .field-of .result) (length (a .body .now)),
+    ))
+    (λ c. let a = c .before .before .before .before .args in omega (
+      arith,
+      prepare-stmt-parts (a .draft)
+          (a .body .now),
+      ap (λ (k : ℕ). length (prefixOf k (length (a .body .now))))
+          (c .before .before .field-of .ensures .0),
+    )))
