@@ -9,13 +9,6 @@ use Rattle.args_writer.proofs.AppendLaws.{part-within, did-bad, did-ful
 use Rattle.args_writer.proofs.append_argument.Statement.{statement}
 use Rattle.args_writer.proofs.append_argument.Tie as tie
 
-returns : tie.Need-returns
-returns c =
-    let f = c .before .before in
-    let a = f .before .before .before .args in
-    did-bad (a .a) (a .src .now) (a .buf .now) (a .at) (f .form-of .result) (f .form-of .ensures)
-    (not-true _ (c .if1 .taken))
-
 add-end : tie.Need-add-end
 add-end c =
     let e = c .before in
@@ -26,14 +19,6 @@ add-end c =
       part-within (a .a) (a .src .now) (a .buf .now) (a .at) (f .form-of .result) (f .form-of .ensures)
           (not-false _ (e .if1 .left)),
     )
-
-part-bytes-end : tie.Need-part-bytes-end
-part-bytes-end c =
-    let e = c .before in
-    let f = e .before .before in
-    let a = f .before .before .before .args in
-    part-within (a .a) (a .src .now) (a .buf .now) (a .at) (f .form-of .result) (f .form-of .ensures)
-    (not-false _ (e .if1 .left))
 
 returns-2 : tie.Need-returns-2
 returns-2 c =
@@ -63,6 +48,10 @@ returns-3 c =
     (not-false _ (e .if1 .left)) _ refl (omega (arith, n .field-len .ensures)) (w .put-field .ensures)
 
 pub append-argument-spec : {M : Type 1} → statement M
-append-argument-spec = tie.close (tie.spec (λ c κs. search needs) returns add-end (λ c. search needs)
-    (λ c. search needs) part-bytes-end (λ c κs. search needs) (λ c κs. search needs) returns-2 (λ c κs. search needs)
-    (λ c. search needs) returns-3)
+append-argument-spec = tie.close (tie.spec (λ c κs. search needs)
+    (λ c. let f = c .before .before in let a = f .before .before .before .args in did-bad (a .a) (a .src .now)
+    (a .buf .now) (a .at) (f .form-of .result) (f .form-of .ensures) (not-true _ (c .if1 .taken))) add-end
+    (λ c. search needs) (λ c. search needs)
+    (λ c. let e = c .before in let f = e .before .before in let a = f .before .before .before .args in part-within
+    (a .a) (a .src .now) (a .buf .now) (a .at) (f .form-of .result) (f .form-of .ensures) (not-false _ (e .if1 .left)))
+    (λ c κs. search needs) (λ c κs. search needs) returns-2 (λ c κs. search needs) (λ c. search needs) returns-3)

@@ -1,4 +1,5 @@
--- `args_writer::field::any_len` meets its contract. Assumes nothing.
+-- `args_writer::field::any_len` meets its contract: an Any is its type, a prefix and its scalar, and both are short.
+-- Assumes nothing.
 use borrow.Author.Needs.{needs}
 use native.Mathlib.Omega.{arith}
 use Prim.Native.Nat.{ℕ}
@@ -11,28 +12,19 @@ use Rattle.args_writer.proofs.SizeLaws.{scalar-short, any-parts}
 use Rattle.args_writer.proofs.field.any_len.Statement.{statement}
 use Rattle.args_writer.proofs.field.any_len.Tie as tie
 
-add-result : tie.Need-add-result
-add-result c = omega (arith, number-short 1 1, prefix-short 2 (c .before .before .scalar-len .result))
-
-add-result-2 : tie.Need-add-result-2
-add-result-2 c =
-    let a = c .before .before .before .before .args in
-    omega (
+pub any-len-spec : {M : Type 1} → statement M
+any-len-spec = tie.close (tie.spec (λ c κs. search needs) (λ c κs. search needs) (λ c κs. search needs)
+    (λ c. omega (arith, number-short 1 1, prefix-short 2 (c .before .before .scalar-len .result)))
+    (λ c. let a = c .before .before .before .before .args in omega (
       arith,
       number-short 1 1,
-      prefix-short 2 (c .before .before .scalar-len .result),
+      prefix-short 2
+          (c .before .before .scalar-len .result),
       scalar-short (a .f .kind) (a .f) (a .bytes .now),
-    )
-
-returns : tie.Need-returns
-returns c =
-    let a = c .before .before .before .before .args in
-    omega (
+    ))
+    (λ c. let a = c .before .before .before .before .args in omega (
       arith,
-      any-parts (a .f .kind) (valueIn (a .f) (a .bytes .now)),
+      any-parts (a .f .kind) (valueIn (a .f)
+          (a .bytes .now)),
       ap (λ (n : ℕ). length (prefixOf 2 n)) (c .before .before .scalar-len .ensures),
-    )
-
-pub any-len-spec : {M : Type 1} → statement M
-any-len-spec = tie.close (tie.spec (λ c κs. search needs) (λ c κs. search needs) (λ c κs. search needs) add-result
-    add-result-2 returns)
+    )))

@@ -1,4 +1,5 @@
--- `args_writer::field::field_len` meets its contract. Assumes nothing.
+-- `args_writer::field::field_len` meets its contract: a field is its prefix and its Any, and both are short.
+-- Assumes nothing.
 use borrow.Author.Needs.{needs}
 use native.Mathlib.Omega.{arith}
 use Prim.Native.Nat.{ℕ}
@@ -12,19 +13,13 @@ use Rattle.args_writer.proofs.SizeLaws.{any-short}
 use Rattle.args_writer.proofs.field.field_len.Statement.{statement}
 use Rattle.args_writer.proofs.field.field_len.Tie as tie
 
-add-result : tie.Need-add-result
-add-result c =
-    let a = c .before .before .before .args in
-    omega (arith, prefix-short 2 (c .before .any-len .result), any-short (a .f .kind) (a .f) (a .bytes .now))
-
-returns : tie.Need-returns
-returns c =
-    let a = c .before .before .before .args in
-    omega (
-      arith,
-      bytes-sum 2 (anyBytes (a .f .kind) (valueIn (a .f) (a .bytes .now))),
-      ap (λ (n : ℕ). length (prefixOf 2 n)) (c .before .any-len .ensures),
-    )
-
 pub field-len-spec : {M : Type 1} → statement M
-field-len-spec = tie.close (tie.spec (λ c κs. search needs) (λ c κs. search needs) add-result returns)
+field-len-spec = tie.close (tie.spec (λ c κs. search needs) (λ c κs. search needs)
+    (λ c. let a = c .before .before .before .args in omega
+    (arith, prefix-short 2 (c .before .any-len .result), any-short (a .f .kind) (a .f) (a .bytes .now)))
+    (λ c. let a = c .before .before .before .args in omega (
+      arith,
+      bytes-sum 2 (anyBytes (a .f .kind)
+          (valueIn (a .f) (a .bytes .now))),
+      ap (λ (n : ℕ). length (prefixOf 2 n)) (c .before .any-len .ensures),
+    )))

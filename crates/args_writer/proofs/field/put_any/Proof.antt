@@ -1,4 +1,4 @@
--- `args_writer::field::put_any` meets its contract. Assumes nothing.
+-- `args_writer::field::put_any` meets its contract: what its parts put stands one behind the other. Assumes nothing.
 use borrow.Author.Needs.{needs}
 use Rattle.args_writer.specs.Scalar.{scalarBytes, anyBytes}
 use Rattle.args_writer.specs.private.Form.{valueIn}

@@ -1,4 +1,4 @@
--- `args_writer::field::put_field` meets its contract. Assumes nothing.
+-- `args_writer::field::put_field` meets its contract: its prefix counts the Any behind it. Assumes nothing.
 use borrow.Author.Needs.{needs}
 use Rattle.args_writer.specs.Scalar.{anyBytes}
 use Rattle.args_writer.specs.private.Form.{valueIn}

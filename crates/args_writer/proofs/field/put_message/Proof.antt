@@ -1,4 +1,4 @@
--- `args_writer::field::put_message` meets its contract. Assumes nothing.
+-- `args_writer::field::put_message` meets its contract: its prefix counts the bytes field behind it. Assumes nothing.
 use borrow.Author.Needs.{needs}
 use Rattle.encode.specs.Field.{bytesField}
 use Rattle.encode.proofs.FieldLaws.{puts-counted}

@@ -1,4 +1,4 @@
--- `args_writer::field::value_len` meets its contract. Assumes nothing.
+-- `args_writer::field::value_len` meets its contract: a law of `SizeLaws` for each wire type. Assumes nothing.
 use borrow.Author.Needs.{needs}
 use native.Mathlib.Omega.{arith}
 use Prim.Native.Nat.{ℕ, _+_, _*_}
@@ -11,37 +11,6 @@ use Rattle.args_writer.proofs.SizeLaws.{as-number, as-eight, as-bytes, 
 use Rattle.args_writer.proofs.field.value_len.Statement.{statement}
 use Rattle.args_writer.proofs.field.value_len.Tie as tie
 
-add-result : tie.Need-add-result
-add-result c = omega (arith, varint-length (c .before .before .before .args .f .num * 8 + 1))
-
-add-result-2 : tie.Need-add-result-2
-add-result-2 c =
-    let a = c .before .before .before .before .before .args in
-    omega (
-      arith,
-      prefix-short (a .f .num) (c .before .before .inner-len .result),
-      bytes-sum 1 (a .bytes .now),
-      prefix-short 1 (length (a .bytes .now)),
-    )
-
-add-result-3 : tie.Need-add-result-3
-add-result-3 c = omega (arith, varint-length (c .before .before .before .args .f .num * 8 + 5))
-
-returns : tie.Need-returns
-returns c =
-    let a = c .before .before .before .args in
-    c .number-len .ensures
-    ∙ ap length (sym (as-number (a .f .num) (a .f .bits) (a .bytes .now) (c .before .match .keys1)))
-
-returns-2 : tie.Need-returns-2
-returns-2 c =
-    let a = c .before .before .before .args in
-    omega (
-      arith,
-      fixed-parts (a .f .num) 1 8 (a .f .bits),
-      ap length (as-eight (a .f .num) (a .f .bits) (a .bytes .now) (c .before .match .keys2)),
-    )
-
 returns-3 : tie.Need-returns-3
 returns-3 c =
     let a = c .before .before .before .before .before .args in
@@ -52,23 +21,31 @@ returns-3 c =
       ap length (as-bytes (a .f .num) (a .f .bits) (a .bytes .now) (c .before .before .before .match .keys3)),
     )
 
-returns-4 : tie.Need-returns-4
-returns-4 c =
-    let a = c .before .before .before .args in
-    omega (
+pub value-len-spec : {M : Type 1} → statement M
+value-len-spec = tie.close (tie.spec (λ c κs. search needs) (λ c κs. search needs)
+    (λ c. omega (arith, varint-length (c .before .before .before .args .f .num * 8 + 1))) (λ c κs. search needs)
+    (λ c κs. search needs) (λ c κs. search needs)
+    (λ c. let a = c .before .before .before .before .before .args in omega (
+      arith,
+      prefix-short (a .f .num)
+          (c .before .before .inner-len .result),
+      bytes-sum 1 (a .bytes .now),
+      prefix-short 1 (length (a .bytes .now)),
+    ))
+    (λ c κs. search needs) (λ c. omega (arith, varint-length (c .before .before .before .args .f .num * 8 + 5)))
+    (λ c. let a = c .before .before .before .args in c .number-len .ensures ∙ ap length
+    (sym (as-number (a .f .num) (a .f .bits) (a .bytes .now) (c .before .match .keys1))))
+    (λ c. let a = c .before .before .before .args in omega (
+      arith,
+      fixed-parts (a .f .num) 1 8 (a .f .bits),
+      ap length
+          (as-eight (a .f .num) (a .f .bits) (a .bytes .now) (c .before .match .keys2)),
+    )) returns-3
+    (λ c. let a = c .before .before .before .args in omega (
       arith,
       fixed-parts (a .f .num) 5 4 (a .f .bits),
-      ap length (as-four (a .f .num) (a .f .bits) (a .bytes .now) (c .before .match .keys4)),
-    )
-
-returns-5 : tie.Need-returns-5
-returns-5 c =
-    let a = c .before .before .args in
-    let r = c .match .rest in
-    ap length
-    (sym (as-none (a .f .num) (a .f .bits) (a .bytes .now) (r .0 .0 .0 .1) (r .0 .0 .1) (r .0 .1) (r .1)))
-
-pub value-len-spec : {M : Type 1} → statement M
-value-len-spec = tie.close (tie.spec (λ c κs. search needs) (λ c κs. search needs) add-result (λ c κs. search needs)
-    (λ c κs. search needs) (λ c κs. search needs) add-result-2 (λ c κs. search needs) add-result-3 returns returns-2
-    returns-3 returns-4 returns-5)
+      ap length
+          (as-four (a .f .num) (a .f .bits) (a .bytes .now) (c .before .match .keys4)),
+    ))
+    (λ c. let a = c .before .before .args in let r = c .match .rest in ap length
+    (sym (as-none (a .f .num) (a .f .bits) (a .bytes .now) (r .0 .0 .0 .1) (r .0 .0 .1) (r .0 .1) (r .1)))))

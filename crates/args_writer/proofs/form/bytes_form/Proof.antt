@@ -1,4 +1,5 @@
--- `args_writer::form::bytes_form` meets its contract. Assumes nothing.
+-- `args_writer::form::bytes_form` meets its contract: there is a form where the bytes end within those beside it.
+-- Assumes nothing.
 use Rattle.args_writer.proofs.FormLaws.{bytes-past, bytes-in}
 use mathlib.Core.Path.{_∙_}
 use native.Mathlib.Omega.{arith}
@@ -6,20 +7,10 @@ use borrow.Author.Needs.{needs}
 use Rattle.args_writer.proofs.form.bytes_form.Statement.{statement}
 use Rattle.args_writer.proofs.form.bytes_form.Tie as tie
 
-returns : tie.Need-returns
-returns c =
-    let a = c .before .before .args in
-    c .no-form .ensures ∙ bytes-past (a .kind) (a .num) (a .start) (a .len) (a .n) (omega arith)
-
-returns-2 : tie.Need-returns-2
-returns-2 c =
-    let a = c .before .before .before .args in
-    c .no-form2 .ensures ∙ bytes-past (a .kind) (a .num) (a .start) (a .len) (a .n) (omega arith)
-
-returns-3 : tie.Need-returns-3
-returns-3 c =
-    let a = c .before .before .args in
-    bytes-in (a .kind) (a .num) (a .start) (a .len) (a .n) (omega arith)
-
 pub bytes-form-spec : {M : Type 1} → statement M
-bytes-form-spec = tie.close (tie.spec (λ c κs. search needs) returns (λ c κs. search needs) returns-2 returns-3)
+bytes-form-spec = tie.close (tie.spec (λ c κs. search needs)
+    (λ c. let a = c .before .before .args in c .no-form .ensures ∙ bytes-past (a .kind) (a .num) (a .start) (a .len)
+    (a .n) (omega arith)) (λ c κs. search needs)
+    (λ c. let a = c .before .before .before .args in c .no-form2 .ensures ∙ bytes-past (a .kind) (a .num) (a .start)
+    (a .len) (a .n) (omega arith))
+    (λ c. let a = c .before .before .args in bytes-in (a .kind) (a .num) (a .start) (a .len) (a .n) (omega arith)))

@@ -1,4 +1,5 @@
--- `args_writer::form::double_nan_form` meets its contract. Assumes nothing.
+-- `args_writer::form::double_nan_form` meets its contract: the bits are those of a NaN, or there is no form.
+-- Assumes nothing.
 use Rattle.prelude.proofs.Cases.{yes, no}
 use Rattle.protocol.specs.Scalars as Scalars
 use lib.Ieee.{binary64}
@@ -9,17 +10,10 @@ use borrow.Author.Needs.{needs}
 use Rattle.args_writer.proofs.form.double_nan_form.Statement.{statement}
 use Rattle.args_writer.proofs.form.double_nan_form.Tie as tie
 
-returns : tie.Need-returns
-returns c =
-    let n = c .before .before .args .bits in
-    c .no-form .ensures ∙ no (valueForm Scalars.double Scalars.doubleField 1 n) noForm
-    (no-nan binary64 n (c .before .if1 .taken))
-
-returns-2 : tie.Need-returns-2
-returns-2 c =
-    let n = c .before .before .args .bits in
-    c .value-form .ensures ∙ yes (valueForm Scalars.double Scalars.doubleField 1 n) noForm
-    (is-nan binary64 n (c .before .if1 .left))
-
 pub double-nan-form-spec : {M : Type 1} → statement M
-double-nan-form-spec = tie.close (tie.spec (λ c κs. search needs) returns (λ c κs. search needs) returns-2)
+double-nan-form-spec = tie.close (tie.spec (λ c κs. search needs)
+    (λ c. let n = c .before .before .args .bits in c .no-form .ensures ∙ no
+    (valueForm Scalars.double Scalars.doubleField 1 n) noForm (no-nan binary64 n (c .before .if1 .taken)))
+    (λ c κs. search needs)
+    (λ c. let n = c .before .before .args .bits in c .value-form .ensures ∙ yes
+    (valueForm Scalars.double Scalars.doubleField 1 n) noForm (is-nan binary64 n (c .before .if1 .left))))

@@ -1,4 +1,4 @@
--- `args_writer::form::float_form` meets its contract. Assumes nothing.
+-- `args_writer::form::float_form` meets its contract: a NaN has no form, any other float its bits. Assumes nothing.
 use Rattle.prelude.proofs.Cases.{yes, no}
 use Rattle.protocol.specs.Scalars as Scalars
 use lib.Ieee.{binary32, toBits}
@@ -10,17 +10,6 @@ use borrow.Author.Needs.{needs}
 use Rattle.args_writer.proofs.form.float_form.Statement.{statement}
 use Rattle.args_writer.proofs.form.float_form.Tie as tie
 
-returns : tie.Need-returns
-returns c =
-    let x = c .before .before .args .x in
-    c .no-form .ensures ∙ yes noForm (valueForm Scalars.float Scalars.floatField 5 (toBits binary32 x))
-    (nan-told x (c .before .if1 .taken))
-
-float-to-bits-wide : tie.Need-float-to-bits-wide
-float-to-bits-wide c =
-    let x = c .before .args .x in
-    nan-asked x (nan-not x (c .if1 .left))
-
 returns-2 : tie.Need-returns-2
 returns-2 c =
     let x = c .before .before .before .args .x in
@@ -30,5 +19,8 @@ returns-2 c =
     (nan-not x (c .before .before .if1 .left))
 
 pub float-form-spec : {M : Type 1} → statement M
-float-form-spec = tie.close (tie.spec (λ c κs. search needs) returns float-to-bits-wide (λ c κs. search needs)
+float-form-spec = tie.close (tie.spec (λ c κs. search needs)
+    (λ c. let x = c .before .before .args .x in c .no-form .ensures ∙ yes noForm
+    (valueForm Scalars.float Scalars.floatField 5 (toBits binary32 x)) (nan-told x (c .before .if1 .taken)))
+    (λ c. let x = c .before .args .x in nan-asked x (nan-not x (c .if1 .left))) (λ c κs. search needs)
     (λ c κs. search needs) returns-2)
