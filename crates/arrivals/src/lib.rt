@@ -1,11 +1,12 @@
 // Frames as they arrive: bytes come in, cut anywhere, and whole frames go out. What has come in and has not gone
 // out is held in a store that the caller lends and that only these functions write.
 ghost use mathlib.Core.Path.{_≡_};
-ghost use Prim.Native.Nat.{_≤_, min};
+ghost use Prim.Native.Nat.{_≤_};
 ghost use mathlib.Core.List.{[]};
 ghost use lib.ListN.{length};
 ghost use Rattle.streams.specs.Reader.{nextAt, nextOf, pushAt, pushOf, reader, settled};
 ghost use Rattle.streams.specs.Reader.{standsFirst, startOver, storeSize, usable};
+use encode::put::lesser;
 use message::head::Head;
 use message::head::LENGTH_BYTES;
 use protocol::reason;
@@ -47,12 +48,6 @@ fn wide(b: u8) -> u64
     ensures { λ r. ⌜ r ≡ b ⌝ }
 {
     b as u64
-}
-
-fn lesser(a: usize, b: usize) -> usize
-    ensures { λ r. ⌜ r ≡ min a b ⌝ }
-{
-    if a < b { a } else { b }
 }
 
 // What stands first, by its reason: a whole frame, neither, a bad length.

@@ -18,19 +18,6 @@ use Rattle.arrivals.proofs.next_in.Tie as tie
 abbrev answer : ℕ → ℕ → ℕ → Reader → ℕ → NextFrame
 answer reason start len r kind = record { reader = r; reason = reason; start = start; len = len; kind = kind }
 
-returns : tie.Need-returns
-returns c =
-    let a = c .before .before .before .args in
-    c .waiting .ensures
-    ∙ next-none (a .store .now) (a .reader) (is-reversed (length (a .store .now)) (a .reader) (c .before .if1 .taken))
-
-returns-2 : tie.Need-returns-2
-returns-2 c =
-    let a = c .before .before .before .before .args in
-    c .waiting2 .ensures
-    ∙ next-none (a .store .now) (a .reader)
-    (is-past (length (a .store .now)) (a .reader) (c .before .before .if1 .left) (c .before .if2 .taken))
-
 add-settle : tie.Need-add-settle
 add-settle c =
     let k = c .before in
@@ -75,21 +62,10 @@ returns-4 c =
     (sym (k .reason .given .1) ∙ k .before .before .read-head .ensures)
 
 pub next-in-spec : {M : Type 1} → statement M
-next-in-spec =
-    tie.close
-    (tie.spec
-    (λ c κs. search needs)
-    returns
-    (λ c κs. search needs)
-    returns-2
-    (λ c. search needs)
-    (λ c. search needs)
-    (λ c κs. search needs)
-    (λ c. search needs)
-    add-settle
-    settle-requires
-    (λ c κs. search needs)
-    (λ c. search needs)
-    (λ c κs. search needs)
-    returns-3
-    returns-4)
+next-in-spec = tie.close (tie.spec (λ c κs. search needs)
+    (λ c. let a = c .before .before .before .args in c .waiting .ensures ∙ next-none (a .store .now) (a .reader)
+    (is-reversed (length (a .store .now)) (a .reader) (c .before .if1 .taken))) (λ c κs. search needs)
+    (λ c. let a = c .before .before .before .before .args in c .waiting2 .ensures ∙ next-none (a .store .now)
+    (a .reader) (is-past (length (a .store .now)) (a .reader) (c .before .before .if1 .left) (c .before .if2 .taken)))
+    (λ c. search needs) (λ c. search needs) (λ c κs. search needs) (λ c. search needs) add-settle settle-requires
+    (λ c κs. search needs) (λ c. search needs) (λ c κs. search needs) returns-3 returns-4)

@@ -7,13 +7,6 @@ use Rattle.arrivals.proofs.ReaderLaws.{push-usable}
 use Rattle.arrivals.proofs.push_into.Statement.{statement}
 use Rattle.arrivals.proofs.push_into.Tie as tie
 
-push-at-requires : tie.Need-push-at-requires
-push-at-requires c κs =
-    let u = c .before in
-    let a = u .before .before .before .args in
-    rw (u .usable-reader .ensures)
-    (usable-is (a .store .now) (a .reader) .ordered, usable-is (a .store .now) (a .reader) .within)
-
 returns : tie.Need-returns
 returns c =
     let p = c .before .before in
@@ -23,4 +16,7 @@ returns c =
     (p .push-at .ensures .0 ∙ ap (λ (q : Push). q .answer) x, p .push-at .ensures .1 ∙ ap (λ (q : Push). q .store) x)
 
 pub push-into-spec : {M : Type 1} → statement M
-push-into-spec = tie.close (tie.spec (λ c κs. search needs) push-at-requires (λ c. search needs) returns)
+push-into-spec = tie.close (tie.spec (λ c κs. search needs)
+    (λ c κs. let u = c .before in let a = u .before .before .before .args in rw (u .usable-reader .ensures)
+    (usable-is (a .store .now) (a .reader) .ordered, usable-is (a .store .now) (a .reader) .within)) (λ c. search needs)
+    returns)

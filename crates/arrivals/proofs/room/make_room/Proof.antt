@@ -5,12 +5,6 @@ use Rattle.arrivals.proofs.RoomLaws.{room-there, room-made}
 use Rattle.arrivals.proofs.room.make_room.Statement.{statement}
 use Rattle.arrivals.proofs.room.make_room.Tie as tie
 
-returns : tie.Need-returns
-returns c =
-    let a = c .before .before in
-    let x = room-there (a .args .store .now) (a .args .held) (a .args .n) (a .pre .0) (c .if1 .taken) in
-    (x .placed, (x .left, x .fits))
-
 returns-2 : tie.Need-returns-2
 returns-2 c =
     let a = c .before .before .before .before .before .before in
@@ -19,13 +13,7 @@ returns-2 c =
     (x .placed, (x .left, x .fits))
 
 pub make-room-spec : {M : Type 1} → statement M
-make-room-spec =
-    tie.close
-    (tie.spec
-    (λ c. search needs)
-    returns
-    (λ c. search needs)
-    (λ c κs. search needs)
-    (λ c. search needs)
-    (λ c. search needs)
-    returns-2)
+make-room-spec = tie.close (tie.spec (λ c. search needs)
+    (λ c. let a = c .before .before in let x = room-there (a .args .store .now) (a .args .held) (a .args .n) (a .pre .0)
+    (c .if1 .taken) in (x .placed, (x .left, x .fits))) (λ c. search needs) (λ c κs. search needs) (λ c. search needs)
+    (λ c. search needs) returns-2)
