@@ -8,7 +8,6 @@ use mir.Syntax.{w64}
 use mir.ValLaws.{ofZ-toZ}
 use borrow.Author.Tests.{ne-eqb, eqb-true, lt-ltb, le-ltb, ltb-true}
 use Rattle.scalar.specs.Argument.{floatOf}
-use Rattle.scalar.specs.declared.argument.Argument.{Argument}
 use Rattle.scalar.specs.declared.argument.Argument.the-variants as Va
 use Rattle.karramotx.specs.Given.{floatOfBits, ofKind}
 use Rattle.karramotx.specs.Value.{numbered, refusedBy, valueOf}

@@ -5,6 +5,8 @@ use mathlib.Core.Bool.{not, cond}
 use lib.Dec.{ltb, eqb}
 use mir.Syntax.{w64}
 use mir.Val.{toZ}
+use Rattle.protocol.specs.Reason as Reason
+use Rattle.protocol.specs.Scalars as Scalars
 use Rattle.scalar.specs.Argument.{doubleOf, floatOf}
 use Rattle.scalar.specs.declared.argument.Argument.{Argument}
 use Rattle.scalar.specs.declared.argument.Argument.the-variants as Va
@@ -15,19 +17,23 @@ abbrev pub signedOfBits : ℕ → Argument
 signedOfBits bits = Va.Signed (toZ w64 bits)
 
 -- a float has 32 bits; a larger number is none
+abbrev pub floatLimit : ℕ
+floatLimit = 2 ^ 32
+
 abbrev pub floatOfBits : ℕ → Argument
-floatOfBits bits = cond (ltb bits (2 ^ 32)) (floatOf bits) (Va.Refused 6)
+floatOfBits bits = cond (ltb bits floatLimit) (floatOf bits) (Va.Refused Reason.badPayload)
 
 -- by the Scalar type; a number that is none is refused
 unfoldable pub ofKind : ℕ → ℕ → ℕ → Argument
 ofKind kind value n =
-    cond (eqb kind 1) (signedOfBits value)
-    (cond (eqb kind 2) (Va.Unsigned value)
-    (cond (eqb kind 3) Va.Null
-    (cond (eqb kind 4) (Va.Octets 0 n)
-    (cond (eqb kind 5) (doubleOf value)
-    (cond (eqb kind 6) (floatOfBits value)
-    (cond (eqb kind 7) (Va.Bool (not (eqb value 0))) (cond (eqb kind 8) (Va.String 0 n) (Va.Refused 6))))))))
+    cond (eqb kind Scalars.sint) (signedOfBits value)
+    (cond (eqb kind Scalars.uint) (Va.Unsigned value)
+    (cond (eqb kind Scalars.null) Va.Null
+    (cond (eqb kind Scalars.octets) (Va.Octets 0 n)
+    (cond (eqb kind Scalars.double) (doubleOf value)
+    (cond (eqb kind Scalars.float) (floatOfBits value)
+    (cond (eqb kind Scalars.bool) (Va.Bool (not (eqb value 0)))
+    (cond (eqb kind Scalars.string) (Va.String 0 n) (Va.Refused Reason.badPayload))))))))
 
 abbrev pub givenArgument : Scalar → ℕ → Argument
 givenArgument s n = ofKind (s .kind) (s .value) n

@@ -6,6 +6,8 @@ use mathlib.Core.List.{List}
 use lib.Dec.{ltb, eqb}
 use mir.Syntax.{w64}
 use mir.Val.{toZ}
+use Rattle.protocol.specs.Reason as Reason
+use Rattle.protocol.specs.Scalars as Scalars
 use Rattle.scalar.specs.Zigzag.{unzigzag}
 use Rattle.scalar.specs.Argument.{reasonOf, signedOf, doubleOf, floatOf, typeOf}
 use Rattle.scalar.specs.declared.argument.Argument.{Argument}
@@ -13,7 +15,7 @@ use Rattle.scalar.specs.declared.argument.Argument.the-variants as Va
 use Rattle.args.specs.Arguments.{nextArgument, nextReason, asked}
 use Rattle.args.specs.declared.arguments.NextArgument.{NextArgument}
 use Rattle.message.specs.Frame.{argumentOf}
-use Rattle.karramotx.specs.Given.{givenArgument}
+use Rattle.karramotx.specs.Given.{floatLimit, givenArgument}
 use Rattle.karramotx.specs.Value.{nextValueOf, numbered, placed, refusedBy, valueOf}
 use Rattle.karramotx.specs.declared.given.Scalar.{Scalar}
 use Rattle.karramotx.specs.declared.value.Value.{Value}
@@ -26,15 +28,17 @@ is kind s = eqb (s .kind) kind
 unfoldable pub given : Scalar → ℕ → Value
 given s n =
     -- a sint, a uint, the bits of a double, and those of a float if they are 32: the number given
-    cond (is 1 s || is 2 s || is 5 s || (is 6 s && ltb (s .value) (2 ^ 32))) (numbered (s .kind) (s .value))
+    cond
+    (is Scalars.sint s || is Scalars.uint s || is Scalars.double s || (is Scalars.float s && ltb (s .value) floatLimit))
+    (numbered (s .kind) (s .value))
     -- null has no number
-    (cond (is 3 s) (numbered 3 0)
+    (cond (is Scalars.null s) (numbered Scalars.null 0)
     -- a bool is 0, or 1 for any other number
-    (cond (is 7 s) (numbered 7 (cond (eqb (s .value) 0) 0 1))
+    (cond (is Scalars.bool s) (numbered Scalars.bool (cond (eqb (s .value) 0) 0 1))
     -- octets and a string are the bytes: place 0, length n
-    (cond (is 4 s || is 8 s) (placed (s .kind) 0 n)
+    (cond (is Scalars.octets s || is Scalars.string s) (placed (s .kind) 0 n)
     -- all else is refused
-    (refusedBy 6))))
+    (refusedBy Reason.badPayload))))
 
 -- What a host gives is what a host is told. Of doubles and floats every bit is kept, NaNs too (W6), and of those in
 -- frames as well: both are `doubleOf` and `floatOf` of the bits.
@@ -70,14 +74,14 @@ ToldInPass = (s : List ℕ) (at : ℕ) → ToldNext (nextArgument s at)
 -- their bits (W6), octets and a string at their place; what is refused has its number alone
 unfoldable pub toldArgument : Value → Argument
 toldArgument v =
-    cond (eqb (v .kind) 1) (Va.Signed (toZ w64 (v .value)))
-    (cond (eqb (v .kind) 2) (Va.Unsigned (v .value))
-    (cond (eqb (v .kind) 3) Va.Null
-    (cond (eqb (v .kind) 4) (Va.Octets (v .start) (v .len))
-    (cond (eqb (v .kind) 5) (doubleOf (v .value))
-    (cond (eqb (v .kind) 6) (floatOf (v .value))
-    (cond (eqb (v .kind) 7) (Va.Bool (not (eqb (v .value) 0)))
-    (cond (eqb (v .kind) 8) (Va.String (v .start) (v .len)) (Va.Refused (v .reason)))))))))
+    cond (eqb (v .kind) Scalars.sint) (Va.Signed (toZ w64 (v .value)))
+    (cond (eqb (v .kind) Scalars.uint) (Va.Unsigned (v .value))
+    (cond (eqb (v .kind) Scalars.null) Va.Null
+    (cond (eqb (v .kind) Scalars.octets) (Va.Octets (v .start) (v .len))
+    (cond (eqb (v .kind) Scalars.double) (doubleOf (v .value))
+    (cond (eqb (v .kind) Scalars.float) (floatOf (v .value))
+    (cond (eqb (v .kind) Scalars.bool) (Va.Bool (not (eqb (v .value) 0)))
+    (cond (eqb (v .kind) Scalars.string) (Va.String (v .start) (v .len)) (Va.Refused (v .reason)))))))))
 
 -- what a host is told of an argument is the argument, to the last bit: by its index (A4)
 abbrev pub ValueByIndex : Type 0

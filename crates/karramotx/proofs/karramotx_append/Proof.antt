@@ -1,4 +1,5 @@
--- `karramotx::karramotx_append` meets its contract. Assumes nothing.
+-- `karramotx::karramotx_append` meets its contract: what is appended is appended of the argument given.
+-- Assumes nothing.
 use mathlib.Core.Path.{ap, _∙_}
 use lib.ListN.{length}
 use borrow.Author.Needs.{needs}
@@ -16,5 +17,4 @@ returns c =
     )
 
 pub karramotx-append-spec : {M : Type 1} → statement M
-karramotx-append-spec =
-    tie.close (tie.spec (λ c κs. search needs) (λ c κs. search needs) (λ c. search needs) returns)
+karramotx-append-spec = tie.close (tie.spec (λ c κs. search needs) (λ c κs. search needs) (λ c. search needs) returns)

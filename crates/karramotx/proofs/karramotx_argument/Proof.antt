@@ -1,12 +1,10 @@
--- `karramotx::karramotx_argument` meets its contract. Assumes nothing.
+-- `karramotx::karramotx_argument` meets its contract: the value told is that of the argument read. Assumes nothing.
 use mathlib.Core.Path.{ap, _∙_}
 use borrow.Author.Needs.{needs}
 use Rattle.karramotx.specs.Value.{valueOf}
 use Rattle.karramotx.proofs.karramotx_argument.Statement.{statement}
 use Rattle.karramotx.proofs.karramotx_argument.Tie as tie
 
-returns : tie.Need-returns
-returns c = c .value-of .ensures ∙ ap valueOf (c .before .argument .ensures)
-
 pub karramotx-argument-spec : {M : Type 1} → statement M
-karramotx-argument-spec = tie.close (tie.spec (λ c κs. search needs) (λ c κs. search needs) returns)
+karramotx-argument-spec = tie.close (tie.spec (λ c κs. search needs) (λ c κs. search needs)
+    (λ c. c .value-of .ensures ∙ ap valueOf (c .before .argument .ensures)))

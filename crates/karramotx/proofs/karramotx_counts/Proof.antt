@@ -13,14 +13,6 @@ counted {a} {b} {d} {a'} {b'} e f g =
     ∙ ap (λ (k : ℕ). record { stmts = a'; cursors = k; owed = d }) f
     ∙ ap (λ (k : ℕ). record { stmts = a'; cursors = b'; owed = k }) g
 
-returns : tie.Need-returns
-returns c = counted (c .before .before .stmt-count .ensures) (c .before .cursor-count .ensures) (c .owed .ensures)
-
 pub karramotx-counts-spec : {M : Type 1} → statement M
-karramotx-counts-spec =
-    tie.close
-    (tie.spec
-    (λ c κs. search needs)
-    (λ c κs. search needs)
-    (λ c κs. search needs)
-    returns)
+karramotx-counts-spec = tie.close (tie.spec (λ c κs. search needs) (λ c κs. search needs) (λ c κs. search needs)
+    (λ c. counted (c .before .before .stmt-count .ensures) (c .before .cursor-count .ensures) (c .owed .ensures)))

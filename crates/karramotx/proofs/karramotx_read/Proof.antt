@@ -5,13 +5,6 @@ use Rattle.karramotx.specs.Message.{messageOf}
 use Rattle.karramotx.proofs.karramotx_read.Statement.{statement}
 use Rattle.karramotx.proofs.karramotx_read.Tie as tie
 
-returns : tie.Need-returns
-returns c = c .message-of .ensures ∙ ap messageOf (c .before .read-frame .ensures)
-
 pub karramotx-read-spec : {M : Type 1} → statement M
-karramotx-read-spec =
-    tie.close
-    (tie.spec
-    (λ c κs. search needs)
-    (λ c κs. search needs)
-    returns)
+karramotx-read-spec = tie.close (tie.spec (λ c κs. search needs) (λ c κs. search needs)
+    (λ c. c .message-of .ensures ∙ ap messageOf (c .before .read-frame .ensures)))

@@ -1,4 +1,4 @@
--- `karramotx::given::argument_of` meets its contract. Assumes nothing.
+-- `karramotx::given::argument_of` meets its contract: the Scalar type decides, an arm for each. Assumes nothing.
 use mathlib.Core.Path.{_∙_}
 use borrow.Author.Needs.{needs}
 use Rattle.karramotx.specs.Given.{ofKind}
@@ -48,18 +48,5 @@ returns-9 c = let a = c .before .args in of-no-kind (a .scalar .kind) (a .scalar
     (c .match .rest .1)
 
 pub argument-of-spec : {M : Type 1} → statement M
-argument-of-spec =
-    tie.close
-    (tie.spec
-    (λ c κs. search needs)
-    (λ c κs. search needs)
-    (λ c κs. search needs)
-    returns
-    returns-2
-    returns-3
-    returns-4
-    returns-5
-    returns-6
-    returns-7
-    returns-8
-    returns-9)
+argument-of-spec = tie.close (tie.spec (λ c κs. search needs) (λ c κs. search needs) (λ c κs. search needs) returns
+    returns-2 returns-3 returns-4 returns-5 returns-6 returns-7 returns-8 returns-9)

@@ -4,12 +4,5 @@ use mathlib.Core.Path.{refl}
 use Rattle.karramotx.proofs.told.blank.Statement.{statement}
 use Rattle.karramotx.proofs.told.blank.Tie as tie
 
-returns : tie.Need-returns
-returns c = rw (c .refused .ensures) refl
-
 pub blank-spec : {M : Type 1} → statement M
-blank-spec =
-    tie.close
-    (tie.spec
-    (λ c κs. search needs)
-    returns)
+blank-spec = tie.close (tie.spec (λ c κs. search needs) (λ c. rw (c .refused .ensures) refl))

@@ -4,12 +4,5 @@ use mathlib.Core.Path.{refl}
 use Rattle.karramotx.proofs.told.refused.Statement.{statement}
 use Rattle.karramotx.proofs.told.refused.Tie as tie
 
-returns : tie.Need-returns
-returns c = rw (c .none .ensures) refl
-
 pub refused-spec : {M : Type 1} → statement M
-refused-spec =
-    tie.close
-    (tie.spec
-    (λ c κs. search needs)
-    returns)
+refused-spec = tie.close (tie.spec (λ c κs. search needs) (λ c. rw (c .none .ensures) refl))

@@ -10,17 +10,8 @@ use Rattle.karramotx.proofs.value.float_value.Tie as tie
 number : (c : tie.Else1) → isNan (c .before .args .d) ≡ false
 number c = same-number (c .before .args .d) (c .if1 .left)
 
-returns : tie.Need-returns
-returns c = rw (differs-nan (c .before .before .args .d) (c .before .if1 .taken)) (c .refused .ensures)
-
-to-bits : tie.Need-float-to-bits-numbered
-to-bits c = asked (c .before .args .d) (number c)
-
-cast : tie.Need-cast-numbered
-cast c = fits-wide (c .before .args .d) (c .before .good .0 .1)
-
-returns-2 : tie.Need-returns-2
-returns-2 c = rw (number (c .before)) (c .numbered .ensures)
-
 pub float-value-spec : {M : Type 1} → statement M
-float-value-spec = tie.close (tie.spec (λ c κs. search needs) returns to-bits cast (λ c κs. search needs) returns-2)
+float-value-spec = tie.close (tie.spec (λ c κs. search needs)
+    (λ c. rw (differs-nan (c .before .before .args .d) (c .before .if1 .taken)) (c .refused .ensures))
+    (λ c. asked (c .before .args .d) (number c)) (λ c. fits-wide (c .before .args .d) (c .before .good .0 .1))
+    (λ c κs. search needs) (λ c. rw (number (c .before)) (c .numbered .ensures)))

@@ -17,86 +17,23 @@ returns c =
     ∙ ap (numbered 1) (c .before .to-bits .ensures ∙ same-bits (a .0 .0) fits)
     ∙ ap valueOf (sym (a .1))
 
-returns-2 : tie.Need-returns-2
-returns-2 c = c .numbered2 .ensures ∙ ap valueOf (sym (c .before .before .a2 .given .1))
-
-returns-3 : tie.Need-returns-3
-returns-3 c = c .numbered3 .ensures ∙ ap valueOf (sym (c .before .enum-told .given .1))
-
-returns-4 : tie.Need-returns-4
-returns-4 c = c .placed .ensures ∙ ap valueOf (sym (c .before .before .a3 .given .1))
-
-returns-5 : tie.Need-returns-5
-returns-5 c = c .double-value .ensures ∙ ap valueOf (sym (c .before .before .a4 .given .1))
-
-returns-6 : tie.Need-returns-6
-returns-6 c = c .numbered4 .ensures ∙ ap valueOf (sym (c .before .before .a5 .given .1))
-
-returns-7 : tie.Need-returns-7
-returns-7 c = c .float-value .ensures ∙ ap valueOf (sym (c .before .before .a6 .given .1))
-
-returns-8 : tie.Need-returns-8
-returns-8 c = c .numbered5 .ensures ∙ ap valueOf (sym (c .before .before .a7 .given .1))
-
-returns-9 : tie.Need-returns-9
-returns-9 c = c .numbered6 .ensures ∙ ap (numbered 7) (bool-byte (c .before .before .a8 .given .0 .0))
-    ∙ ap valueOf (sym (c .before .before .a8 .given .1))
-
-returns-10 : tie.Need-returns-10
-returns-10 c = c .placed2 .ensures ∙ ap valueOf (sym (c .before .before .a9 .given .1))
-
-returns-11 : tie.Need-returns-11
-returns-11 c = c .refused .ensures ∙ ap valueOf (sym (c .before .enum-told2 .given .1))
-
-returns-12 : tie.Need-returns-12
-returns-12 c = c .refused2 .ensures ∙ ap valueOf (sym (c .before .enum-told3 .given .1))
-
-returns-13 : tie.Need-returns-13
-returns-13 c = c .refused3 .ensures ∙ ap valueOf (sym (c .before .before .a10 .given .1))
-
 pub value-of-spec : {M : Type 1} → statement M
-value-of-spec =
-    tie.close
-    (tie.spec
-    (λ c. search needs)
-    (λ c κs. search needs)
-    (λ c κs. search needs)
-    (λ c. search needs)
-    (λ c κs. search needs)
-    (λ c. search needs)
-    (λ c κs. search needs)
-    (λ c. search needs)
-    (λ c κs. search needs)
-    (λ c. search needs)
-    (λ c κs. search needs)
-    (λ c. search needs)
-    (λ c κs. search needs)
-    (λ c. search needs)
-    (λ c κs. search needs)
-    (λ c. search needs)
-    (λ c. search needs)
-    (λ c κs. search needs)
-    (λ c. search needs)
-    (λ c. search needs)
-    (λ c κs. search needs)
-    (λ c. search needs)
-    (λ c κs. search needs)
-    (λ c. search needs)
-    (λ c κs. search needs)
-    (λ c. search needs)
-    (λ c κs. search needs)
-    (λ c. search needs)
-    (λ c κs. search needs)
-    returns
-    returns-2
-    returns-3
-    returns-4
-    returns-5
-    returns-6
-    returns-7
-    returns-8
-    returns-9
-    returns-10
-    returns-11
-    returns-12
-    returns-13)
+value-of-spec = tie.close (tie.spec (λ c. search needs) (λ c κs. search needs) (λ c κs. search needs)
+    (λ c. search needs) (λ c κs. search needs) (λ c. search needs) (λ c κs. search needs) (λ c. search needs)
+    (λ c κs. search needs) (λ c. search needs) (λ c κs. search needs) (λ c. search needs) (λ c κs. search needs)
+    (λ c. search needs) (λ c κs. search needs) (λ c. search needs) (λ c. search needs) (λ c κs. search needs)
+    (λ c. search needs) (λ c. search needs) (λ c κs. search needs) (λ c. search needs) (λ c κs. search needs)
+    (λ c. search needs) (λ c κs. search needs) (λ c. search needs) (λ c κs. search needs) (λ c. search needs)
+    (λ c κs. search needs) returns (λ c. c .numbered2 .ensures ∙ ap valueOf (sym (c .before .before .a2 .given .1)))
+    (λ c. c .numbered3 .ensures ∙ ap valueOf (sym (c .before .enum-told .given .1)))
+    (λ c. c .placed .ensures ∙ ap valueOf (sym (c .before .before .a3 .given .1)))
+    (λ c. c .double-value .ensures ∙ ap valueOf (sym (c .before .before .a4 .given .1)))
+    (λ c. c .numbered4 .ensures ∙ ap valueOf (sym (c .before .before .a5 .given .1)))
+    (λ c. c .float-value .ensures ∙ ap valueOf (sym (c .before .before .a6 .given .1)))
+    (λ c. c .numbered5 .ensures ∙ ap valueOf (sym (c .before .before .a7 .given .1)))
+    (λ c. c .numbered6 .ensures ∙ ap (numbered 7) (bool-byte (c .before .before .a8 .given .0 .0)) ∙ ap valueOf
+    (sym (c .before .before .a8 .given .1)))
+    (λ c. c .placed2 .ensures ∙ ap valueOf (sym (c .before .before .a9 .given .1)))
+    (λ c. c .refused .ensures ∙ ap valueOf (sym (c .before .enum-told2 .given .1)))
+    (λ c. c .refused2 .ensures ∙ ap valueOf (sym (c .before .enum-told3 .given .1)))
+    (λ c. c .refused3 .ensures ∙ ap valueOf (sym (c .before .before .a10 .given .1))))
