@@ -1,7 +1,7 @@
 -- Records, case by case. Assumes nothing.
 use Prim.Native.Nat.{ℕ, _+_, _≤_, _<_}
 use mathlib.Core.Bool.{cond}
-use mathlib.Core.Path.{_≡_, sym, ap, _∙_}
+use mathlib.Core.Path.{_≡_, refl, sym, ap, _∙_}
 use mathlib.Core.List.{List}
 use lib.ListN.{length}
 use lib.Dec.{ltb}
@@ -9,11 +9,13 @@ use borrow.Author.Tests.{lt-ltb, le-ltb, ne-eqb}
 use Rattle.prelude.proofs.Cases.{yes, no as without}
 use Rattle.varint.specs.declared.Varint.{Varint}
 use Rattle.varint.specs.Varint.{varintAt}
+use Rattle.rules.specs.declared.Report.{Report}
 use Rattle.rules.specs.Report.{prepared, result, failed}
 use Rattle.trace_line.specs.declared.record.Number.{Number}
 use Rattle.trace_line.specs.declared.record.Record.{Record}
 use Rattle.trace_line.specs.Record.{unended, numberOf, numberAt, andThen, maxFrame, maxKind, bareReport}
-use Rattle.trace_line.specs.Record.{preparedAt, failedAt, resultAt, reportAt, kindAt, frameAt}
+use Rattle.trace_line.specs.Record.{preparedAt, failedAt, rowsAt, resultAt, reportAt, kindAt, frameAt}
+use Rattle.trace_line.specs.private.Last.{lastAt}
 
 -- ---- numbers
 
@@ -30,15 +32,12 @@ module _ (s : List ℕ) (at : ℕ) where
 
 -- ---- a number, and what it leads to
 
-module _ (more : ℕ → ℕ → Record) {r x : Number} where
-  pub then-value : {v next : ℕ} → r ≡ Number.Value v next → r ≡ x → more v next ≡ andThen x more
-  then-value e f = ap (λ (y : Number). andThen y more) (sym e ∙ f)
+pub then-is : (more : ℕ → ℕ → Record) {r x y : Number} → r ≡ x → r ≡ y → andThen x more ≡ andThen y more
+then-is more e f = ap (λ (z : Number). andThen z more) (sym e ∙ f)
 
-  pub then-short : r ≡ Number.Short → r ≡ x → Record.Short ≡ andThen x more
-  then-short e f = ap (λ (y : Number). andThen y more) (sym e ∙ f)
-
-  pub then-bad : r ≡ Number.Bad → r ≡ x → Record.Bad ≡ andThen x more
-  then-bad e f = ap (λ (y : Number). andThen y more) (sym e ∙ f)
+pub whole-as : {start len next : ℕ} {x y : Report} {z : Record} → x ≡ y → Record.Whole start len y next ≡ z →
+    Record.Whole start len x next ≡ z
+whole-as {start} {len} {next} e f = ap (λ (w : Report). Record.Whole start len w next) e ∙ f
 
 -- ---- a report, by its kind
 
@@ -46,18 +45,22 @@ pub report-bad : (s : List ℕ) (start len kind at : ℕ) → maxKind < kind →
 unfolding reportAt
 report-bad s start len kind at h = rw (lt-ltb maxKind kind h)
 
-module _ (s : List ℕ) (start len : ℕ) {kind : ℕ} (at : ℕ) where
-  pub report-prepared : kind ≡ prepared → preparedAt s start len at ≡ reportAt s start len kind at
-  unfolding reportAt
+module _ (s : List ℕ) (start len at : ℕ) where
+  pub report-prepared : {kind : ℕ} → kind ≡ prepared → lastAt s start len prepared 0 at ≡ reportAt s start len kind at
+  unfolding reportAt preparedAt lastAt
   report-prepared e = rw e
 
-  pub report-result : kind ≡ result → resultAt s start len at ≡ reportAt s start len kind at
+  pub report-result : {kind : ℕ} → kind ≡ result → resultAt s start len at ≡ reportAt s start len kind at
   unfolding reportAt
   report-result e = rw e
 
-  pub report-failed : kind ≡ failed → failedAt s start len at ≡ reportAt s start len kind at
-  unfolding reportAt
+  pub report-failed : {kind : ℕ} → kind ≡ failed → lastAt s start len failed 0 at ≡ reportAt s start len kind at
+  unfolding reportAt failedAt lastAt
   report-failed e = rw e
+
+  pub last-rows : (columns : ℕ) → lastAt s start len result columns at ≡ rowsAt s start len columns at
+  unfolding lastAt rowsAt
+  last-rows columns = refl
 
 pub report-bare : (s : List ℕ) (start len kind at : ℕ) → kind ≤ maxKind → (kind ≡ prepared → ⊥) → (kind ≡ result → ⊥) →
     (kind ≡ failed → ⊥) → Record.Whole start len (bareReport kind) at ≡ reportAt s start len kind at

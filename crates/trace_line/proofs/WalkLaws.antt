@@ -10,7 +10,7 @@ use lib.Seq.{drop-drop, take-all}
 use lib.Dec.{leb}
 use borrow.Author.Tests.{le-leb, lt-leb}
 use Rattle.encode.specs.declared.put.Put.{Put}
-use Rattle.encode.specs.Put.{putAt, written}
+use Rattle.encode.specs.Put.{placeBehind, putAt, written}
 use Rattle.encode.proofs.PutLaws.{length-written, put-fits}
 use Rattle.session.specs.Session.{Session}
 use Rattle.encode.specs.Puts.{Puts}
@@ -27,7 +27,7 @@ use Rattle.trace_line.specs.RecordRules.{Within}
 use Rattle.trace_line.specs.Trace.{lineAfter, replyBuffer, traceOf, traceAt}
 use Rattle.trace_line.specs.Output.{Lines, noLine, also, numberBehind, Behind, onRecord}
 use Rattle.trace_line.specs.Printer.{maxLine, linesWithin}
-use Rattle.trace_line.specs.private.Walk.{Walks, placeBehind}
+use Rattle.trace_line.specs.private.Walk.{Walks}
 use Rattle.trace_line.proofs.LineLaws.{line-within}
 use Rattle.trace_line.proofs.TraceLaws.{Gives}
 use Rattle.trace_line.proofs.WithinLaws.{records-within}

@@ -1,16 +1,17 @@
 // The trace of an input that comes in chunks: the header, a line for each record, and the end's text.
 ghost use mathlib.Core.Path.{_≡_};
-ghost use Prim.Native.Nat.{min};
 ghost use lib.ListN.{length};
 ghost use Rattle.encode.specs.Put.{putAt, written};
 ghost use Rattle.session.specs.Words.{sessionOf};
-ghost use Rattle.trace_line.specs.private.Walk.{Walks, placeBehind};
+ghost use Rattle.trace_line.specs.private.Walk.{Walks};
 ghost use Rattle.trace_line.specs.End.{endText};
 ghost use Rattle.trace_line.specs.Output.{header};
 ghost use Rattle.trace_line.specs.Printer.{fromStart, linesWithin, printOf, standsFirst};
 use crate::Place;
 use crate::record::Record;
 use encode::put::Put;
+use encode::put::lesser;
+use encode::put::place_behind;
 use encode::put::write_bytes;
 use encode::shift::move_front;
 use session::WORDS;
@@ -73,22 +74,6 @@ pub fn put_end(p: Printer, out: &mut [u8], at: usize) -> Put
         return write_bytes(out, at, b"");
     }
     write_bytes(out, at, b"cut\n")
-}
-
-// The place behind what was put.
-fn place_behind(put: Put) -> usize
-    ensures { λ r. ⌜ r ≡ placeBehind put ⌝ }
-{
-    match put {
-        Put::Next(n) => n,
-        Put::Full => 0,
-    }
-}
-
-fn lesser(a: usize, b: usize) -> usize
-    ensures { λ r. ⌜ r ≡ min a b ⌝ }
-{
-    if a < b { a } else { b }
 }
 
 fn stands_first(s: &[u8]) -> First

@@ -2,8 +2,8 @@
 ghost use mathlib.Core.Path.{_≡_};
 ghost use Prim.Native.Nat.{_+_, _≤_};
 ghost use lib.ListN.{length};
-ghost use Rattle.trace_line.specs.Record.{failedAt, frameAt, kindAt, numberAt, preparedAt};
-ghost use Rattle.trace_line.specs.Record.{recordAt, reportAt, resultAt, rowsAt, unended};
+ghost use Rattle.trace_line.specs.Record.{frameAt, kindAt, numberAt, recordAt, reportAt, resultAt, unended};
+ghost use Rattle.trace_line.specs.private.Last.{lastAt, reportOf};
 use rules::Report;
 use varint::Varint;
 
@@ -52,65 +52,45 @@ pub fn read_number(s: &[u8], at: usize) -> Number
     }
 }
 
-// A prepared has its placeholders.
-fn read_prepared(s: &[u8], start: usize, len: usize, at: usize) -> Record
-    ensures { λ r. ⌜ r ≡ preparedAt (now (s .entry)) start len at ⌝ }
+// The report of a kind by its last number: a prepared has its placeholders, a failed its code, a result its rows behind
+// its columns.
+fn report_of(kind: u64, columns: u64, last: u64) -> Report
+    ensures { λ r. ⌜ r ≡ reportOf kind columns last ⌝ }
 {
-    match read_number(s, at) {
-        Number::Value { value, next } => Record::Whole {
-            start,
-            len,
-            report: Report {
-                kind: rules::PREPARED,
-                placeholders: value,
-                columns: 0,
-                rows: 0,
-                code: 0,
-            },
-            next,
+    match kind {
+        rules::PREPARED => Report {
+            kind: rules::PREPARED,
+            placeholders: last,
+            columns: 0,
+            rows: 0,
+            code: 0,
         },
-        Number::Short => Record::Short,
-        Number::Bad => Record::Bad,
+        rules::FAILED => Report {
+            kind: rules::FAILED,
+            placeholders: 0,
+            columns: 0,
+            rows: 0,
+            code: last,
+        },
+        _ => Report {
+            kind: rules::RESULT,
+            placeholders: 0,
+            columns,
+            rows: last,
+            code: 0,
+        },
     }
 }
 
-// A failed has its code.
-fn read_failed(s: &[u8], start: usize, len: usize, at: usize) -> Record
-    ensures { λ r. ⌜ r ≡ failedAt (now (s .entry)) start len at ⌝ }
+// A record's last number, which its report ends in.
+fn read_last(s: &[u8], start: usize, len: usize, kind: u64, columns: u64, at: usize) -> Record
+    ensures { λ r. ⌜ r ≡ lastAt (now (s .entry)) start len kind columns at ⌝ }
 {
     match read_number(s, at) {
         Number::Value { value, next } => Record::Whole {
             start,
             len,
-            report: Report {
-                kind: rules::FAILED,
-                placeholders: 0,
-                columns: 0,
-                rows: 0,
-                code: value,
-            },
-            next,
-        },
-        Number::Short => Record::Short,
-        Number::Bad => Record::Bad,
-    }
-}
-
-// The rows of a result, which stand behind its columns.
-fn read_rows(s: &[u8], start: usize, len: usize, columns: u64, at: usize) -> Record
-    ensures { λ r. ⌜ r ≡ rowsAt (now (s .entry)) start len columns at ⌝ }
-{
-    match read_number(s, at) {
-        Number::Value { value, next } => Record::Whole {
-            start,
-            len,
-            report: Report {
-                kind: rules::RESULT,
-                placeholders: 0,
-                columns,
-                rows: value,
-                code: 0,
-            },
+            report: report_of(kind, columns, value),
             next,
         },
         Number::Short => Record::Short,
@@ -122,7 +102,7 @@ fn read_result(s: &[u8], start: usize, len: usize, at: usize) -> Record
     ensures { λ r. ⌜ r ≡ resultAt (now (s .entry)) start len at ⌝ }
 {
     match read_number(s, at) {
-        Number::Value { value, next } => read_rows(s, start, len, value, next),
+        Number::Value { value, next } => read_last(s, start, len, rules::RESULT, value, next),
         Number::Short => Record::Short,
         Number::Bad => Record::Bad,
     }
@@ -135,9 +115,9 @@ fn read_report(s: &[u8], start: usize, len: usize, kind: u64, at: usize) -> Reco
         return Record::Bad;
     }
     match kind {
-        rules::PREPARED => read_prepared(s, start, len, at),
+        rules::PREPARED => read_last(s, start, len, rules::PREPARED, 0, at),
         rules::RESULT => read_result(s, start, len, at),
-        rules::FAILED => read_failed(s, start, len, at),
+        rules::FAILED => read_last(s, start, len, rules::FAILED, 0, at),
         _ => Record::Whole {
             start,
             len,

@@ -7,19 +7,6 @@ use Rattle.trace_line.proofs.TraceLaws.{gives, gives-as, traced, whole-
 use Rattle.trace_line.proofs.trace_record.Statement.{statement}
 use Rattle.trace_line.proofs.trace_record.Tie as tie
 
-add-end : tie.Need-add-end
-add-end c =
-    let r = c .before .before .before in
-    let a = r .before .before .before .args in
-    omega (arith, whole-within (a .s .now) (a .at) (c .before .start .given .1) (r .read-record .ensures))
-
-part-trace-frame-end : tie.Need-part-trace-frame-end
-part-trace-frame-end c =
-    let k = c .before in
-    let r = k .before .before .before in
-    let a = r .before .before .before .args in
-    omega (arith, whole-within (a .s .now) (a .at) (k .before .start .given .1) (r .read-record .ensures))
-
 returns : tie.Need-returns
 returns c =
     let f = c .before .before in
@@ -31,36 +18,17 @@ returns c =
     (k .before .start .given .1) (r .read-record .ensures))
     (f .trace-frame .ensures)
 
-returns-2 : tie.Need-returns-2
-returns-2 c =
-    let r = c .before .before in
-    let a = r .before .before .before .args in
-    gives
-    (traced (sessionOf (a .words .now)) (a .n) (a .s .now) (a .at) (a .out .now) (a .to) (c .enum-told .given .1)
-    (r .read-record .ensures))
-
-returns-3 : tie.Need-returns-3
-returns-3 c =
-    let r = c .before .before in
-    let a = r .before .before .before .args in
-    gives
-    (traced (sessionOf (a .words .now)) (a .n) (a .s .now) (a .at) (a .out .now) (a .to) (c .enum-told2 .given .1)
-    (r .read-record .ensures))
-
 pub trace-record-spec : {M : Type 1} → statement M
-trace-record-spec =
-    tie.close
-    (tie.spec
-    (λ c κs. search needs)
-    (λ c. search needs)
-    add-end
-    (λ c. search needs)
-    (λ c. search needs)
-    part-trace-frame-end
-    (λ c κs. search needs)
-    (λ c. search needs)
-    (λ c. search needs)
-    (λ c. search needs)
-    returns
-    returns-2
-    returns-3)
+trace-record-spec = tie.close (tie.spec (λ c κs. search needs) (λ c. search needs)
+    (λ c. let r = c .before .before .before in let a = r .before .before .before .args in omega
+    (arith, whole-within (a .s .now) (a .at) (c .before .start .given .1) (r .read-record .ensures)))
+    (λ c. search needs) (λ c. search needs)
+    (λ c. let k = c .before in let r = k .before .before .before in let a = r .before .before .before .args in omega
+    (arith, whole-within (a .s .now) (a .at) (k .before .start .given .1) (r .read-record .ensures)))
+    (λ c κs. search needs) (λ c. search needs) (λ c. search needs) (λ c. search needs) returns
+    (λ c. let r = c .before .before in let a = r .before .before .before .args in gives (traced (sessionOf
+    (a .words .now)) (a .n) (a .s .now) (a .at) (a .out .now) (a .to) (c .enum-told .given .1)
+    (r .read-record .ensures)))
+    (λ c. let r = c .before .before in let a = r .before .before .before .args in gives (traced (sessionOf
+    (a .words .now)) (a .n) (a .s .now) (a .at) (a .out .now) (a .to) (c .enum-told2 .given .1)
+    (r .read-record .ensures))))

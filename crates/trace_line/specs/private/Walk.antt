@@ -4,15 +4,9 @@ use mathlib.Core.Path.{_≡_}
 use mathlib.Core.List.{List}
 use lib.ListN.{length, drop}
 use Rattle.session.specs.Session.{Session}
-use Rattle.encode.specs.declared.put.Put.{Put}
 use Rattle.encode.specs.Puts.{Puts}
 use Rattle.trace_line.specs.declared.printer.Walk.{Walk}
 use Rattle.trace_line.specs.Output.{Lines}
-
--- the place behind what was put
-abbrev pub placeBehind : Put → ℕ
-placeBehind (Put.Next next) = next
-placeBehind Put.Full = 0
 
 -- it stands behind the lines of x: the number of the next record, the bytes left of s, the session, the buffer
 pub record Walks (s out : List ℕ) (x : Lines) (w : Walk) (session : Session) (after : List ℕ) : Type 0 where

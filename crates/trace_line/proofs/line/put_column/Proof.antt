@@ -4,11 +4,7 @@ use Rattle.encode.proofs.PutsLaws.{puts-then}
 use Rattle.trace_line.proofs.line.put_column.Statement.{statement}
 use Rattle.trace_line.proofs.line.put_column.Tie as tie
 
-returns : tie.Need-returns
-returns c =
-    let b = c .before .before in
-    puts-then (b .before .before .before .before .put-decimal .ensures) (b .put-byte .ensures)
-
 pub put-column-spec : {M : Type 1} → statement M
-put-column-spec =
-    tie.close (tie.spec (λ c κs. search needs) (λ c κs. search needs) (λ c. search needs) returns)
+put-column-spec = tie.close (tie.spec (λ c κs. search needs) (λ c κs. search needs) (λ c. search needs)
+    (λ c. let b = c .before .before in puts-then (b .before .before .before .before .put-decimal .ensures)
+    (b .put-byte .ensures)))

@@ -16,28 +16,10 @@ use Rattle.trace_line.proofs.line.write_line.Tie as tie
 room : (l : Line) → length (lineOf l) ≤ length (replicate {A = ℕ} 160 0)
 room l = omega (arith, line-within l)
 
-slice-aggregate-write-bytes : tie.Need-slice-aggregate-write-bytes
-slice-aggregate-write-bytes c =
-    let p = c .before .before .before in
-    sym
-    (length-take-le (p .put-line .result) _
-    (front-within (room (p .before .before .before .args .l)) (p .put-line .ensures)))
-
-returns : tie.Need-returns
-returns c =
-    let w = c .before .before in
-    let p = w .before .before .before .before in
-    let a = p .before .before .before .args in
-    equations-as (a .buf .now) (a .at) (front (room (a .l)) (p .put-line .ensures)) (w .write-bytes .ensures)
-
 pub write-line-spec : {M : Type 1} → statement M
-write-line-spec =
-    tie.close
-    (tie.spec
-    (λ c. search needs)
-    (λ c κs. search needs)
-    (λ c. search needs)
-    slice-aggregate-write-bytes
-    (λ c κs. search needs)
-    (λ c. search needs)
-    returns)
+write-line-spec = tie.close (tie.spec (λ c. search needs) (λ c κs. search needs) (λ c. search needs)
+    (λ c. let p = c .before .before .before in sym (length-take-le (p .put-line .result) _ (front-within
+    (room (p .before .before .before .args .l)) (p .put-line .ensures)))) (λ c κs. search needs) (λ c. search needs)
+    (λ c. let w = c .before .before in let p = w .before .before .before .before in let a =
+    p .before .before .before .args in equations-as (a .buf .now) (a .at) (front (room (a .l)) (p .put-line .ensures))
+    (w .write-bytes .ensures)))

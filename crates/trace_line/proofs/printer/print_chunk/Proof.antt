@@ -1,6 +1,6 @@
 -- `trace_line::printer::print_chunk` meets its contract: what is taken is put behind what is held, and what the lines
 -- leave of both is moved to the front. Assumes nothing.
-use Prim.Native.Nat.{_+_, _-_}
+use Prim.Native.Nat.{_+_, _-_, _≤_}
 use native.Mathlib.Omega.{arith}
 use mathlib.Core.Path.{sym, _∙_}
 use lib.ListN.{length-take}
@@ -12,12 +12,6 @@ use Rattle.trace_line.proofs.PrintLaws.{printed}
 use Rattle.trace_line.proofs.printer.print_chunk.Statement.{statement}
 use Rattle.trace_line.proofs.printer.print_chunk.Tie as tie
 
-slice-aggregate-write-bytes : tie.Need-slice-aggregate-write-bytes
-slice-aggregate-write-bytes c =
-    let l = c .before .before in
-    let a = l .before .before .before .before .before .args in
-    sym (length-take-le (l .lesser2 .result) (a .chunk .now) (omega (arith, l .lesser2 .ensures)))
-
 slice-aggregate-put-lines : tie.Need-slice-aggregate-put-lines
 slice-aggregate-put-lines c =
     let b = c .before .before .before .before in
@@ -26,25 +20,11 @@ slice-aggregate-put-lines c =
     (length-take-le (l .before .lesser .result + l .lesser2 .result) (b .write-bytes .last .0)
     (omega (arith, b .write-bytes .kept .0, l .before .lesser .ensures, l .lesser2 .ensures)))
 
-sub-held : tie.Need-sub-held
-sub-held c =
-    let w = c .before .before in
-    let b = w .before .before .before .before .before .before in
-    let l = b .before .before .before in
-    let n = l .before .lesser .result + l .lesser2 .result in
-    omega (arith, w .put-lines .ensures .within, length-take n (b .write-bytes .last .0))
-
-sub-stands-first : tie.Need-sub-stands-first
-sub-stands-first c =
-    let w = c .before .before in
-    let b = w .before .before .before .before .before .before in
-    let l = b .before .before .before in
-    let n = l .before .lesser .result + l .lesser2 .result in
-    omega (arith, w .put-lines .ensures .within, length-take n (b .write-bytes .last .0))
-
-part-stands-first-start : tie.Need-part-stands-first-start
-part-stands-first-start c =
-    let w = c .before .before .before in
+-- the lines end within what is held
+within : (w : tie.After-put-lines) → w .put-lines .result .at
+    ≤ w .before .before .before .before .before .before .before .before .before .before .lesser .result
+    + w .before .before .before .before .before .before .before .before .before .lesser2 .result
+within w =
     let b = w .before .before .before .before .before .before in
     let l = b .before .before .before in
     let n = l .before .lesser .result + l .lesser2 .result in
@@ -75,24 +55,10 @@ returns c =
     )))
 
 pub print-chunk-spec : {M : Type 1} → statement M
-print-chunk-spec =
-    tie.close
-    (tie.spec
-    (λ c κs. search needs)
-    (λ c. search needs)
-    (λ c κs. search needs)
-    slice-aggregate-write-bytes
-    (λ c κs. search needs)
-    (λ c. search needs)
-    (λ c. search needs)
-    slice-aggregate-put-lines
-    (λ c κs. search needs)
-    sub-held
-    sub-stands-first
-    part-stands-first-start
-    (λ c. search needs)
-    (λ c κs. search needs)
-    (λ c κs. search needs)
-    (λ c. search needs)
-    (λ c. search needs)
-    returns)
+print-chunk-spec = tie.close (tie.spec (λ c κs. search needs) (λ c. search needs) (λ c κs. search needs)
+    (λ c. let l = c .before .before in let a = l .before .before .before .before .before .args in sym
+    (length-take-le (l .lesser2 .result) (a .chunk .now) (omega (arith, l .lesser2 .ensures)))) (λ c κs. search needs)
+    (λ c. search needs) (λ c. search needs) slice-aggregate-put-lines (λ c κs. search needs)
+    (λ c. omega (arith, within (c .before .before))) (λ c. omega (arith, within (c .before .before)))
+    (λ c. omega (arith, within (c .before .before .before))) (λ c. search needs) (λ c κs. search needs)
+    (λ c κs. search needs) (λ c. search needs) (λ c. search needs) returns)

@@ -4,27 +4,10 @@ use Rattle.trace_line.proofs.EndLaws.{end-nothing, end-cut}
 use Rattle.trace_line.proofs.printer.put_end.Statement.{statement}
 use Rattle.trace_line.proofs.printer.put_end.Tie as tie
 
-returns : tie.Need-returns
-returns c =
-    let w = c .before .before in
-    let a = w .before .before .before .before .before .before .args in
-    end-nothing (a .p .held) (a .out .now) (a .at) (w .before .before .before .if1 .taken) (w .write-bytes .ensures)
-
-returns-2 : tie.Need-returns-2
-returns-2 c =
-    let w = c .before .before in
-    let a = w .before .before .before .before .before .before .args in
-    end-cut (a .p .held) (a .out .now) (a .at) (w .before .before .before .if1 .left) (w .write-bytes2 .ensures)
-
 pub put-end-spec : {M : Type 1} → statement M
-put-end-spec =
-    tie.close
-    (tie.spec
-    (λ c. search needs)
-    (λ c κs. search needs)
-    (λ c. search needs)
-    returns
-    (λ c. search needs)
-    (λ c κs. search needs)
-    (λ c. search needs)
-    returns-2)
+put-end-spec = tie.close (tie.spec (λ c. search needs) (λ c κs. search needs) (λ c. search needs)
+    (λ c. let w = c .before .before in let a = w .before .before .before .before .before .before .args in end-nothing
+    (a .p .held) (a .out .now) (a .at) (w .before .before .before .if1 .taken) (w .write-bytes .ensures))
+    (λ c. search needs) (λ c κs. search needs) (λ c. search needs)
+    (λ c. let w = c .before .before in let a = w .before .before .before .before .before .before .args in end-cut
+    (a .p .held) (a .out .now) (a .at) (w .before .before .before .if1 .left) (w .write-bytes2 .ensures)))

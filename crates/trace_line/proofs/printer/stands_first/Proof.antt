@@ -18,13 +18,5 @@ unfolding standsFirst
 returns-3 c = ap firstOf (sym (c .enum-told3 .given .1) ∙ c .before .before .read-record .ensures)
 
 pub stands-first-spec : {M : Type 1} → statement M
-stands-first-spec =
-    tie.close
-    (tie.spec
-    (λ c κs. search needs)
-    (λ c. search needs)
-    (λ c. search needs)
-    (λ c. search needs)
-    returns
-    returns-2
-    returns-3)
+stands-first-spec = tie.close (tie.spec (λ c κs. search needs) (λ c. search needs) (λ c. search needs)
+    (λ c. search needs) returns returns-2 returns-3)

@@ -5,26 +5,10 @@ use Rattle.trace_line.proofs.RecordLaws.{number-is}
 use Rattle.trace_line.proofs.record.read_number.Statement.{statement}
 use Rattle.trace_line.proofs.record.read_number.Tie as tie
 
-returns : tie.Need-returns
-returns c =
-    let r = c .before .before .before in
-    let a = r .before .before .args in
-    number-is (a .s .now) (a .at) (sym (c .before .value .given .1) ∙ r .read-varint .ensures)
-
-returns-2 : tie.Need-returns-2
-returns-2 c =
-    let r = c .before .before .before in
-    let a = r .before .before .args in
-    c .why-unended .ensures
-    ∙ number-is (a .s .now) (a .at) (sym (c .before .enum-told .given .1) ∙ r .read-varint .ensures)
-
 pub read-number-spec : {M : Type 1} → statement M
-read-number-spec =
-    tie.close
-    (tie.spec
+read-number-spec = tie.close (tie.spec (λ c κs. search needs) (λ c. search needs) (λ c. search needs)
     (λ c κs. search needs)
-    (λ c. search needs)
-    (λ c. search needs)
-    (λ c κs. search needs)
-    returns
-    returns-2)
+    (λ c. let r = c .before .before .before in let a = r .before .before .args in number-is (a .s .now) (a .at)
+    (sym (c .before .value .given .1) ∙ r .read-varint .ensures))
+    (λ c. let r = c .before .before .before in let a = r .before .before .args in c .why-unended .ensures ∙ number-is
+    (a .s .now) (a .at) (sym (c .before .enum-told .given .1) ∙ r .read-varint .ensures)))

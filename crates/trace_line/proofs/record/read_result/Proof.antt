@@ -1,46 +1,25 @@
 -- `trace_line::record::read_result` meets its contract: its numbers are the columns and the rows. Assumes nothing.
+use mathlib.Core.Path.{_≡_, _∙_}
 use borrow.Author.Needs.{needs}
-use mathlib.Core.Path.{_∙_}
-use Rattle.trace_line.proofs.RecordLaws.{then-value, then-short, then-bad}
-use Rattle.trace_line.specs.Record.{rowsAt, resultAt}
+use Rattle.trace_line.specs.declared.record.Number.{Number}
+use Rattle.trace_line.specs.Record.{andThen, rowsAt, resultAt}
+use Rattle.trace_line.proofs.RecordLaws.{then-is, last-rows}
 use Rattle.trace_line.proofs.record.read_result.Statement.{statement}
 use Rattle.trace_line.proofs.record.read_result.Tie as tie
 
-returns : tie.Need-returns
+read : (r : tie.After-read-number) {n : Number} → r .read-number .result ≡ n →
+    andThen n
+    (rowsAt (r .before .before .args .s .now) (r .before .before .args .start) (r .before .before .args .len))
+    ≡ resultAt (r .before .before .args .s .now) (r .before .before .args .start) (r .before .before .args .len)
+    (r .before .before .args .at)
 unfolding resultAt
-returns c =
-    let k = c .before in
-    let r = k .before .before .before in
-    let a = r .before .before .args in
-    c .read-rows .ensures
-    ∙ then-value (λ v next. rowsAt (a .s .now) (a .start) (a .len) v next) (k .before .value .given .1)
-    (r .read-number .ensures)
-
-returns-2 : tie.Need-returns-2
-unfolding resultAt
-returns-2 c =
-    let r = c .before .before in
-    let a = r .before .before .args in
-    then-short (λ v next. rowsAt (a .s .now) (a .start) (a .len) v next) (c .enum-told .given .1)
-    (r .read-number .ensures)
-
-returns-3 : tie.Need-returns-3
-unfolding resultAt
-returns-3 c =
-    let r = c .before .before in
-    let a = r .before .before .args in
-    then-bad (λ v next. rowsAt (a .s .now) (a .start) (a .len) v next) (c .enum-told2 .given .1)
-    (r .read-number .ensures)
+read r e =
+    let a = r .before .before .args in then-is (rowsAt (a .s .now) (a .start) (a .len)) e (r .read-number .ensures)
 
 pub read-result-spec : {M : Type 1} → statement M
-read-result-spec =
-    tie.close
-    (tie.spec
-    (λ c κs. search needs)
-    (λ c. search needs)
-    (λ c κs. search needs)
-    (λ c. search needs)
-    (λ c. search needs)
-    returns
-    returns-2
-    returns-3)
+read-result-spec = tie.close (tie.spec (λ c κs. search needs) (λ c. search needs) (λ c κs. search needs)
+    (λ c. search needs) (λ c. search needs)
+    (λ c. let r = c .before .before .before .before in c .read-last .ensures ∙ last-rows
+    (r .before .before .args .s .now) (r .before .before .args .start) (r .before .before .args .len) _ _ ∙ read r
+    (c .before .before .value .given .1)) (λ c. read (c .before .before) (c .enum-told .given .1))
+    (λ c. read (c .before .before) (c .enum-told2 .given .1)))
