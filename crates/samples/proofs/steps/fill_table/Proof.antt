@@ -11,16 +11,5 @@ abbrev μ-loop : tie.MeasureT-loop
 μ-loop s₀ id₀ s id = 66 - id
 
 pub fill-table-spec : {M : Type 1} → statement M
-fill-table-spec =
-    tie.close
-    (tie.spec
-    Inv-loop
-    μ-loop
-    (λ c κs. search needs)
-    (λ c. tt)
-    (λ c κs. search needs)
-    (λ c. search needs)
-    (λ c. search needs)
-    (λ c. tt)
-    (λ c κs. search needs)
-    (λ c. search needs))
+fill-table-spec = tie.close (tie.spec Inv-loop μ-loop (λ c κs. search needs) (λ c. tt) (λ c κs. search needs)
+    (λ c. search needs) (λ c. search needs) (λ c. tt) (λ c κs. search needs) (λ c. search needs))
