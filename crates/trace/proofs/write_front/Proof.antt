@@ -5,18 +5,7 @@ use borrow.Author.Needs.{needs}
 use Rattle.trace.proofs.write_front.Statement.{statement}
 use Rattle.trace.proofs.write_front.Tie as tie
 
-slice-aggregate-write-all : tie.Need-slice-aggregate-write-all
-slice-aggregate-write-all c =
-    let a = c .before .before .before .args in sym (length-take-le (a .n) (a .out .now) (c .before .if1 .left))
-
 pub write-front-spec : {M : Type 1} → statement M
-write-front-spec =
-    tie.close
-    (tie.spec
-    (λ c. search needs)
-    slice-aggregate-write-all
-    (λ c κs. search needs)
-    (λ c. search needs)
-    (λ c κs. search needs)
-    (λ c. search needs)
-    (λ c. search needs))
+write-front-spec = tie.close (tie.spec (λ c. search needs)
+    (λ c. let a = c .before .before .before .args in sym (length-take-le (a .n) (a .out .now) (c .before .if1 .left)))
+    (λ c κs. search needs) (λ c. search needs) (λ c κs. search needs) (λ c. search needs) (λ c. search needs))
