@@ -3,7 +3,7 @@ use mathlib.Core.Path.{_∙_}
 use borrow.Author.Needs.{needs}
 use Rattle.message.specs.declared.request.Request.{Request}
 use Rattle.session.specs.Words.{sessionOf}
-use Rattle.keeper.proofs.RequestLaws.{prepare-looks, deallocate-looks, close-looks, stmt-found, cursor-found}
+use Rattle.keeper.proofs.RequestLaws.{prepare-looks, deallocate-looks, close-looks}
 use Rattle.keeper.proofs.LookLaws.{closed-or-look, close-as-reset, prepare-wants, execute-wants}
 use Rattle.keeper.proofs.LookLaws.{deallocate-wants, close-wants}
 use Rattle.keeper.proofs.InspectLaws.{as-request, session-close-touches, prepare-touches, execute-touches}
@@ -60,8 +60,8 @@ returns-5 c =
     let s = sessionOf (a .words .now) in
     as-request s (a .request) (q .request3 .given .1) (
       c .told3 .ensures .0 ∙ closed-or-look s (Request.Deallocate _) _
-          (deallocate-looks s _ (stmt-found s _ (c .before .before .before .before .find-stmt2 .ensures)
-          (c .before .before .before .stmt-at .ensures)) (c .before .before .dead-stmt .ensures)) _ (deallocate-wants s _),
+          (deallocate-looks s _ (c .before .before .before .before .find-stmt2 .ensures)
+          (c .before .before .before .stmt-at .ensures) (c .before .before .dead-stmt .ensures)) _ (deallocate-wants s _),
       c .told3 .ensures .1 ∙ c .before .on-stmt3 .ensures ∙ deallocate-touches s _
           (c .before .before .before .before .find-stmt2 .ensures),
     )
@@ -83,8 +83,9 @@ returns-7 c =
     let s = sessionOf (a .words .now) in
     as-request s (a .request) (q .request5 .given .1) (
       c .told4 .ensures .0 ∙ closed-or-look s (Request.Close _) _
-          (close-looks s _ (cursor-found s _ (c .before .before .before .before .before .find-cursor .ensures)
-          (c .before .before .before .before .cursor-at .ensures)) (c .before .before .before .dead-cursor .ensures)) _ (close-wants s _),
+          (close-looks s _ (c .before .before .before .before .before .find-cursor .ensures)
+          (c .before .before .before .before .cursor-at .ensures) (c .before .before .before .dead-cursor .ensures)) _
+          (close-wants s _),
       c .told4 .ensures .1 ∙ c .before .touches .ensures ∙ close-touches s _
           (c .before .before .before .before .before .find-cursor .ensures) (c .before .before .passing .ensures),
     )
