@@ -1,5 +1,5 @@
 // A look at a frame that is read already, and what the frame touches in the tables, for a host that keeps something of
-// its own for each entry. What both need is looked up once.
+// its own for each entry. A place serves both; the statement that arguments are bound to is looked up for each.
 ghost use mathlib.Core.Path.{_≡_};
 ghost use mathlib.Core.Bool.{cond};
 ghost use lib.Dec.{eqb};
