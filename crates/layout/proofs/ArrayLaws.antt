@@ -1,7 +1,7 @@
 -- What lent arrays leave out can be told from the rest: whether a field occurs says as much as how often, and of a
 -- field with bytes
 -- the value is the length. Assumes nothing.
-use Prim.Native.Nat.{ℕ, zero, suc, _+_, _<_}
+use Prim.Native.Nat.{ℕ, zero, suc}
 use native.Mathlib.Omega.{arith}
 use mathlib.Core.Bool.{Bool, true, false, not, cond}
 use mathlib.Core.Path.{_≡_, refl, sym, ap, subst, _∙_}
@@ -14,9 +14,9 @@ use Rattle.prelude.proofs.Cases.{both}
 use Rattle.wire.specs.Field.{fieldAt}
 use Rattle.wire.specs.declared.field.Field.{Field}
 use Rattle.wire.proofs.LongLaws.{LongField, field-long}
-use Rattle.layout.specs.Row.{numberOf, wireOf, isRepeated, listedOf, listed, rowFor, takes, slotCount}
+use Rattle.layout.specs.Row.{numberOf, wireOf, isRepeated, rowFor, slotCount}
 use Rattle.layout.specs.Slots.{noSlots, badSlots}
-use Rattle.layout.specs.Fields.{useOf, noted, onField, fieldsFrom, fieldList, hasRequired, checked, fieldsAt}
+use Rattle.layout.specs.Fields.{useOf, noted, onField, fieldsFrom, fieldList, hasRequired, fieldsAt}
 use Rattle.layout.specs.Fields.{fieldsTo}
 use Rattle.layout.specs.private.Arrays.{occurs, once, Holds, fromArrays, inArrays}
 use Rattle.layout.proofs.FieldsLaws.{getD-seen}

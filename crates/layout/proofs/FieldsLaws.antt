@@ -14,7 +14,7 @@ use Rattle.wire.specs.Field.{fieldAt}
 use Rattle.wire.specs.Past.{PastField}
 use Rattle.wire.specs.declared.field.Field.{Field}
 use Rattle.wire.proofs.PastLaws.{field-past}
-use Rattle.layout.specs.Row.{numberOf, noRow, rowFor, takes, slotCount}
+use Rattle.layout.specs.Row.{numberOf, noRow, takes, slotCount}
 use Rattle.layout.specs.Slots.{noSlots, badSlots}
 use Rattle.layout.specs.Fields.{useBy, useOf, noted, onField, fieldsFrom, fieldList, hasRequired, checked}
 use Rattle.layout.specs.Fields.{fieldsTo}

@@ -1,15 +1,13 @@
 -- Laws of the shortest form of a number: how it unfolds, how long it is, what its bytes are. Assumes nothing.
 use Prim.Native.Nat.{ℕ, zero, suc, pred, _+_, _-_, _*_, _/_, _%_, _^_, _≤_, _<_}
 use mathlib.Core.Path.{_≡_, refl, sym, ap, _∙_}
-use mathlib.Core.Bool.{Bool, true, false}
 use mathlib.Core.List.{List, [], _∷_}
 use native.Mathlib.Omega.{arith}
 use native.Mathlib.Nat.{one-le-pow, mul-suc}
-use borrow.Author.Tests.{lt-ltb, le-ltb, ltb-true, ltb-false}
+use borrow.Author.Tests.{lt-ltb, le-ltb}
 use lib.ListN.{length, getD}
 use lib.Count.{leadingZeros, leading-top}
 use lib.Pow.{pow-add, pow-mono}
-use lib.Dec.{ltb}
 use Rattle.prelude.proofs.Cases.{less-or-not}
 use Rattle.varint.specs.Shortest.{shortest, varintBytes}
 use Rattle.varint.specs.VarintRules.{TenEnough}

@@ -1,4 +1,4 @@
--- `varint::read_varint` meets its contract. Assumes nothing.
+-- `varint::read_varint` meets its contract: what was read, and what is left to read, is the whole. Assumes nothing.
 use borrow.Author.Needs.{needs}
 use Prim.Native.Nat.{_-_, _%_}
 use native.Mathlib.Omega.{arith}
@@ -13,12 +13,6 @@ Inv-loop s at value₀ weight₀ i₀ k₀ value weight i k = Reading s at value
 
 abbrev μ-loop : tie.MeasureT-loop
 μ-loop s at value₀ weight₀ i₀ k₀ value weight i k = 9 - k
-
-loop-holds : tie.Need-loop-holds Inv-loop μ-loop
-loop-holds c = starts (c .before .args .s .now) (c .before .args .at)
-
-returns : tie.Need-returns Inv-loop μ-loop
-returns c = whole-end (c .before .before .loop .inv) (c .before .loop-test .taken) (c .if1 .taken)
 
 mul-t12 : tie.Need-mul-t12 Inv-loop μ-loop
 mul-t12 c = omega (
@@ -69,31 +63,9 @@ loop-again c =
     (c .before .before .before .before .loop-test .taken) (c .before .before .before .if1 .left)
     (rw (c .before .wide .ensures) at (c .if2 .left)))
 
-last-group-requires : tie.Need-last-group-requires Inv-loop μ-loop
-last-group-requires c κs = below-top (c .before .loop .inv) (c .loop-test .left)
-
-returns-3 : tie.Need-returns-3 Inv-loop μ-loop
-returns-3 c = c .last-group .ensures ∙ whole-tenth (c .before .before .loop .inv) (c .before .loop-test .left)
-
 pub read-varint-spec : {M : Type 1} → statement M
-read-varint-spec =
-    tie.close
-    (tie.spec
-    Inv-loop
-    μ-loop
-    loop-holds
-    returns
-    (λ c. search needs)
-    (λ c κs. search needs)
-    (λ c. search needs)
-    mul-t12
-    add-t13
-    returns-2
-    mul-value
-    add-value
-    mul-weight
-    (λ c. search needs)
-    (λ c. search needs)
-    loop-again
-    last-group-requires
-    returns-3)
+read-varint-spec = tie.close (tie.spec Inv-loop μ-loop (λ c. starts (c .before .args .s .now) (c .before .args .at))
+    (λ c. whole-end (c .before .before .loop .inv) (c .before .loop-test .taken) (c .if1 .taken)) (λ c. search needs)
+    (λ c κs. search needs) (λ c. search needs) mul-t12 add-t13 returns-2 mul-value add-value mul-weight
+    (λ c. search needs) (λ c. search needs) loop-again (λ c κs. below-top (c .before .loop .inv) (c .loop-test .left))
+    (λ c. c .last-group .ensures ∙ whole-tenth (c .before .before .loop .inv) (c .before .loop-test .left)))

@@ -1,4 +1,5 @@
--- `layout::fields::fill_fields` meets its contract. Assumes nothing.
+-- `layout::fields::fill_fields` meets its contract: the fields are listed, and each required one is among them.
+-- Assumes nothing.
 use borrow.Author.Needs.{needs}
 use borrow.Author.Tests.{not-true, not-false}
 use native.Mathlib.Omega.{arith}
@@ -7,16 +8,6 @@ use lib.ListN.{length-take}
 use Rattle.layout.proofs.FieldsLaws.{holds-outside, holds-bad, holds-missing, holds-good}
 use Rattle.layout.proofs.fields.fill_fields.Statement.{statement}
 use Rattle.layout.proofs.fields.fill_fields.Tie as tie
-
-returns : tie.Need-returns
-returns c =
-    let a = c .before .before .before .before .before .before .args in
-    holds-outside (a .rows .now) (a .s .now) (a .from) (a .end) (c .if1 .taken) (c .before .clear .ensures)
-
-slice-aggregate-list-fields : tie.Need-slice-aggregate-list-fields
-slice-aggregate-list-fields c =
-    let a = c .before .before .before .before .before .before .before .args in omega
-    (arith, length-take (a .end) (a .s .now), c .before .if1 .left)
 
 returns-2 : tie.Need-returns-2
 returns-2 c =
@@ -49,16 +40,9 @@ returns-4 c =
     (sym (c .before .has-required .ensures) ∙ not-false _ (c .if3 .left))
 
 pub fill-fields-spec : {M : Type 1} → statement M
-fill-fields-spec =
-    tie.close
-    (tie.spec
-    (λ c κs. search needs)
-    returns
-    slice-aggregate-list-fields
-    (λ c κs. search needs)
-    (λ c κs. search needs)
-    returns-2
-    (λ c κs. search needs)
-    (λ c κs. search needs)
-    returns-3
-    returns-4)
+fill-fields-spec = tie.close (tie.spec (λ c κs. search needs)
+    (λ c. let a = c .before .before .before .before .before .before .args in holds-outside (a .rows .now) (a .s .now)
+    (a .from) (a .end) (c .if1 .taken) (c .before .clear .ensures))
+    (λ c. let a = c .before .before .before .before .before .before .before .args in omega
+    (arith, length-take (a .end) (a .s .now), c .before .if1 .left)) (λ c κs. search needs) (λ c κs. search needs)
+    returns-2 (λ c κs. search needs) (λ c κs. search needs) returns-3 returns-4)

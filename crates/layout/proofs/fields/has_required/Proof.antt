@@ -1,4 +1,4 @@
--- `layout::fields::has_required` meets its contract. Assumes nothing.
+-- `layout::fields::has_required` meets its contract: each row in turn is met. Assumes nothing.
 use borrow.Author.Needs.{needs}
 use borrow.Author.Tests.{not-true, not-false}
 use Prim.Native.Nat.{_-_, _≤_}
@@ -33,22 +33,8 @@ loop-again c =
           ∙ l .inv .1,
     )
 
-returns-2 : tie.Need-returns-2 Inv-loop μ-loop
-returns-2 c = let a = c .before .before .before .args in need-end (a .rows .now) (a .seen .now) (c .before .loop .i)
-    (c .loop-test .left) ∙ c .before .loop .inv .1
-
 pub has-required-spec : {M : Type 1} → statement M
-has-required-spec =
-    tie.close
-    (tie.spec
-    Inv-loop
-    μ-loop
-    (λ c. search needs)
-    (λ c. search needs)
-    (λ c. search needs)
-    (λ c κs. tt)
-    returns
-    (λ c. search needs)
-    (λ c. search needs)
-    loop-again
-    returns-2)
+has-required-spec = tie.close (tie.spec Inv-loop μ-loop (λ c. search needs) (λ c. search needs) (λ c. search needs)
+    (λ c κs. tt) returns (λ c. search needs) (λ c. search needs) loop-again
+    (λ c. let a = c .before .before .before .args in need-end (a .rows .now) (a .seen .now) (c .before .loop .i)
+    (c .loop-test .left) ∙ c .before .loop .inv .1))

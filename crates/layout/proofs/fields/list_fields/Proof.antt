@@ -1,4 +1,5 @@
--- `layout::fields::list_fields` meets its contract. Assumes nothing.
+-- `layout::fields::list_fields` meets its contract: each turn reads the field at the place and notes it by its row.
+-- Assumes nothing.
 use borrow.Author.Needs.{needs}
 use Prim.Native.Nat.{_-_, _<_}
 use native.Mathlib.Omega.{arith}
@@ -16,6 +17,7 @@ Inv-loop rows s from seen₀ values₀ starts₀ p₀ seen values starts p = Fil
 abbrev μ-loop : tie.MeasureT-loop
 μ-loop rows s from seen₀ values₀ starts₀ p₀ seen values starts p = length s - p
 
+-- a field that a row takes has a slot
 counted-in : (c : tie.After-enum-told3 Inv-loop μ-loop) → c .before .before .before .before .number .given .0 .0 < 10
 counted-in c =
     let g = c .before .before .before .before .number .given .0 in
@@ -28,122 +30,38 @@ kept-in c =
     kept-slot (c .before .before .before .before .before .before .before .before .before .before .args .rows .now)
     (g .0) (g .1 .0) (g .1 .1 .0) (sym (c .enum-told4 .given .1) ∙ c .before .before .use-of .ensures)
 
-loop-holds : tie.Need-loop-holds Inv-loop μ-loop
-loop-holds c = let a = c .before .args in filling (a .rows .now) (a .s .now) (a .from) (c .before .pre)
-
-returns : tie.Need-returns Inv-loop μ-loop
-returns c =
-    spoiled (c .before .before .before .before .loop .inv) (c .before .before .before .loop-test .taken)
-    (sym (c .before .before .quick-field .ensures) ∙ c .enum-told .given .1)
-
-use-of-requires : (c : tie.After-known-told Inv-loop μ-loop) → 0 < c .before .number .given .0 .0
-use-of-requires c =
-    let a = c .before .before .before .before .before .before .before .args in
-    field-number (a .s .now) _ (sym (c .before .before .before .quick-field .ensures) ∙ c .before .number .given .1)
-
-element-write-seen : tie.Need-element-write-seen Inv-loop μ-loop
-element-write-seen c = counted-in c
-
-element-write-seen-2 : tie.Need-element-write-seen-2 Inv-loop μ-loop
-element-write-seen-2 c = kept-in c
-
-mul-values : tie.Need-mul-values Inv-loop μ-loop
-mul-values c = omega (arith, kept-in c)
-
-element-write-values : tie.Need-element-write-values Inv-loop μ-loop
-element-write-values c = kept-in c
-
-mul-starts : tie.Need-mul-starts Inv-loop μ-loop
-mul-starts c = omega (arith, kept-in c)
-
-element-write-starts : tie.Need-element-write-starts Inv-loop μ-loop
-element-write-starts c = kept-in c
-
-loop-less : tie.Need-loop-less Inv-loop μ-loop
-loop-less c = omega (
-  arith,
-  c .before .before .before .before .before .before .before .loop-test .taken,
-  ahead
-      (c .before .before .before .before .before .before .before .before .loop .inv)
-      (c .before .before .before .before .before .before .before .loop-test .taken)
-      (sym (c .before .before .before .before .before .before .quick-field .ensures)
-      ∙ c .before .before .before .before .number .given .1),
-)
-
-loop-again : tie.Need-loop-again Inv-loop μ-loop
-loop-again c =
-    fills-unknown (c .before .before .before .before .before .before .before .before .loop .inv)
-    (c .before .before .before .before .before .before .before .loop-test .taken)
-    (sym (c .before .before .before .before .before .before .quick-field .ensures)
-    ∙ c .before .before .before .before .number .given .1)
-    (sym (c .enum-told2 .given .1) ∙ c .before .before .use-of .ensures)
-
-loop-less-2 : tie.Need-loop-less-2 Inv-loop μ-loop
-loop-less-2 c = omega (
-  arith,
-  c .before .before .before .before .before .before .before .loop-test .taken,
-  ahead
-      (c .before .before .before .before .before .before .before .before .loop .inv)
-      (c .before .before .before .before .before .before .before .loop-test .taken)
-      (sym (c .before .before .before .before .before .before .quick-field .ensures)
-      ∙ c .before .before .before .before .number .given .1),
-)
-
-loop-again-2 : tie.Need-loop-again-2 Inv-loop μ-loop
-loop-again-2 c =
-    fills-counted (c .before .before .before .before .before .before .before .before .loop .inv)
-    (c .before .before .before .before .before .before .before .loop-test .taken)
-    (sym (c .before .before .before .before .before .before .quick-field .ensures)
-    ∙ c .before .before .before .before .number .given .1)
-    (sym (c .enum-told3 .given .1) ∙ c .before .before .use-of .ensures)
-
-loop-less-3 : tie.Need-loop-less-3 Inv-loop μ-loop
-loop-less-3 c = omega (
-  arith,
-  c .before .before .before .before .before .before .before .loop-test .taken,
-  ahead
-      (c .before .before .before .before .before .before .before .before .loop .inv)
-      (c .before .before .before .before .before .before .before .loop-test .taken)
-      (sym (c .before .before .before .before .before .before .quick-field .ensures)
-      ∙ c .before .before .before .before .number .given .1),
-)
-
-loop-again-3 : tie.Need-loop-again-3 Inv-loop μ-loop
-loop-again-3 c =
-    fills-kept (c .before .before .before .before .before .before .before .before .loop .inv)
-    (c .before .before .before .before .before .before .before .loop-test .taken)
-    (sym (c .before .before .before .before .before .before .quick-field .ensures)
-    ∙ c .before .before .before .before .number .given .1)
-    (sym (c .enum-told4 .given .1) ∙ c .before .before .use-of .ensures)
-
-returns-2 : tie.Need-returns-2 Inv-loop μ-loop
-returns-2 c = filled (c .before .loop .inv) (c .loop-test .left)
+-- the field read stands before the next one, and within the bytes
+onward : (f : tie.After-number Inv-loop μ-loop) →
+    (f .before .before .before .before .loop .p < f .number .given .0 .1 .1 .1 .1 .1 .0)
+    × (f .before .before .before .before .loop .p
+    < length (f .before .before .before .before .before .before .args .s .now))
+onward f =
+    let t = f .before .before .before in (
+      ahead (t .before .loop .inv) (t .loop-test .taken) (sym (f .before .before .quick-field .ensures)
+          ∙ f .number .given .1),
+      t .loop-test .taken,
+    )
 
 pub list-fields-spec : {M : Type 1} → statement M
-list-fields-spec =
-    tie.close
-    (tie.spec
-    Inv-loop
-    μ-loop
-    loop-holds
-    (λ c κs. tt)
-    (λ c. search needs)
-    (λ c. search needs)
-    returns
-    (λ c κs. use-of-requires c)
-    (λ c. search needs)
-    (λ c. search needs)
-    element-write-seen
-    (λ c. search needs)
-    element-write-seen-2
-    mul-values
-    element-write-values
-    mul-starts
-    element-write-starts
-    loop-less
-    loop-again
-    loop-less-2
-    loop-again-2
-    loop-less-3
-    loop-again-3
-    returns-2)
+list-fields-spec = tie.close (tie.spec Inv-loop μ-loop
+    (λ c. let a = c .before .args in filling (a .rows .now) (a .s .now) (a .from) (c .before .pre)) (λ c κs. tt)
+    (λ c. search needs) (λ c. search needs)
+    (λ c. spoiled (c .before .before .before .before .loop .inv) (c .before .before .before .loop-test .taken)
+    (sym (c .before .before .quick-field .ensures) ∙ c .enum-told .given .1))
+    (λ c κs. field-number (c .before .before .before .before .before .before .before .args .s .now) _
+    (sym (c .before .before .before .quick-field .ensures) ∙ c .before .number .given .1)) (λ c. search needs)
+    (λ c. search needs) (λ c. counted-in c) (λ c. search needs) (λ c. kept-in c) (λ c. omega (arith, kept-in c))
+    (λ c. kept-in c) (λ c. omega (arith, kept-in c)) (λ c. kept-in c)
+    (λ c. let w = onward (c .before .before .before .before) in omega (arith, w .0, w .1))
+    (λ c. let f = c .before .before .before .before in fills-unknown (f .before .before .before .before .loop .inv)
+    (f .before .before .before .loop-test .taken) (sym (f .before .before .quick-field .ensures) ∙ f .number .given .1)
+    (sym (c .enum-told2 .given .1) ∙ c .before .before .use-of .ensures))
+    (λ c. let w = onward (c .before .before .before .before) in omega (arith, w .0, w .1))
+    (λ c. let f = c .before .before .before .before in fills-counted (f .before .before .before .before .loop .inv)
+    (f .before .before .before .loop-test .taken) (sym (f .before .before .quick-field .ensures) ∙ f .number .given .1)
+    (sym (c .enum-told3 .given .1) ∙ c .before .before .use-of .ensures))
+    (λ c. let w = onward (c .before .before .before .before) in omega (arith, w .0, w .1))
+    (λ c. let f = c .before .before .before .before in fills-kept (f .before .before .before .before .loop .inv)
+    (f .before .before .before .loop-test .taken) (sym (f .before .before .quick-field .ensures) ∙ f .number .given .1)
+    (sym (c .enum-told4 .given .1) ∙ c .before .before .use-of .ensures))
+    (λ c. filled (c .before .loop .inv) (c .loop-test .left)))

@@ -1,36 +1,19 @@
--- `layout::fields::row_met` meets its contract. Assumes nothing.
-use Prim.Native.Nat.{ℕ, _≤_}
+-- `layout::fields::row_met` meets its contract: a required row asks for its slot. Assumes nothing.
+use Prim.Native.Nat.{ℕ}
 use native.Mathlib.Omega.{arith}
 use mathlib.Core.Bool.{false}
-use lib.ListN.{length, getD}
+use lib.ListN.{getD}
 use Rattle.layout.proofs.FieldsLaws.{met-optional, met-seen, met-past}
 use mathlib.Core.Path.{ap, _∙_}
 use borrow.Author.Needs.{needs}
 use Rattle.layout.proofs.fields.row_met.Statement.{statement}
 use Rattle.layout.proofs.fields.row_met.Tie as tie
 
-returns : tie.Need-returns
-returns c = met-optional (c .before .before .args .t1) (c .before .before .args .seen .now) (c .if1 .taken)
-
-returns-2 : tie.Need-returns-2
-returns-2 c =
-    let a = c .before .before .before .before .args in
-    met-past (a .t1) (a .seen .now) (c .before .before .if1 .left) (omega (arith, c .before .wide .ensures))
-
-returns-3 : tie.Need-returns-3
-returns-3 c =
-    let a = c .before .before .before .before .before .args in
-    ap (λ (k : ℕ). getD (a .seen .now) k false) (c .before .before .wide .ensures)
-    ∙ met-seen (a .t1) (a .seen .now) (c .before .before .before .if1 .left)
-
 pub row-met-spec : {M : Type 1} → statement M
-row-met-spec =
-    tie.close
-    (tie.spec
-    (λ c. search needs)
-    returns
-    (λ c. search needs)
-    (λ c κs. search needs)
-    returns-2
-    (λ c. search needs)
-    returns-3)
+row-met-spec = tie.close (tie.spec (λ c. search needs)
+    (λ c. met-optional (c .before .before .args .t1) (c .before .before .args .seen .now) (c .if1 .taken))
+    (λ c. search needs) (λ c κs. search needs)
+    (λ c. let a = c .before .before .before .before .args in met-past (a .t1) (a .seen .now)
+    (c .before .before .if1 .left) (omega (arith, c .before .wide .ensures))) (λ c. search needs)
+    (λ c. let a = c .before .before .before .before .before .args in ap (λ (k : ℕ). getD (a .seen .now) k false)
+    (c .before .before .wide .ensures) ∙ met-seen (a .t1) (a .seen .now) (c .before .before .before .if1 .left)))

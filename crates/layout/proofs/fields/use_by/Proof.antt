@@ -6,23 +6,11 @@ use borrow.Author.Needs.{needs}
 use Rattle.layout.proofs.fields.use_by.Statement.{statement}
 use Rattle.layout.proofs.fields.use_by.Tie as tie
 
-returns : tie.Need-returns
-returns c =
-    let a = c .before .before .args in
-    use-unknown (a .t1) (a .number) (a .wire) (a .value)
-    (sym (c .before .row-takes .ensures) ∙ not-true _ (c .if1 .taken))
-
-returns-2 : tie.Need-returns-2
-returns-2 c =
-    let a = c .before .before .before .args in
-    use-counted (a .t1) (a .number) (a .wire) (a .value)
-    (sym (c .before .before .row-takes .ensures) ∙ not-false _ (c .before .if1 .left)) (c .if2 .taken)
-
-returns-3 : tie.Need-returns-3
-returns-3 c =
-    let a = c .before .before .before .args in
-    use-kept (a .t1) (a .number) (a .wire) (a .value)
-    (sym (c .before .before .row-takes .ensures) ∙ not-false _ (c .before .if1 .left)) (c .if2 .left)
-
 pub use-by-spec : {M : Type 1} → statement M
-use-by-spec = tie.close (tie.spec (λ c κs. search needs) returns (λ c. search needs) returns-2 returns-3)
+use-by-spec = tie.close (tie.spec (λ c κs. search needs)
+    (λ c. let a = c .before .before .args in use-unknown (a .t1) (a .number) (a .wire) (a .value)
+    (sym (c .before .row-takes .ensures) ∙ not-true _ (c .if1 .taken))) (λ c. search needs)
+    (λ c. let a = c .before .before .before .args in use-counted (a .t1) (a .number) (a .wire) (a .value)
+    (sym (c .before .before .row-takes .ensures) ∙ not-false _ (c .before .if1 .left)) (c .if2 .taken))
+    (λ c. let a = c .before .before .before .args in use-kept (a .t1) (a .number) (a .wire) (a .value)
+    (sym (c .before .before .row-takes .ensures) ∙ not-false _ (c .before .if1 .left)) (c .if2 .left)))

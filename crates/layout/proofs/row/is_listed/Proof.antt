@@ -1,4 +1,4 @@
--- `layout::row::is_listed` meets its contract. Assumes nothing.
+-- `layout::row::is_listed` meets its contract: a value is listed by its bit. Assumes nothing.
 use Prim.Native.Nat.{ℕ, _/_, _%_, _^_}
 use lib.Dec.{eqb}
 use mathlib.Core.Path.{ap, _∙_}
@@ -7,17 +7,9 @@ use borrow.Author.Needs.{needs}
 use Rattle.layout.proofs.row.is_listed.Statement.{statement}
 use Rattle.layout.proofs.row.is_listed.Tie as tie
 
-returns : tie.Need-returns
-returns c = listed-any (c .before .args .values) (c .before .args .value) (c .if1 .taken)
-
-returns-2 : tie.Need-returns-2
-returns-2 c = listed-high _ _ (c .before .if1 .left) (c .if2 .taken)
-
-returns-3 : tie.Need-returns-3
-returns-3 c =
-    let a = c .before .before .before .args in
-    ap (λ (m : ℕ). eqb (m / 2 ^ (a .value % 2 ^ 32) % 2) 1) (c .wide .ensures)
-    ∙ listed-bit (a .values) (a .value) (c .before .before .if1 .left) (c .before .if2 .left)
-
 pub is-listed-spec : {M : Type 1} → statement M
-is-listed-spec = tie.close (tie.spec returns returns-2 (λ c κs. search needs) (λ c. search needs) returns-3)
+is-listed-spec = tie.close (tie.spec
+    (λ c. listed-any (c .before .args .values) (c .before .args .value) (c .if1 .taken))
+    (λ c. listed-high _ _ (c .before .if1 .left) (c .if2 .taken)) (λ c κs. search needs) (λ c. search needs)
+    (λ c. let a = c .before .before .before .args in ap (λ (m : ℕ). eqb (m / 2 ^ (a .value % 2 ^ 32) % 2) 1)
+    (c .wide .ensures) ∙ listed-bit (a .values) (a .value) (c .before .before .if1 .left) (c .before .if2 .left)))

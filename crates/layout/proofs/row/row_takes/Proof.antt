@@ -1,18 +1,10 @@
--- `layout::row::row_takes` meets its contract. Assumes nothing.
+-- `layout::row::row_takes` meets its contract: a slot, the number, the wire type and the value are asked in turn.
+-- Assumes nothing.
 use mathlib.Core.Path.{sym, _∙_}
 use Rattle.layout.proofs.RowLaws.{takes-no-slot, takes-other, takes-wire, takes-listed}
 use borrow.Author.Needs.{needs}
 use Rattle.layout.proofs.row.row_takes.Statement.{statement}
 use Rattle.layout.proofs.row.row_takes.Tie as tie
-
-returns : tie.Need-returns
-returns c = let a = c .before .args in takes-no-slot (a .t1) (a .number) (a .wire) (a .value) (c .if1 .taken)
-
-returns-2 : tie.Need-returns-2
-returns-2 c =
-    let a = c .before .before .before .args in
-    takes-other (a .t1) (a .number) (a .wire) (a .value) (c .before .before .if1 .left)
-    (λ e. c .if2 .taken (c .before .wide .ensures ∙ e))
 
 returns-3 : tie.Need-returns-3
 returns-3 c =
@@ -30,16 +22,9 @@ returns-4 c =
     (sym (c .before .before .wide2 .ensures) ∙ c .before .if3 .left)
 
 pub row-takes-spec : {M : Type 1} → statement M
-row-takes-spec =
-    tie.close
-    (tie.spec
-    returns
-    (λ c. search needs)
-    (λ c κs. search needs)
-    returns-2
-    (λ c. search needs)
-    (λ c κs. search needs)
-    returns-3
-    (λ c. search needs)
-    (λ c κs. search needs)
-    returns-4)
+row-takes-spec = tie.close (tie.spec
+    (λ c. let a = c .before .args in takes-no-slot (a .t1) (a .number) (a .wire) (a .value) (c .if1 .taken))
+    (λ c. search needs) (λ c κs. search needs)
+    (λ c. let a = c .before .before .before .args in takes-other (a .t1) (a .number) (a .wire) (a .value)
+    (c .before .before .if1 .left) (λ e. c .if2 .taken (c .before .wide .ensures ∙ e))) (λ c. search needs)
+    (λ c κs. search needs) returns-3 (λ c. search needs) (λ c κs. search needs) returns-4)

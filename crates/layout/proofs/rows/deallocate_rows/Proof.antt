@@ -1,12 +1,9 @@
--- `layout::rows::deallocate_rows` meets its contract. Assumes nothing.
+-- `layout::rows::deallocate_rows` meets its contract: the constant is the table of its message. Assumes nothing.
 use mathlib.Core.Path.{refl}
 use Rattle.layout.specs.Table.{rowsOf}
 use Rattle.layout.proofs.rows.deallocate_rows.Statement.{statement}
 use Rattle.layout.proofs.rows.deallocate_rows.Tie as tie
 
-returns : tie.Need-returns
-unfolding rowsOf
-returns c = refl
-
 pub deallocate-rows-spec : {M : Type 1} → statement M
-deallocate-rows-spec = tie.close (tie.spec returns)
+unfolding rowsOf
+deallocate-rows-spec = tie.close (tie.spec (λ c. refl))

@@ -10,14 +10,6 @@ use Rattle.scalar.proofs.argument.float_argument.Tie as tie
 number : (c : tie.Else1) → nanBits binary32 (c .before .args .bits) ≡ false
 number c = no-nan binary32 (c .before .args .bits) (omega arith)
 
-from-bits : tie.Need-float-from-bits-t5
-from-bits c = asked binary32 (c .before .args .bits) (number c)
-
-returns : tie.Need-returns
-returns c = simp (is-nan binary32 (c .before .args .bits) (omega arith))
-
-returns-2 : tie.Need-returns-2
-returns-2 c = simp (number c)
-
 pub float-argument-spec : {M : Type 1} → statement M
-float-argument-spec = tie.close (tie.spec from-bits returns returns-2)
+float-argument-spec = tie.close (tie.spec (λ c. asked binary32 (c .before .args .bits) (number c))
+    (λ c. simp (is-nan binary32 (c .before .args .bits) (omega arith))) (λ c. simp (number c)))

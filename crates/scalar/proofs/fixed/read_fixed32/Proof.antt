@@ -5,18 +5,10 @@ use Rattle.scalar.proofs.FixedLaws.{fixed-bad, fixed-whole}
 use Rattle.scalar.proofs.fixed.read_fixed32.Statement.{statement}
 use Rattle.scalar.proofs.fixed.read_fixed32.Tie as tie
 
-returns : tie.Need-returns
-returns c = let a = c .before .before .args in fixed-bad 4 (a .s .now) (a .at) (omega arith)
-
-returns-2 : tie.Need-returns-2
-returns-2 c = let a = c .before .before .before .args in fixed-bad 4 (a .s .now) (a .at) (omega arith)
-
-returns-3 : tie.Need-returns-3
-returns-3 c =
-    let a = c .before .before .before .before .args in
-    fixed-whole 4 (a .s .now) (a .at) (c .four .result) (omega arith) (c .four .ensures .0)
-
 pub read-fixed32-spec : {M : Type 1} → statement M
-read-fixed32-spec =
-    tie.close
-    (tie.spec returns (λ c. search needs) returns-2 (λ c κs. search needs) (λ c. search needs) returns-3)
+read-fixed32-spec = tie.close (tie.spec
+    (λ c. let a = c .before .before .args in fixed-bad 4 (a .s .now) (a .at) (omega arith)) (λ c. search needs)
+    (λ c. let a = c .before .before .before .args in fixed-bad 4 (a .s .now) (a .at) (omega arith))
+    (λ c κs. search needs) (λ c. search needs)
+    (λ c. let a = c .before .before .before .before .args in fixed-whole 4 (a .s .now) (a .at) (c .four .result)
+    (omega arith) (c .four .ensures .0)))

@@ -9,23 +9,9 @@ use Rattle.scalar.proofs.SignedLaws.{high-bits}
 use Rattle.scalar.proofs.zigzag.of_bits.Statement.{statement}
 use Rattle.scalar.proofs.zigzag.of_bits.Tie as tie
 
-sub-result-2 : tie.Need-sub-result-2
-sub-result-2 c =
-    let x = c .before .args .x in
-    rw (high-bits x (omega arith) (omega arith)) (toZ-fits w64 x (c .before .fits .x))
-
-returns-2 : tie.Need-returns-2
-returns-2 c =
-    let x = c .before .args .x in
-    rw (high-bits x (omega arith) (omega arith)) (ap (toZ w64) (ofZ-toZ w64 x (c .before .fits .x)))
-
 pub of-bits-spec : {M : Type 1} → statement M
-of-bits-spec =
-    tie.close
-    (tie.spec
-    (λ c. search needs)
-    (λ c. search needs)
-    (λ c. search needs)
-    sub-result-2
-    (λ c. search needs)
-    returns-2)
+of-bits-spec = tie.close (tie.spec (λ c. search needs) (λ c. search needs) (λ c. search needs)
+    (λ c. let x = c .before .args .x in rw (high-bits x (omega arith) (omega arith))
+    (toZ-fits w64 x (c .before .fits .x))) (λ c. search needs)
+    (λ c. let x = c .before .args .x in rw (high-bits x (omega arith) (omega arith))
+    (ap (toZ w64) (ofZ-toZ w64 x (c .before .fits .x)))))

@@ -13,13 +13,6 @@ use Rattle.scalar.proofs.zigzag.zigzag_encode.Tie as tie
 handed : (c : tie.After-to-bits) → c .to-bits .result ≡ ofZ w64 (c .before .args .v)
 handed c = c .to-bits .ensures ∙ same-bits (c .before .args .v) (c .before .fits .v)
 
-returns : tie.Need-returns
-returns c =
-    let a = c .before in
-    let b = a .before in
-    encode-low (b .to-bits .result) (a .wrapping-add-u64 .result) (a .wrapping-add-u64 .ensures)
-    (b .before .args .v) (b .before .fits .v) (handed b) (c .if1 .taken)
-
 returns-2 : tie.Need-returns-2
 returns-2 c =
     let a = c .before .before in
@@ -29,11 +22,6 @@ returns-2 c =
     (omega arith) (omega arith)
 
 pub zigzag-encode-spec : {M : Type 1} → statement M
-zigzag-encode-spec =
-    tie.close
-    (tie.spec
-    (λ c κs. search needs)
-    (λ c κs. search needs)
-    (λ c κs. search needs)
-    returns
-    returns-2)
+zigzag-encode-spec = tie.close (tie.spec (λ c κs. search needs) (λ c κs. search needs) (λ c κs. search needs)
+    (λ c. let a = c .before in let b = a .before in encode-low (b .to-bits .result) (a .wrapping-add-u64 .result)
+    (a .wrapping-add-u64 .ensures) (b .before .args .v) (b .before .fits .v) (handed b) (c .if1 .taken)) returns-2)
