@@ -78,6 +78,21 @@ impl Arguments {
         }
     }
 
+    // The same, number by number. Copied as one, a struct takes the bytes between its fields along, and a processor waits
+    // where these were not written with them.
+    pub fn same(self) -> Arguments
+        ensures { λ r. ⌜ r ≡ self ⌝ }
+    {
+        Arguments {
+            good: self.good,
+            count: self.count,
+            kind: self.kind,
+            index: self.index,
+            start: self.start,
+            end: self.end,
+        }
+    }
+
     // One argument more, of this Any type.
     pub(crate) fn with_type(self, t: u64) -> Arguments
         requires { ⌜ self .count < 2 ^ 63 ⌝ }

@@ -1,11 +1,16 @@
 // A frame as one struct, for hosts that have no enum.
 ghost use mathlib.Core.Path.{_≡_};
 ghost use Rattle.message.specs.declared.request.Frame.{Frame};
+ghost use Rattle.message.specs.declared.request.Request.{Request};
 ghost use Rattle.karramotx.specs.Message.{blank, messageOf, refused};
 use args::arguments::Arguments;
 use args::part::Part;
+use message::request::Execute;
+use message::request::Fetch;
 use message::request::Frame;
+use message::request::Open;
 use message::request::Optional;
+use message::request::Prepare;
 use message::request::Request;
 use protocol::client;
 use protocol::reason;
@@ -80,56 +85,78 @@ fn told(used: usize, request: Request) -> Message
     match request {
         Request::Reset => blank(used, client::RESET),
         Request::SessionClose => blank(used, client::SESSION_CLOSE),
-        Request::Prepare(p) => {
-            let body = p.body;
-            let args = p.args;
-            let mut m = blank(used, client::PREPARE);
-            m.stmt = p.stmt as u64;
-            m.operation = p.operation;
-            m.body = body;
-            m.args = args;
-            m
-        }
-        Request::Execute(x) => {
-            let compact = x.compact;
-            let args = x.args;
-            let mut m = blank(used, client::EXECUTE);
-            m.stmt = x.stmt as u64;
-            m.compact = compact;
-            m.args = args;
-            m
-        }
-        Request::Deallocate(stmt) => {
-            let mut m = blank(used, client::DEALLOCATE);
-            m.stmt = stmt as u64;
-            m
-        }
-        Request::Open(o) => {
-            let x = o.execute;
-            let rows = o.rows;
-            let body = o.body;
-            let compact = x.compact;
-            let args = x.args;
-            let mut m = blank(used, client::OPEN);
-            m.stmt = x.stmt as u64;
-            m.cursor = o.cursor as u64;
-            m.rows = rows;
-            m.compact = compact;
-            m.body = body;
-            m.args = args;
-            m
-        }
-        Request::Close(cursor) => {
-            let mut m = blank(used, client::CLOSE);
-            m.cursor = cursor as u64;
-            m
-        }
-        Request::Fetch(f) => {
-            let rows = f.rows;
-            let mut m = blank(used, client::FETCH);
-            m.cursor = f.cursor as u64;
-            m.rows = rows;
-            m
-        }
+        Request::Prepare(p) => prepare_told(used, p),
+        Request::Execute(x) => execute_told(used, x),
+        Request::Deallocate(stmt) => deallocate_told(used, stmt),
+        Request::Open(o) => open_told(used, o),
+        Request::Close(cursor) => close_told(used, cursor),
+        Request::Fetch(f) => fetch_told(used, f),
     }
+}
+
+// Optional fields and arguments are copied number by number: a struct that is copied as one takes the bytes between its
+// fields along, and a processor waits for them.
+fn prepare_told(used: usize, p: Prepare) -> Message
+    ensures { λ r. ⌜ r ≡ messageOf (Frame.Good used (Request.Prepare p)) ⌝ }
+{
+    let args = p.args;
+    let body = p.body;
+    let mut m = blank(used, client::PREPARE);
+    m.stmt = p.stmt as u64;
+    m.operation = p.operation;
+    m.body = body;
+    m.args = args.same();
+    m
+}
+
+fn execute_told(used: usize, x: Execute) -> Message
+    ensures { λ r. ⌜ r ≡ messageOf (Frame.Good used (Request.Execute x)) ⌝ }
+{
+    let args = x.args;
+    let compact = x.compact;
+    let mut m = blank(used, client::EXECUTE);
+    m.stmt = x.stmt as u64;
+    m.compact = compact.same();
+    m.args = args.same();
+    m
+}
+
+fn deallocate_told(used: usize, stmt: u32) -> Message
+    ensures { λ r. ⌜ r ≡ messageOf (Frame.Good used (Request.Deallocate stmt)) ⌝ }
+{
+    let mut m = blank(used, client::DEALLOCATE);
+    m.stmt = stmt as u64;
+    m
+}
+
+fn open_told(used: usize, o: Open) -> Message
+    ensures { λ r. ⌜ r ≡ messageOf (Frame.Good used (Request.Open o)) ⌝ }
+{
+    let body = o.body;
+    let rows = o.rows;
+    let x = o.execute;
+    let mut m = execute_told(used, x);
+    m.kind = client::OPEN;
+    m.cursor = o.cursor as u64;
+    m.rows = rows.same();
+    m.body = body;
+    m
+}
+
+fn close_told(used: usize, cursor: u32) -> Message
+    ensures { λ r. ⌜ r ≡ messageOf (Frame.Good used (Request.Close cursor)) ⌝ }
+{
+    let mut m = blank(used, client::CLOSE);
+    m.cursor = cursor as u64;
+    m
+}
+
+fn fetch_told(used: usize, f: Fetch) -> Message
+    ensures { λ r. ⌜ r ≡ messageOf (Frame.Good used (Request.Fetch f)) ⌝ }
+{
+    let rows = f.rows;
+    let mut m = blank(used, client::FETCH);
+    m.cursor = f.cursor as u64;
+    m.rows = rows.same();
+    m
 }

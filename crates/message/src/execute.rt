@@ -1,8 +1,10 @@
-// Execute, and Open with the Execute in it.
+// Execute, and Open with the Execute in it. Where an Open's parts stand is found first, as in a Prepare.
 ghost use mathlib.Core.Path.{_≡_};
-ghost use Rattle.message.specs.Execute.{badExecute, executeFrame, executeFrom, executeIn};
-ghost use Rattle.message.specs.Execute.{openFrame, openFrom, openInside};
-ghost use Rattle.message.specs.Payload.{optionalBy};
+ghost use Prim.Native.Nat.{_-_};
+ghost use lib.ListN.{length};
+ghost use Rattle.message.specs.Execute.{executeFrame, executeFrom, executeIn, openFrame, openFrom, openInside};
+ghost use Rattle.message.specs.Payload.{optionalBy, payload};
+ghost use Rattle.message.specs.private.Parts.{Runs, executeBy, ofOpening};
 use crate::outer::Outer;
 use crate::payload::PAYLOAD;
 use crate::payload::low;
@@ -11,74 +13,118 @@ use crate::payload::read_truth;
 use crate::request::Execute;
 use crate::request::Frame;
 use crate::request::Open;
-use crate::request::Optional;
 use crate::request::Request;
-use args::arguments::Arguments;
+use args::bound::Bound;
 use args::pair::Pair;
 use args::part::Part;
 use args::part::fill_part;
 use layout::fields::fill_fields;
 use protocol::client;
 
-// Bad arguments tell a bad Execute.
-fn bad_execute() -> Execute
-    ensures { λ r. ⌜ r ≡ badExecute ⌝ }
-{
-    Execute {
-        stmt: 0,
-        compact: Optional {
-            present: false,
-            value: 0,
-        },
-        args: Arguments::bad(),
-    }
+// An Open's cursor id, where its statement stands, and whether fetch_rows is there and what it is; or the message is bad.
+pub enum Opening {
+    Of {
+        id: u64,
+        start: usize,
+        len: usize,
+        has: bool,
+        rows: u64,
+    },
+    Bad,
 }
 
-// An Execute in `n` bytes of s from `at` on.
-fn execute_in(s: &[u8], at: usize, n: usize) -> Execute
-    ensures { λ r. ⌜ r ≡ executeIn (now (s .entry)) at n ⌝ }
-{
-    // Field 1 is stmt_id, 3 compact_metadata.
-    let b = args::bound::read_bound(s, at, n, false);
-    if !b.hasone {
-        return bad_execute();
-    }
-    Execute {
-        stmt: low(b.one),
-        compact: read_truth(read_optional(b.hasthree, b.three)),
-        args: b.arguments(at, at + n),
-    }
-}
-
-fn execute_from(s: &[u8], x: Execute) -> Frame
-    ensures { λ r. ⌜ r ≡ executeFrom (now (s .entry)) x ⌝ }
-{
-    if !x.args.good {
-        return Frame::BadPayload {
-            used: s.len(),
-            kind: client::EXECUTE,
-        };
-    }
-    Frame::Good {
-        used: s.len(),
-        request: Request::Execute(x),
-    }
+// Where the Execute of an Open's statement stands; or the statement is bad.
+pub enum Inner {
+    At { start: usize, len: usize },
+    Bad,
 }
 
 pub fn read_execute(s: &[u8]) -> Frame
     ensures { λ r. ⌜ r ≡ executeFrame (now (s .entry)) ⌝ }
 {
-    if s.len() < PAYLOAD {
-        return execute_from(s, execute_in(s, PAYLOAD, 0));
-    }
-    execute_from(s, execute_in(s, PAYLOAD, s.len() - PAYLOAD))
+    execute_from(s, rest(s))
 }
 
-// fetch_rows goes in two parts until the Open is put together: a struct that is copied waits for its parts.
-fn open_from(s: &[u8], id: u64, has: bool, asked: u64, body: Part, x: Execute) -> Frame
-    ensures { λ r. ⌜ r ≡ openFrom (now (s .entry)) id (optionalBy has asked) body x ⌝ }
+// The bytes of the payload; none where the frame is shorter than its head.
+fn rest(s: &[u8]) -> usize
+    ensures { λ r. ⌜ r ≡ length (now (s .entry)) - payload ⌝ }
 {
-    if !x.args.good {
+    if s.len() < PAYLOAD {
+        return 0;
+    }
+    s.len() - PAYLOAD
+}
+
+// An Execute in the `n` bytes of the payload. Field 1, stmt_id, tells whether it is good.
+fn execute_from(s: &[u8], n: usize) -> Frame
+    ensures { λ r. ⌜ r ≡ executeFrom (now (s .entry)) (executeIn (now (s .entry)) payload n) ⌝ }
+{
+    let b = args::bound::read_bound(s, PAYLOAD, n, false);
+    if !b.hasone {
+        return Frame::BadPayload {
+            used: s.len(),
+            kind: client::EXECUTE,
+        };
+    }
+    let execute = execute_of(b, PAYLOAD, PAYLOAD + n);
+    Frame::Good {
+        used: s.len(),
+        request: Request::Execute(execute),
+    }
+}
+
+// A good Execute in the bytes from `start` to `end`. Field 1 is stmt_id, 3 compact_metadata.
+fn execute_of(b: Bound, start: usize, end: usize) -> Execute
+    ensures { λ r. ⌜ r ≡ executeBy b start end ⌝ }
+{
+    Execute {
+        stmt: low(b.one),
+        compact: read_truth(read_optional(b.hasthree, b.three)),
+        args: b.arguments(start, end),
+    }
+}
+
+pub fn read_open(s: &[u8]) -> Frame
+    ensures { λ r. ⌜ r ≡ openFrame (now (s .entry)) ⌝ }
+{
+    match find_opening(s) {
+        Opening::Of {
+            id,
+            start,
+            len,
+            has,
+            rows,
+        } => open_inside(s, id, has, rows, start, len),
+        Opening::Bad => Frame::BadPayload {
+            used: s.len(),
+            kind: client::OPEN,
+        },
+    }
+}
+
+// An Open with this cursor id and fetch_rows, and its statement in `n` bytes of s from `at` on.
+fn open_inside(s: &[u8], id: u64, has: bool, asked: u64, at: usize, n: usize) -> Frame
+    ensures { λ r. ⌜ r ≡ openInside (now (s .entry)) id (optionalBy has asked) at n ⌝ }
+{
+    match find_execute(s, at, n) {
+        Inner::At { start, len } => open_from(s, id, has, asked, start, len),
+        Inner::Bad => Frame::BadPayload {
+            used: s.len(),
+            kind: client::OPEN,
+        },
+    }
+}
+
+// An Open with this cursor id and fetch_rows, and its Execute in `len` bytes of s from `start` on.
+fn open_from(s: &[u8], id: u64, has: bool, asked: u64, start: usize, len: usize) -> Frame
+    ensures { λ r. ⌜
+        r
+        ≡ openFrom (now (s .entry)) id (optionalBy has asked) (record { start = start; len = len })
+        (executeIn (now (s .entry)) start len)
+        ⌝ }
+{
+    let b = args::bound::read_bound(s, start, len, false);
+    if !b.hasone {
         return Frame::BadPayload {
             used: s.len(),
             kind: client::OPEN,
@@ -87,8 +133,8 @@ fn open_from(s: &[u8], id: u64, has: bool, asked: u64, body: Part, x: Execute) -
     let open = Open {
         cursor: low(id),
         rows: read_optional(has, asked),
-        body,
-        execute: x,
+        body: Part { start, len },
+        execute: execute_of(b, start, start + len),
     };
     Frame::Good {
         used: s.len(),
@@ -96,72 +142,9 @@ fn open_from(s: &[u8], id: u64, has: bool, asked: u64, body: Part, x: Execute) -
     }
 }
 
-// An Open with this cursor id and fetch_rows, and its statement in `n` bytes of s from `at` on: the long way, by the
-// rows.
-fn long_inside(s: &[u8], id: u64, has: bool, asked: u64, at: usize, n: usize) -> Frame
-    ensures { λ r. ⌜ r ≡ openInside (now (s .entry)) id (optionalBy has asked) at n ⌝ }
-{
-    let rows = layout::rows::open_stmt_rows();
-    let mut seen = [false; 10];
-    let mut values = [0; 10];
-    let mut starts = [0; 10];
-    if !fill_part(&rows, s, at, n, &mut seen, &mut values, &mut starts) {
-        return Frame::BadPayload {
-            used: s.len(),
-            kind: client::OPEN,
-        };
-    }
-    // Field 2 is the Execute.
-    if !seen[2] {
-        return Frame::BadPayload {
-            used: s.len(),
-            kind: client::OPEN,
-        };
-    }
-    let start = starts[2];
-    let len = values[2] as usize;
-    open_from(
-        s,
-        id,
-        has,
-        asked,
-        Part { start, len },
-        execute_in(s, start, len),
-    )
-}
-
-// The type and the tag of an Open's statement of two fields, in one number: type 0, and its Execute in field 2.
-const CHOSEN_EXECUTE: u64 = 18;
-
-// With a short way for a statement of two fields, its type and its Execute.
-fn open_inside(s: &[u8], id: u64, has: bool, asked: u64, at: usize, n: usize) -> Frame
-    ensures { λ r. ⌜ r ≡ openInside (now (s .entry)) id (optionalBy has asked) at n ⌝ }
-{
-    let all = s.len();
-    if let Pair::Two {
-        first,
-        tag,
-        value,
-        start,
-    } = args::pair::read_pair(s, at, n) {
-        if first * 256 + tag == CHOSEN_EXECUTE {
-            let len = value as usize;
-            return open_from(
-                s,
-                id,
-                has,
-                asked,
-                Part { start, len },
-                execute_in(s, start, len),
-            );
-        }
-    }
-    long_inside(&s[..all], id, has, asked, at, n)
-}
-
 // The long way, by the rows.
-fn long_open(s: &[u8]) -> Frame
-    ensures { λ r. ⌜ r ≡ openFrame (now (s .entry)) ⌝ }
+fn long_opening(s: &[u8]) -> Opening
+    ensures { λ r. ⌜ ofOpening (now (s .entry)) r ≡ openFrame (now (s .entry)) ⌝ }
 {
     let rows = layout::rows::open_rows();
     let mut seen = [false; 10];
@@ -176,25 +159,21 @@ fn long_open(s: &[u8]) -> Frame
         &mut values,
         &mut starts,
     ) {
-        return Frame::BadPayload {
-            used: s.len(),
-            kind: client::OPEN,
-        };
+        return Opening::Bad;
     }
     // Field 1 is cursor_id, 4 the statement, 5 fetch_rows.
-    long_inside(
-        s,
-        values[1],
-        seen[5],
-        values[5],
-        starts[4],
-        values[4] as usize,
-    )
+    Opening::Of {
+        id: values[1],
+        start: starts[4],
+        len: values[4] as usize,
+        has: seen[5],
+        rows: values[5],
+    }
 }
 
 // With the short way for its own fields.
-pub fn read_open(s: &[u8]) -> Frame
-    ensures { λ r. ⌜ r ≡ openFrame (now (s .entry)) ⌝ }
+fn find_opening(s: &[u8]) -> Opening
+    ensures { λ r. ⌜ ofOpening (now (s .entry)) r ≡ openFrame (now (s .entry)) ⌝ }
 {
     let n = s.len();
     if let Outer::Fields {
@@ -204,7 +183,58 @@ pub fn read_open(s: &[u8]) -> Frame
         has,
         rows,
     } = crate::outer::read_outer(s) {
-        return open_inside(s, id, has, rows, start, len);
+        return Opening::Of {
+            id,
+            start,
+            len,
+            has,
+            rows,
+        };
     }
-    long_open(&s[..n])
+    long_opening(&s[..n])
+}
+
+// The long way, by the rows.
+fn long_inner(s: &[u8], at: usize, n: usize) -> Inner
+    ensures { λ r. ⌜ Runs (now (s .entry)) at n r ⌝ }
+{
+    let rows = layout::rows::open_stmt_rows();
+    let mut seen = [false; 10];
+    let mut values = [0; 10];
+    let mut starts = [0; 10];
+    if !fill_part(&rows, s, at, n, &mut seen, &mut values, &mut starts) {
+        return Inner::Bad;
+    }
+    // Field 2 is the Execute.
+    if !seen[2] {
+        return Inner::Bad;
+    }
+    Inner::At {
+        start: starts[2],
+        len: values[2] as usize,
+    }
+}
+
+// The type and the tag of an Open's statement of two fields, in one number: type 0, and its Execute in field 2.
+const CHOSEN_EXECUTE: u64 = 18;
+
+// The statement in `n` bytes of s from `at` on, with a short way for one of two fields, its type and its Execute.
+fn find_execute(s: &[u8], at: usize, n: usize) -> Inner
+    ensures { λ r. ⌜ Runs (now (s .entry)) at n r ⌝ }
+{
+    let all = s.len();
+    if let Pair::Two {
+        first,
+        tag,
+        value,
+        start,
+    } = args::pair::read_pair(s, at, n) {
+        if first * 256 + tag == CHOSEN_EXECUTE {
+            return Inner::At {
+                start,
+                len: value as usize,
+            };
+        }
+    }
+    long_inner(&s[..all], at, n)
 }

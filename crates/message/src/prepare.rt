@@ -1,6 +1,8 @@
-// Prepare, with the body that its type chooses.
+// Prepare, with the body that its type chooses. Where its parts stand is found first, by the short ways or the rows, and
+// the frame is put together in one place: one that comes back from a call is copied whole, for which a processor waits.
 ghost use mathlib.Core.Path.{_≡_};
 ghost use Rattle.message.specs.Prepare.{bodyIn, prepareFrame, prepareFrom, prepareInside};
+ghost use Rattle.message.specs.private.Parts.{Chooses, ofStmt};
 use crate::operation;
 use crate::payload::PAYLOAD;
 use crate::payload::low;
@@ -14,6 +16,181 @@ use args::part::Part;
 use args::part::fill_part;
 use layout::fields::fill_fields;
 use protocol::client;
+
+// A Prepare's id, and where its statement stands; or the message is bad.
+pub enum Stmt {
+    At { id: u64, start: usize, len: usize },
+    Bad,
+}
+
+// A statement's type, and where the body that it chooses stands; or the statement is bad.
+pub enum Chosen {
+    Body {
+        operation: u64,
+        start: usize,
+        len: usize,
+    },
+    Bad,
+}
+
+pub fn read_prepare(s: &[u8]) -> Frame
+    ensures { λ r. ⌜ r ≡ prepareFrame (now (s .entry)) ⌝ }
+{
+    match find_stmt(s) {
+        Stmt::At { id, start, len } => prepare_inside(s, id, start, len),
+        Stmt::Bad => Frame::BadPayload {
+            used: s.len(),
+            kind: client::PREPARE,
+        },
+    }
+}
+
+// A Prepare with this id, and its statement in `n` bytes of s from `at` on.
+fn prepare_inside(s: &[u8], id: u64, at: usize, n: usize) -> Frame
+    ensures { λ r. ⌜ r ≡ prepareInside (now (s .entry)) id at n ⌝ }
+{
+    match find_body(s, at, n) {
+        Chosen::Body {
+            operation,
+            start,
+            len,
+        } => prepare_from(s, id, operation, start, len),
+        Chosen::Bad => Frame::BadPayload {
+            used: s.len(),
+            kind: client::PREPARE,
+        },
+    }
+}
+
+// A Prepare with this id and type, and its body in `len` bytes of s from `start` on.
+fn prepare_from(s: &[u8], id: u64, operation: u64, start: usize, len: usize) -> Frame
+    ensures { λ r. ⌜
+        r
+        ≡ prepareFrom (now (s .entry)) id operation (record { start = start; len = len })
+        (bodyIn (now (s .entry)) operation start len)
+        ⌝ }
+{
+    let args = quick_body(s, operation, start, len);
+    if !args.good {
+        return Frame::BadPayload {
+            used: s.len(),
+            kind: client::PREPARE,
+        };
+    }
+    let prepare = Prepare {
+        stmt: low(id),
+        operation,
+        body: Part { start, len },
+        args: args.same(),
+    };
+    Frame::Good {
+        used: s.len(),
+        request: Request::Prepare(prepare),
+    }
+}
+
+// The long way, by the rows.
+fn long_stmt(s: &[u8]) -> Stmt
+    ensures { λ r. ⌜ ofStmt (now (s .entry)) r ≡ prepareFrame (now (s .entry)) ⌝ }
+{
+    let rows = layout::rows::prepare_rows();
+    let mut seen = [false; 10];
+    let mut values = [0; 10];
+    let mut starts = [0; 10];
+    if !fill_fields(
+        &rows,
+        s,
+        PAYLOAD,
+        s.len(),
+        &mut seen,
+        &mut values,
+        &mut starts,
+    ) {
+        return Stmt::Bad;
+    }
+    // Field 1 is stmt_id, 2 the statement.
+    Stmt::At {
+        id: values[1],
+        start: starts[2],
+        len: values[2] as usize,
+    }
+}
+
+// The tag of the statement, field 2 with bytes.
+const STMT_TAG: u64 = 18;
+
+// With a short way for a Prepare of its two fields alone, as most are.
+fn find_stmt(s: &[u8]) -> Stmt
+    ensures { λ r. ⌜ ofStmt (now (s .entry)) r ≡ prepareFrame (now (s .entry)) ⌝ }
+{
+    let n = s.len();
+    if PAYLOAD <= n {
+        if let Pair::Two {
+            first,
+            tag,
+            value,
+            start,
+        } = args::pair::read_pair(s, PAYLOAD, n - PAYLOAD) {
+            if tag == STMT_TAG {
+                return Stmt::At {
+                    id: first,
+                    start,
+                    len: value as usize,
+                };
+            }
+        }
+    }
+    long_stmt(&s[..n])
+}
+
+// The long way, by the rows.
+fn long_chosen(s: &[u8], at: usize, n: usize) -> Chosen
+    ensures { λ r. ⌜ Chooses (now (s .entry)) at n r ⌝ }
+{
+    let rows = layout::rows::prepare_stmt_rows();
+    let mut seen = [false; 10];
+    let mut values = [0; 10];
+    let mut starts = [0; 10];
+    if !fill_part(&rows, s, at, n, &mut seen, &mut values, &mut starts) {
+        return Chosen::Bad;
+    }
+    let operation = values[1] % 0x1_0000_0000;
+    let k = operation::field_of(operation);
+    if !seen[k] {
+        return Chosen::Bad;
+    }
+    Chosen::Body {
+        operation,
+        start: starts[k],
+        len: values[k] as usize,
+    }
+}
+
+// A statement's type StmtExecute, and the tag of the body that it chooses (field 6, wire type 2), in one number.
+const CHOSEN_EXECUTE: u64 = operation::STMT_EXECUTE * 256 + 50;
+
+// The statement in `n` bytes of s from `at` on, with a short way for one of two fields, its type and its body, a
+// StmtExecute.
+fn find_body(s: &[u8], at: usize, n: usize) -> Chosen
+    ensures { λ r. ⌜ Chooses (now (s .entry)) at n r ⌝ }
+{
+    let all = s.len();
+    if let Pair::Two {
+        first,
+        tag,
+        value,
+        start,
+    } = args::pair::read_pair(s, at, n) {
+        if first * 256 + tag == CHOSEN_EXECUTE {
+            return Chosen::Body {
+                operation: operation::STMT_EXECUTE,
+                start,
+                len: value as usize,
+            };
+        }
+    }
+    long_chosen(&s[..all], at, n)
+}
 
 // The arguments of a body of this type in `n` bytes of s from `at` on; bad ones where the body is.
 pub fn read_body(s: &[u8], operation: u64, at: usize, n: usize) -> Arguments
@@ -37,132 +214,16 @@ pub fn read_body(s: &[u8], operation: u64, at: usize, n: usize) -> Arguments
     Arguments::none(0, 0)
 }
 
-fn prepare_from(s: &[u8], id: u64, operation: u64, body: Part, args: Arguments) -> Frame
-    ensures { λ r. ⌜ r ≡ prepareFrom (now (s .entry)) id operation body args ⌝ }
-{
-    if !args.good {
-        return Frame::BadPayload {
-            used: s.len(),
-            kind: client::PREPARE,
-        };
-    }
-    let prepare = Prepare {
-        stmt: low(id),
-        operation,
-        body,
-        args,
-    };
-    Frame::Good {
-        used: s.len(),
-        request: Request::Prepare(prepare),
-    }
-}
-
-// A Prepare with this id, and its statement in `n` bytes of s from `at` on: the long way, by the rows.
-fn long_inside(s: &[u8], id: u64, at: usize, n: usize) -> Frame
-    ensures { λ r. ⌜ r ≡ prepareInside (now (s .entry)) id at n ⌝ }
-{
-    let rows = layout::rows::prepare_stmt_rows();
-    let mut seen = [false; 10];
-    let mut values = [0; 10];
-    let mut starts = [0; 10];
-    if !fill_part(&rows, s, at, n, &mut seen, &mut values, &mut starts) {
-        return Frame::BadPayload {
-            used: s.len(),
-            kind: client::PREPARE,
-        };
-    }
-    let operation = values[1] % 0x1_0000_0000;
-    let k = operation::field_of(operation);
-    if !seen[k] {
-        return Frame::BadPayload {
-            used: s.len(),
-            kind: client::PREPARE,
-        };
-    }
-    let start = starts[k];
-    let len = values[k] as usize;
-    prepare_from(
-        s,
-        id,
-        operation,
-        Part { start, len },
-        read_body(s, operation, start, len),
-    )
-}
-
-// A statement's type StmtExecute, and the tag of the body that it chooses (field 6, wire type 2), in one number.
-const CHOSEN_EXECUTE: u64 = operation::STMT_EXECUTE * 256 + 50;
-
-// With a short way for a statement of two fields, its type and its body, a StmtExecute; most of these are a text alone.
-fn prepare_inside(s: &[u8], id: u64, at: usize, n: usize) -> Frame
-    ensures { λ r. ⌜ r ≡ prepareInside (now (s .entry)) id at n ⌝ }
+// With a short way for a StmtExecute of its text alone, as most are.
+fn quick_body(s: &[u8], operation: u64, at: usize, n: usize) -> Arguments
+    ensures { λ r. ⌜ r ≡ bodyIn (now (s .entry)) operation at n ⌝ }
 {
     let all = s.len();
-    if let Pair::Two {
-        first,
-        tag,
-        value,
-        start,
-    } = args::pair::read_pair(s, at, n) {
-        if first * 256 + tag == CHOSEN_EXECUTE {
-            let len = value as usize;
-            if let Text::Alone { start: _, len: _ } = args::pair::read_text(s, start, len) {
-                let none = Arguments::none(start, start + len);
-                return prepare_from(s, id, operation::STMT_EXECUTE, Part { start, len }, none);
-            }
-            let args = read_body(&s[..all], operation::STMT_EXECUTE, start, len);
-            return prepare_from(s, id, operation::STMT_EXECUTE, Part { start, len }, args);
+    if operation == operation::STMT_EXECUTE {
+        if let Text::Alone { start: _, len: _ } = args::pair::read_text(s, at, n) {
+            return Arguments::none(at, at + n);
         }
     }
-    long_inside(&s[..all], id, at, n)
-}
-
-// The long way, by the rows.
-fn long_prepare(s: &[u8]) -> Frame
-    ensures { λ r. ⌜ r ≡ prepareFrame (now (s .entry)) ⌝ }
-{
-    let rows = layout::rows::prepare_rows();
-    let mut seen = [false; 10];
-    let mut values = [0; 10];
-    let mut starts = [0; 10];
-    if !fill_fields(
-        &rows,
-        s,
-        PAYLOAD,
-        s.len(),
-        &mut seen,
-        &mut values,
-        &mut starts,
-    ) {
-        return Frame::BadPayload {
-            used: s.len(),
-            kind: client::PREPARE,
-        };
-    }
-    // Field 1 is stmt_id, 2 the statement.
-    long_inside(s, values[1], starts[2], values[2] as usize)
-}
-
-// The tag of the statement, field 2 with bytes.
-const STMT_TAG: u64 = 18;
-
-// With a short way for a Prepare of its two fields alone, as most are.
-pub fn read_prepare(s: &[u8]) -> Frame
-    ensures { λ r. ⌜ r ≡ prepareFrame (now (s .entry)) ⌝ }
-{
-    let n = s.len();
-    if PAYLOAD <= n {
-        if let Pair::Two {
-            first,
-            tag,
-            value,
-            start,
-        } = args::pair::read_pair(s, PAYLOAD, n - PAYLOAD) {
-            if tag == STMT_TAG {
-                return prepare_inside(s, first, start, value as usize);
-            }
-        }
-    }
-    long_prepare(&s[..n])
+    let args = read_body(&s[..all], operation, at, n);
+    args.same()
 }

@@ -11,33 +11,48 @@ pub struct Optional {
     pub value: u64,
 }
 
+impl Optional {
+    // The same, as `Arguments::same` has it.
+    pub fn same(self) -> Optional
+        ensures { λ r. ⌜ r ≡ self ⌝ }
+    {
+        Optional {
+            present: self.present,
+            value: self.value,
+        }
+    }
+}
+
+// The fields of the messages below stand in such an order that a flag of one shares its bytes with flags of the others,
+// and hardly with their numbers: a number that is put together with a flag goes to memory in pieces.
+
 // A statement to prepare. `operation` is the type of its body, which stands at `body`.
 pub struct Prepare {
+    pub args: Arguments,
     pub stmt: u32,
     pub operation: u64,
     pub body: Part,
-    pub args: Arguments,
 }
 
 // A statement to run, also the one of an Open. `compact` is compact_metadata.
 pub struct Execute {
+    pub args: Arguments,
     pub stmt: u32,
     pub compact: Optional,
-    pub args: Arguments,
 }
 
 // A cursor to open on the statement that `execute` runs; `rows` is fetch_rows, `body` is where the Execute stands.
 pub struct Open {
+    pub execute: Execute,
+    pub body: Part,
     pub cursor: u32,
     pub rows: Optional,
-    pub body: Part,
-    pub execute: Execute,
 }
 
 // Rows to send of a cursor; `rows` is fetch_rows.
 pub struct Fetch {
-    pub cursor: u32,
     pub rows: Optional,
+    pub cursor: u32,
 }
 
 pub enum Request {

@@ -1,22 +1,48 @@
--- Its arguments tell whether an Execute is good.
+-- What one pass finds is the Execute, or there is none.
+use native.Mathlib.Omega.{arith}
+use mathlib.Core.Bool.{false}
+use mathlib.Core.Path.{ap, _∙_}
+use lib.ListN.{length}
 use borrow.Author.Tests.{not-true, not-false}
-use Rattle.protocol.specs.Client as Client
+use Rattle.args.proofs.BoundLaws.{bound-found}
+use Rattle.message.specs.Payload.{payload}
+use Rattle.message.specs.Execute.{executeFrom}
+use Rattle.message.specs.declared.request.Execute.{Execute}
 use Rattle.message.specs.declared.request.Request.{Request}
-use Rattle.message.proofs.MessageLaws.{payload-bad, payload-good}
+use Rattle.message.specs.declared.request.Frame.{Frame}
+use Rattle.message.proofs.BoundLaws.{run-lost, run-found}
+use borrow.Author.Needs.{needs}
 use Rattle.message.proofs.execute.execute_from.Statement.{statement}
 use Rattle.message.proofs.execute.execute_from.Tie as tie
 
 returns : tie.Need-returns
 returns c =
-    let a = c .before .before .args in
-    payload-bad (a .s .now) Client.execute (Request.Execute (a .x)) {good = a .x .args .good}
-    (not-true _ (c .if1 .taken))
+    let b = c .before .before .read-bound in
+    let a = c .before .before .before .before .args in
+    ap (executeFrom (a .s .now))
+    (run-lost (a .s .now) payload (a .n) (b .result) (b .ensures) (not-true _ (c .if1 .taken)))
+
+add-execute-of : tie.Need-add-execute-of
+add-execute-of c =
+    let b = c .before .before .read-bound in
+    let a = c .before .before .before .before .args in
+    let f = bound-found false (a .s .now) payload (a .n) (b .result) (b .ensures) (not-false _ (c .if1 .left)) in
+    record { fits = omega (arith, f .inside) }
 
 returns-2 : tie.Need-returns-2
 returns-2 c =
-    let a = c .before .before .args in
-    payload-good (a .s .now) Client.execute (Request.Execute (a .x)) {good = a .x .args .good}
-    (not-false _ (c .if1 .left))
+    let b = c .before .before .before .read-bound in
+    let a = c .before .before .before .before .before .args in
+    ap (λ (x : Execute). Frame.Good (length (a .s .now)) (Request.Execute x)) (c .execute-of .ensures)
+    ∙ ap (executeFrom (a .s .now))
+    (run-found (a .s .now) payload (a .n) (b .result) (b .ensures) (not-false _ (c .before .if1 .left)))
 
 pub execute-from-spec : {M : Type 1} → statement M
-execute-from-spec = tie.close (tie.spec returns returns-2)
+execute-from-spec =
+    tie.close
+    (tie.spec
+    (λ c κs. search needs)
+    returns
+    add-execute-of
+    (λ c κs. search needs)
+    returns-2)

@@ -1,41 +1,50 @@
--- Its Execute's arguments tell whether an Open is good.
+-- What one pass finds is the Execute, or there is none.
+use native.Mathlib.Omega.{arith}
+use mathlib.Core.Bool.{false}
+use mathlib.Core.Path.{ap, _∙_}
 use borrow.Author.Tests.{not-true, not-false}
-use Rattle.protocol.specs.Client as Client
-use Rattle.args.specs.Part.{low32}
+use Rattle.args.proofs.BoundLaws.{bound-found}
 use Rattle.message.specs.Payload.{optionalBy}
-use Rattle.message.specs.declared.request.Request.{Request}
-use Rattle.message.proofs.MessageLaws.{payload-bad, payload-good}
+use Rattle.message.specs.Execute.{openFrom}
+use Rattle.message.proofs.BoundLaws.{run-lost, run-found}
 use borrow.Author.Needs.{needs}
 use Rattle.message.proofs.execute.open_from.Statement.{statement}
 use Rattle.message.proofs.execute.open_from.Tie as tie
 
 returns : tie.Need-returns
 returns c =
-    let a = c .before .before .before .args in
-    payload-bad (a .s .now) Client.open'
-    (Request.Open (record {
-      cursor = low32 (a .id);
-      rows = optionalBy (a .has)
-          (a .asked);
-      body = a .body;
-      execute = a .x;
-    }))
-    {good = a .x .args .good} (not-true _ (c .if1 .taken))
+    let b = c .before .before .read-bound in
+    let a = c .before .before .before .before .args in
+    ap (openFrom (a .s .now) (a .id) (optionalBy (a .has) (a .asked)) (record { start = a .start; len = a .len }))
+    (run-lost (a .s .now) (a .start) (a .len) (b .result) (b .ensures) (not-true _ (c .if1 .taken)))
+
+add-execute-of : tie.Need-add-execute-of
+add-execute-of c =
+    let b = c .before .before .before .before .read-bound in
+    let a = c .before .before .before .before .before .before .args in
+    let f = bound-found false (a .s .now) (a .start) (a .len) (b .result) (b .ensures)
+    (not-false _ (c .before .before .if1 .left)) in
+    record { fits = omega (arith, f .inside) }
 
 returns-2 : tie.Need-returns-2
 returns-2 c =
-    let a = c .before .before .before .before .before .args in
-    rw (c .read-optional .ensures)
-    (rw (c .before .low .ensures)
-    (payload-good (a .s .now) Client.open'
-    (Request.Open (record {
-      cursor = low32 (a .id);
-      rows = optionalBy (a .has)
-          (a .asked);
-      body = a .body;
-      execute = a .x;
-    }))
-    {good = a .x .args .good} (not-false _ (c .before .before .if1 .left))))
+    let b = c .before .before .before .before .before .read-bound in
+    let a = c .before .before .before .before .before .before .before .args in
+    rw (c .execute-of .ensures)
+    (rw (c .before .read-optional .ensures)
+    (rw (c .before .before .low .ensures)
+    (ap (openFrom (a .s .now) (a .id) (optionalBy (a .has) (a .asked)) (record { start = a .start; len = a .len }))
+    (run-found (a .s .now) (a .start) (a .len) (b .result) (b .ensures)
+    (not-false _ (c .before .before .before .if1 .left))))))
 
 pub open-from-spec : {M : Type 1} → statement M
-open-from-spec = tie.close (tie.spec returns (λ c κs. search needs) (λ c κs. search needs) returns-2)
+open-from-spec =
+    tie.close
+    (tie.spec
+    (λ c κs. search needs)
+    returns
+    (λ c κs. search needs)
+    (λ c κs. search needs)
+    add-execute-of
+    (λ c κs. search needs)
+    returns-2)

@@ -1,26 +1,19 @@
--- Two short fields are read by their bytes alone, to the slots that the rows give; anything else goes the long way.
+-- Each arm is one clause of ofStmt.
 use mathlib.Core.Path.{sym, ap, _∙_}
-use lib.ListN.{length}
-use lib.Seq.{take-length}
-use Rattle.message.specs.Prepare.{prepareFrame}
-use Rattle.message.proofs.PairedLaws.{prepare-paired}
+use Rattle.message.specs.private.Parts.{ofStmt}
 use borrow.Author.Needs.{needs}
 use Rattle.message.proofs.prepare.read_prepare.Statement.{statement}
 use Rattle.message.proofs.prepare.read_prepare.Tie as tie
 
 returns : tie.Need-returns
 returns c =
-    let p = c .before .before .before .before .before in
     c .prepare-inside .ensures
-    ∙ prepare-paired (p .before .before .before .args .s .now) (c .before .before .before .first .given .1)
-    (p .before .if1 .taken) (p .read-pair .ensures) (c .before .if2 .taken)
-
-slice-aggregate-long-prepare : tie.Need-slice-aggregate-long-prepare
-slice-aggregate-long-prepare c = sym (ap length (take-length (c .before .before .before .args .s .now)))
+    ∙ ap (ofStmt (c .before .before .before .before .before .before .args .s .now)) (sym (c .before .before .id .given .1))
+    ∙ c .before .before .before .before .find-stmt .ensures
 
 returns-2 : tie.Need-returns-2
-returns-2 c = c .long-prepare .ensures ∙ ap prepareFrame
-    (take-length (c .before .before .before .before .args .s .now))
+returns-2 c =
+    ap (ofStmt (c .before .before .before .before .args .s .now)) (sym (c .enum-told .given .1)) ∙ c .before .before .find-stmt .ensures
 
 pub read-prepare-spec : {M : Type 1} → statement M
 read-prepare-spec =
@@ -29,8 +22,6 @@ read-prepare-spec =
     (λ c κs. search needs)
     (λ c. search needs)
     (λ c κs. search needs)
-    returns
     (λ c. search needs)
-    slice-aggregate-long-prepare
-    (λ c κs. search needs)
+    returns
     returns-2)

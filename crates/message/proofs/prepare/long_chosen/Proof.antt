@@ -1,13 +1,13 @@
 -- The arrays hold the statement's fields; the body stands in the field that the type chooses.
-use mathlib.Core.Path.{_∙_}
+use mathlib.Core.Path.{refl}
 use borrow.Author.Tests.{not-true, not-false}
 use Rattle.layout.specs.Table.{rowsOf, prepareStmt}
 use Rattle.layout.specs.private.Arrays.{Holds}
 use Rattle.args.specs.Part.{embedded}
 use Rattle.message.proofs.ArrayLaws.{prepare-spoiled, prepare-without, prepare-held}
 use borrow.Author.Needs.{needs}
-use Rattle.message.proofs.prepare.long_inside.Statement.{statement}
-use Rattle.message.proofs.prepare.long_inside.Tie as tie
+use Rattle.message.proofs.prepare.long_chosen.Statement.{statement}
+use Rattle.message.proofs.prepare.long_chosen.Tie as tie
 
 held : (c : tie.After-fill-part) →
     let a = c .before .before .before .before .before .before .before .args in let l = c .fill-part in
@@ -16,33 +16,31 @@ held : (c : tie.After-fill-part) →
 held c = rw (c .before .before .before .before .before .prepare-stmt-rows .ensures) at (c .fill-part .ensures)
 
 returns : tie.Need-returns
-returns c =
+returns c id =
     let f = c .before in
     let a = f .before .before .before .before .before .before .before .args in
-    prepare-spoiled (a .s .now) (a .id) (a .at) (a .n) (held f) (not-true _ (c .if1 .taken))
+    prepare-spoiled (a .s .now) id (a .at) (a .n) (held f) (not-true _ (c .if1 .taken))
 
 returns-2 : tie.Need-returns-2
-returns-2 c =
+returns-2 c id =
     let f = c .before .before .before in
     let a = f .before .before .before .before .before .before .before .args in
     let k = c .before .field-of in
-    prepare-without (a .s .now) (a .id) (a .at) (a .n) (held f) (not-false _ (c .before .before .if1 .left))
-    (k .result)
+    prepare-without (a .s .now) id (a .at) (a .n) (held f) (not-false _ (c .before .before .if1 .left)) (k .result)
     (k .ensures .0)
     (not-true _ (c .if2 .taken))
 
 returns-3 : tie.Need-returns-3
-returns-3 c =
-    let f = c .before .before .before .before .before in
+returns-3 c id =
+    let f = c .before .before .before in
     let a = f .before .before .before .before .before .before .before .args in
-    let k = c .before .before .before .field-of in
-    c .prepare-from .ensures
-    ∙ prepare-held (a .s .now) (a .id) (a .at) (a .n) (held f)
-    (not-false _ (c .before .before .before .before .if1 .left)) (k .result) (k .ensures .0)
-    (not-false _ (c .before .before .if2 .left)) (c .before .read-body .result) (c .before .read-body .ensures)
+    let k = c .before .field-of in
+    prepare-held (a .s .now) id (a .at) (a .n) (held f) (not-false _ (c .before .before .if1 .left)) (k .result)
+    (k .ensures .0)
+    (not-false _ (c .if2 .left)) _ refl
 
-pub long-inside-spec : {M : Type 1} → statement M
-long-inside-spec =
+pub long-chosen-spec : {M : Type 1} → statement M
+long-chosen-spec =
     tie.close
     (tie.spec
     (λ c κs. search needs)
@@ -57,6 +55,4 @@ long-inside-spec =
     (λ c. search needs)
     (λ c. search needs)
     (λ c. search needs)
-    (λ c κs. search needs)
-    (λ c κs. search needs)
     returns-3)

@@ -1,32 +1,30 @@
--- The arrays hold the message's fields; the statement stands in field 2.
-use mathlib.Core.Path.{_∙_}
+-- The arrays hold the message's fields; the statement stands in field 4.
 use borrow.Author.Tests.{not-true, not-false}
 use Rattle.layout.proofs.ArrayLaws.{holds-lent}
 use Rattle.message.specs.Payload.{payload}
-use Rattle.message.proofs.ArrayLaws.{prepare-refused, prepare-whole}
+use Rattle.message.proofs.ArrayLaws.{open-refused, open-whole}
 use borrow.Author.Needs.{needs}
-use Rattle.message.proofs.prepare.long_prepare.Statement.{statement}
-use Rattle.message.proofs.prepare.long_prepare.Tie as tie
+use Rattle.message.proofs.execute.long_opening.Statement.{statement}
+use Rattle.message.proofs.execute.long_opening.Tie as tie
 
 returns : tie.Need-returns
 returns c =
     let f = c .before in
     let r = f .before .before .before .before .before in
     let s = r .before .before .args .s .now in
-    prepare-refused s (holds-lent (r .prepare-rows .ensures) s payload (f .fill-fields .ensures))
+    open-refused s (holds-lent (r .open-rows .ensures) s payload (f .fill-fields .ensures))
     (not-true _ (c .if1 .taken))
 
 returns-2 : tie.Need-returns-2
 returns-2 c =
-    let f = c .before .before in
+    let f = c .before in
     let r = f .before .before .before .before .before in
     let s = r .before .before .args .s .now in
-    c .long-inside .ensures
-    ∙ prepare-whole s (holds-lent (r .prepare-rows .ensures) s payload (f .fill-fields .ensures))
-    (not-false _ (c .before .if1 .left))
+    open-whole s (holds-lent (r .open-rows .ensures) s payload (f .fill-fields .ensures))
+    (not-false _ (c .if1 .left))
 
-pub long-prepare-spec : {M : Type 1} → statement M
-long-prepare-spec =
+pub long-opening-spec : {M : Type 1} → statement M
+long-opening-spec =
     tie.close
     (tie.spec
     (λ c κs. search needs)
@@ -36,5 +34,6 @@ long-prepare-spec =
     (λ c. search needs)
     (λ c. search needs)
     (λ c. search needs)
-    (λ c κs. search needs)
+    (λ c. search needs)
+    (λ c. search needs)
     returns-2)

@@ -1,14 +1,13 @@
 -- The arrays hold the statement's fields; the Execute stands in field 2.
-use mathlib.Core.Path.{_∙_}
+use mathlib.Core.Path.{refl}
 use borrow.Author.Tests.{not-true, not-false}
 use Rattle.layout.specs.Table.{rowsOf, openStmt}
 use Rattle.layout.specs.private.Arrays.{Holds}
 use Rattle.args.specs.Part.{embedded}
 use Rattle.message.proofs.ArrayLaws.{open-spoiled, open-without, open-held}
-use Rattle.message.specs.Payload.{optionalBy}
 use borrow.Author.Needs.{needs}
-use Rattle.message.proofs.execute.long_inside.Statement.{statement}
-use Rattle.message.proofs.execute.long_inside.Tie as tie
+use Rattle.message.proofs.execute.long_inner.Statement.{statement}
+use Rattle.message.proofs.execute.long_inner.Tie as tie
 
 held : (c : tie.After-fill-part) →
     let a = c .before .before .before .before .before .before .before .args in let l = c .fill-part in
@@ -17,31 +16,27 @@ held : (c : tie.After-fill-part) →
 held c = rw (c .before .before .before .before .before .open-stmt-rows .ensures) at (c .fill-part .ensures)
 
 returns : tie.Need-returns
-returns c =
+returns c id rows =
     let f = c .before in
     let a = f .before .before .before .before .before .before .before .args in
-    open-spoiled (a .s .now) (a .id) (optionalBy (a .has) (a .asked)) (a .at) (a .n) (held f)
-    (not-true _ (c .if1 .taken))
+    open-spoiled (a .s .now) id rows (a .at) (a .n) (held f) (not-true _ (c .if1 .taken))
 
 returns-2 : tie.Need-returns-2
-returns-2 c =
+returns-2 c id rows =
     let f = c .before .before in
     let a = f .before .before .before .before .before .before .before .args in
-    open-without (a .s .now) (a .id) (optionalBy (a .has) (a .asked)) (a .at) (a .n) (held f)
-    (not-false _ (c .before .if1 .left))
+    open-without (a .s .now) id rows (a .at) (a .n) (held f) (not-false _ (c .before .if1 .left))
     (not-true _ (c .if2 .taken))
 
 returns-3 : tie.Need-returns-3
-returns-3 c =
-    let f = c .before .before .before .before in
+returns-3 c id rows =
+    let f = c .before .before in
     let a = f .before .before .before .before .before .before .before .args in
-    c .open-from .ensures
-    ∙ open-held (a .s .now) (a .id) (optionalBy (a .has) (a .asked)) (a .at) (a .n) (held f)
-    (not-false _ (c .before .before .before .if1 .left)) (not-false _ (c .before .before .if2 .left))
-    (c .before .execute-in .result) (c .before .execute-in .ensures)
+    open-held (a .s .now) id rows (a .at) (a .n) (held f) (not-false _ (c .before .if1 .left))
+    (not-false _ (c .if2 .left)) _ refl
 
-pub long-inside-spec : {M : Type 1} → statement M
-long-inside-spec =
+pub long-inner-spec : {M : Type 1} → statement M
+long-inner-spec =
     tie.close
     (tie.spec
     (λ c κs. search needs)
@@ -52,6 +47,4 @@ long-inside-spec =
     returns-2
     (λ c. search needs)
     (λ c. search needs)
-    (λ c κs. search needs)
-    (λ c κs. search needs)
     returns-3)

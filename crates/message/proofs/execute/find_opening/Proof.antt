@@ -1,0 +1,38 @@
+-- Its own fields are read by their bytes alone, to the slots that the rows give; anything else goes the long way.
+use mathlib.Core.Path.{sym, ap, subst, _∙_}
+use mathlib.Core.List.{List}
+use Prim.Native.Nat.{ℕ}
+use lib.ListN.{length}
+use lib.Seq.{take-length}
+use Rattle.message.specs.Execute.{openFrame}
+use Rattle.message.specs.private.Outer.{Says}
+use Rattle.message.specs.private.Parts.{ofOpening}
+use Rattle.message.proofs.OuterLaws.{open-paired}
+use borrow.Author.Needs.{needs}
+use Rattle.message.proofs.execute.find_opening.Statement.{statement}
+use Rattle.message.proofs.execute.find_opening.Tie as tie
+
+returns : tie.Need-returns
+returns c =
+    let s = c .before .before .before .before .before .args .s .now in
+    open-paired s (subst (Says s) (c .before .id .given .1) (c .before .before .before .read-outer .ensures))
+
+slice-aggregate-long-opening : tie.Need-slice-aggregate-long-opening
+slice-aggregate-long-opening c = sym
+    (ap length (take-length (c .before .before .before .before .before .args .s .now)))
+
+returns-2 : tie.Need-returns-2
+returns-2 c =
+    rw (take-length (c .before .before .before .before .before .before .args .s .now)) at (c .long-opening .ensures)
+
+pub find-opening-spec : {M : Type 1} → statement M
+find-opening-spec =
+    tie.close
+    (tie.spec
+    (λ c κs. search needs)
+    (λ c. search needs)
+    returns
+    (λ c. search needs)
+    slice-aggregate-long-opening
+    (λ c κs. search needs)
+    returns-2)
