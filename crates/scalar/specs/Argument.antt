@@ -3,6 +3,8 @@ use Prim.Native.Nat.{ℕ}
 use mathlib.Core.Bool.{cond}
 use mathlib.Core.List.{List, [], _∷_}
 use lib.Ieee.{Float, Format, binary32, binary64, ofBits, toBits, nanBits}
+use Rattle.protocol.specs.Reason as Reason
+use Rattle.protocol.specs.Scalars as Scalars
 use Rattle.scalar.specs.declared.argument.Argument.{Argument}
 use Rattle.scalar.specs.declared.argument.Argument.the-variants as Va
 use Rattle.scalar.specs.Zigzag.{zigzag, unzigzag}
@@ -25,32 +27,32 @@ floatOf n = carried binary32 Va.FloatNan Va.Float n
 
 -- the reason by which an argument is refused, or 0: an object and an array are refused 8
 abbrev pub reasonOf : Argument → ℕ
-reasonOf (Va.Signed z) = 0
-reasonOf (Va.Unsigned n) = 0
-reasonOf Va.Null = 0
-reasonOf (Va.Octets start len) = 0
-reasonOf (Va.Double d) = 0
-reasonOf (Va.DoubleNan n) = 0
-reasonOf (Va.Float d) = 0
-reasonOf (Va.FloatNan n) = 0
-reasonOf (Va.Bool b) = 0
-reasonOf (Va.String start len) = 0
-reasonOf Va.Object = 8
-reasonOf Va.Array = 8
+reasonOf (Va.Signed z) = Reason.accepted
+reasonOf (Va.Unsigned n) = Reason.accepted
+reasonOf Va.Null = Reason.accepted
+reasonOf (Va.Octets start len) = Reason.accepted
+reasonOf (Va.Double d) = Reason.accepted
+reasonOf (Va.DoubleNan n) = Reason.accepted
+reasonOf (Va.Float d) = Reason.accepted
+reasonOf (Va.FloatNan n) = Reason.accepted
+reasonOf (Va.Bool b) = Reason.accepted
+reasonOf (Va.String start len) = Reason.accepted
+reasonOf Va.Object = Reason.notScalar
+reasonOf Va.Array = Reason.notScalar
 reasonOf (Va.Refused n) = n
 
 -- the Scalar type, or 0 where there is no scalar
 abbrev pub typeOf : Argument → ℕ
-typeOf (Va.Signed z) = 1
-typeOf (Va.Unsigned n) = 2
-typeOf Va.Null = 3
-typeOf (Va.Octets start len) = 4
-typeOf (Va.Double d) = 5
-typeOf (Va.DoubleNan n) = 5
-typeOf (Va.Float d) = 6
-typeOf (Va.FloatNan n) = 6
-typeOf (Va.Bool b) = 7
-typeOf (Va.String start len) = 8
+typeOf (Va.Signed z) = Scalars.sint
+typeOf (Va.Unsigned n) = Scalars.uint
+typeOf Va.Null = Scalars.null
+typeOf (Va.Octets start len) = Scalars.octets
+typeOf (Va.Double d) = Scalars.double
+typeOf (Va.DoubleNan n) = Scalars.double
+typeOf (Va.Float d) = Scalars.float
+typeOf (Va.FloatNan n) = Scalars.float
+typeOf (Va.Bool b) = Scalars.bool
+typeOf (Va.String start len) = Scalars.string
 typeOf Va.Object = 0
 typeOf Va.Array = 0
 typeOf (Va.Refused n) = 0
