@@ -78,8 +78,8 @@ impl Arguments {
         }
     }
 
-    // The same, number by number. Copied as one, a struct takes the bytes between its fields along, and a processor waits
-    // where these were not written with them.
+    // The same, number by number. Copied as one, a struct takes the bytes between its fields along, and a processor
+    // waits where these were not written with them.
     pub fn same(self) -> Arguments
         ensures { λ r. ⌜ r ≡ self ⌝ }
     {

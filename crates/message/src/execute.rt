@@ -21,7 +21,8 @@ use args::part::fill_part;
 use layout::fields::fill_fields;
 use protocol::client;
 
-// An Open's cursor id, where its statement stands, and whether fetch_rows is there and what it is; or the message is bad.
+// An Open's cursor id, where its statement stands, and whether fetch_rows is there and what it is; or the message is
+// bad.
 pub enum Opening {
     Of {
         id: u64,

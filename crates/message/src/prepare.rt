@@ -1,5 +1,6 @@
-// Prepare, with the body that its type chooses. Where its parts stand is found first, by the short ways or the rows, and
-// the frame is put together in one place: one that comes back from a call is copied whole, for which a processor waits.
+// Prepare, with the body that its type chooses. Where its parts stand is found first, by the short ways or the rows,
+// and the frame is put together in one place: one that comes back from a call is copied whole, for which a processor
+// waits.
 ghost use mathlib.Core.Path.{_≡_};
 ghost use Rattle.message.specs.Prepare.{bodyIn, prepareFrame, prepareFrom, prepareInside};
 ghost use Rattle.message.specs.private.Parts.{Chooses, ofStmt};

@@ -32,7 +32,8 @@ unfolding rowsOf rowFor hasRequired
 returns c id rows =
     let a = c .before .before .before .before .before .before .args in
     ap (openChosen (a .s .now) id rows)
-    (pair-bytes (a .s .now) (a .at) (a .n) (c .before .before .first .given .1) (c .before .before .before .before .read-pair .ensures)
+    (pair-bytes (a .s .now) (a .at) (a .n) (c .before .before .first .given .1)
+    (c .before .before .before .before .read-pair .ensures)
     (rowsOf openStmt) 0 18 (c .if1 .taken) (omega arith) refl refl refl)
 
 slice-aggregate-long-inner : tie.Need-slice-aggregate-long-inner

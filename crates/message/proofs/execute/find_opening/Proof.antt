@@ -1,12 +1,8 @@
 -- Its own fields are read by their bytes alone, to the slots that the rows give; anything else goes the long way.
-use mathlib.Core.Path.{sym, ap, subst, _∙_}
-use mathlib.Core.List.{List}
-use Prim.Native.Nat.{ℕ}
+use mathlib.Core.Path.{sym, ap, subst}
 use lib.ListN.{length}
 use lib.Seq.{take-length}
-use Rattle.message.specs.Execute.{openFrame}
 use Rattle.message.specs.private.Outer.{Says}
-use Rattle.message.specs.private.Parts.{ofOpening}
 use Rattle.message.proofs.OuterLaws.{open-paired}
 use borrow.Author.Needs.{needs}
 use Rattle.message.proofs.execute.find_opening.Statement.{statement}

@@ -1,7 +1,7 @@
 -- What one pass finds is the Execute, or there is none.
 use native.Mathlib.Omega.{arith}
 use mathlib.Core.Bool.{false}
-use mathlib.Core.Path.{ap, _∙_}
+use mathlib.Core.Path.{ap}
 use borrow.Author.Tests.{not-true, not-false}
 use Rattle.args.proofs.BoundLaws.{bound-found}
 use Rattle.message.specs.Payload.{optionalBy}

@@ -8,12 +8,14 @@ use Rattle.message.proofs.execute.read_open.Tie as tie
 returns : tie.Need-returns
 returns c =
     c .open-inside .ensures
-    ∙ ap (ofOpening (c .before .before .before .before .before .before .args .s .now)) (sym (c .before .before .id .given .1))
+    ∙ ap (ofOpening (c .before .before .before .before .before .before .args .s .now))
+    (sym (c .before .before .id .given .1))
     ∙ c .before .before .before .before .find-opening .ensures
 
 returns-2 : tie.Need-returns-2
 returns-2 c =
-    ap (ofOpening (c .before .before .before .before .args .s .now)) (sym (c .enum-told .given .1)) ∙ c .before .before .find-opening .ensures
+    ap (ofOpening (c .before .before .before .before .args .s .now)) (sym (c .enum-told .given .1))
+    ∙ c .before .before .find-opening .ensures
 
 pub read-open-spec : {M : Type 1} → statement M
 read-open-spec =

@@ -32,7 +32,8 @@ unfolding rowsOf rowFor hasRequired
 returns c id =
     let a = c .before .before .before .before .before .before .args in
     ap (prepareRead (a .s .now) id)
-    (pair-bytes (a .s .now) (a .at) (a .n) (c .before .before .first .given .1) (c .before .before .before .before .read-pair .ensures)
+    (pair-bytes (a .s .now) (a .at) (a .n) (c .before .before .first .given .1)
+    (c .before .before .before .before .read-pair .ensures)
     (rowsOf prepareStmt) 5 50 (c .if1 .taken) (omega arith) refl refl refl)
 
 slice-aggregate-long-chosen : tie.Need-slice-aggregate-long-chosen

@@ -1,5 +1,5 @@
 -- Two short fields are read by their bytes alone, to the slots that the rows give; anything else goes the long way.
-use mathlib.Core.Path.{sym, ap, _∙_}
+use mathlib.Core.Path.{sym, ap}
 use lib.ListN.{length}
 use lib.Seq.{take-length}
 use Rattle.message.proofs.PairedLaws.{prepare-paired}
@@ -10,7 +10,8 @@ use Rattle.message.proofs.prepare.find_stmt.Tie as tie
 returns : tie.Need-returns
 returns c =
     let p = c .before .before .before .before in
-    prepare-paired (p .before .before .before .args .s .now) (c .before .before .first .given .1) (p .before .if1 .taken)
+    prepare-paired (p .before .before .before .args .s .now) (c .before .before .first .given .1)
+    (p .before .if1 .taken)
     (p .read-pair .ensures) (c .if2 .taken)
 
 slice-aggregate-long-stmt : tie.Need-slice-aggregate-long-stmt

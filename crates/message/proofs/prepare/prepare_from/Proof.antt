@@ -16,7 +16,12 @@ returns c =
     let a = c .before .before .before .before .args in
     payload-bad (a .s .now) Client.prepare
     (Request.Prepare
-    (record { stmt = low32 (a .id); operation = a .operation; body = record { start = a .start; len = a .len }; args = b .result }))
+    (record {
+      stmt = low32 (a .id);
+      operation = a .operation;
+      body = record { start = a .start; len = a .len };
+      args = b .result;
+    }))
     {good = b .result .good} (not-true _ (c .if1 .taken))
     ∙ ap (prepareFrom (a .s .now) (a .id) (a .operation) (record { start = a .start; len = a .len })) (b .ensures)
 
@@ -28,7 +33,12 @@ returns-2 c =
     (rw (c .before .low .ensures)
     (payload-good (a .s .now) Client.prepare
     (Request.Prepare
-    (record { stmt = low32 (a .id); operation = a .operation; body = record { start = a .start; len = a .len }; args = b .result }))
+    (record {
+      stmt = low32 (a .id);
+      operation = a .operation;
+      body = record { start = a .start; len = a .len };
+      args = b .result;
+    }))
     {good = b .result .good} (not-false _ (c .before .before .if1 .left))
     ∙ ap (prepareFrom (a .s .now) (a .id) (a .operation) (record { start = a .start; len = a .len })) (b .ensures)))
 

@@ -8,12 +8,14 @@ use Rattle.message.proofs.prepare.read_prepare.Tie as tie
 returns : tie.Need-returns
 returns c =
     c .prepare-inside .ensures
-    ∙ ap (ofStmt (c .before .before .before .before .before .before .args .s .now)) (sym (c .before .before .id .given .1))
+    ∙ ap (ofStmt (c .before .before .before .before .before .before .args .s .now))
+    (sym (c .before .before .id .given .1))
     ∙ c .before .before .before .before .find-stmt .ensures
 
 returns-2 : tie.Need-returns-2
 returns-2 c =
-    ap (ofStmt (c .before .before .before .before .args .s .now)) (sym (c .enum-told .given .1)) ∙ c .before .before .find-stmt .ensures
+    ap (ofStmt (c .before .before .before .before .args .s .now)) (sym (c .enum-told .given .1))
+    ∙ c .before .before .find-stmt .ensures
 
 pub read-prepare-spec : {M : Type 1} → statement M
 read-prepare-spec =
