@@ -4,6 +4,8 @@ use mathlib.Core.Bool.{Bool, true, false, cond}
 use mathlib.Core.List.{List, [], _∷_}
 use lib.ListN.{length, getD}
 use lib.Dec.{ltb, eqb}
+use Rattle.protocol.specs.Anys as Anys
+use Rattle.protocol.specs.Reason as Reason
 use Rattle.wire.specs.Field.{fieldAt}
 use Rattle.wire.specs.declared.field.Field.{Field}
 use Rattle.wire.specs.declared.value.Value.{Value}
@@ -68,25 +70,25 @@ argumentsAt s from = argumentsFrom (length s) s from
 
 -- the type of an Any: 1 scalar, 2 object, 3 array; 0 for a bad one (L7)
 abbrev pub anyTypeOf : Argument → ℕ
-anyTypeOf (Va.Signed z) = 1
-anyTypeOf (Va.Unsigned n) = 1
-anyTypeOf Va.Null = 1
-anyTypeOf (Va.Octets start len) = 1
-anyTypeOf (Va.Double d) = 1
-anyTypeOf (Va.DoubleNan n) = 1
-anyTypeOf (Va.Float d) = 1
-anyTypeOf (Va.FloatNan n) = 1
-anyTypeOf (Va.Bool b) = 1
-anyTypeOf (Va.String start len) = 1
-anyTypeOf Va.Object = 2
-anyTypeOf Va.Array = 3
-anyTypeOf (Va.Refused n) = 0
+anyTypeOf (Va.Signed z) = Anys.scalar
+anyTypeOf (Va.Unsigned n) = Anys.scalar
+anyTypeOf Va.Null = Anys.scalar
+anyTypeOf (Va.Octets start len) = Anys.scalar
+anyTypeOf (Va.Double d) = Anys.scalar
+anyTypeOf (Va.DoubleNan n) = Anys.scalar
+anyTypeOf (Va.Float d) = Anys.scalar
+anyTypeOf (Va.FloatNan n) = Anys.scalar
+anyTypeOf (Va.Bool b) = Anys.scalar
+anyTypeOf (Va.String start len) = Anys.scalar
+anyTypeOf Va.Object = Anys.object
+anyTypeOf Va.Array = Anys.array
+anyTypeOf (Va.Refused n) = Anys.none
 
 abbrev pub noArguments : ℕ → ℕ → Arguments
-noArguments start end = record { good = true; count = 0; kind = 0; index = 0; start = start; end = end }
+noArguments start end = record { good = true; count = 0; kind = Anys.none; index = 0; start = start; end = end }
 
 abbrev pub badArguments : Arguments
-badArguments = record { good = false; count = 0; kind = 0; index = 0; start = 0; end = 0 }
+badArguments = record { good = false; count = 0; kind = Anys.none; index = 0; start = 0; end = 0 }
 
 -- the same with one more, whose kind and index are kept where it is the first object or array
 abbrev pub counted : Arguments → ℕ → ℕ → Arguments
@@ -96,29 +98,29 @@ counted x kind index =
 -- one argument more, by its Any type: a bad one spoils all
 abbrev pub withType : Arguments → ℕ → Arguments
 withType x t =
-    cond (eqb t 0) badArguments
-    (cond (ltb t 2) (counted x (x .kind) (x .index))
-    (cond (eqb (x .kind) 0) (counted x t (x .count)) (counted x (x .kind) (x .index))))
+    cond (eqb t Anys.none) badArguments
+    (cond (ltb t Anys.object) (counted x (x .kind) (x .index))
+    (cond (eqb (x .kind) Anys.none) (counted x t (x .count)) (counted x (x .kind) (x .index))))
 
 -- all of them, in order, up to a bad one
 unfoldable pub together : Arguments → List Argument → Arguments
 together x [] = x
 together x (a ∷ rest) =
     let more = together (withType x (anyTypeOf a)) rest in
-    cond (eqb (anyTypeOf a) 0) badArguments more
+    cond (eqb (anyTypeOf a) Anys.none) badArguments more
 
 abbrev pub argumentsIn : List ℕ → ℕ → Arguments
 argumentsIn s from = together (noArguments from (length s)) (argumentsAt s from)
 
 -- as it is handed out: itself, or refused by its number, "of an object or array 8" (A6)
 abbrev pub asked : Argument → Argument
-asked a = cond (eqb (reasonOf a) 0) a (Va.Refused (reasonOf a))
+asked a = cond (eqb (reasonOf a) Reason.accepted) a (Va.Refused (reasonOf a))
 
 -- the number of the next argument: its own, or 9 (H9, A7)
 abbrev pub nextReason : NextArgument → ℕ
 nextReason (NextArgument.Found a next) = reasonOf a
-nextReason NextArgument.End = 9
+nextReason NextArgument.End = Reason.fewArguments
 
 -- the argument with an index, from 0: "past the last argument 9" (A6)
 abbrev pub nthArgument : List ℕ → ℕ → ℕ → Argument
-nthArgument s from index = asked (getD (argumentsAt s from) index (Va.Refused 9))
+nthArgument s from index = asked (getD (argumentsAt s from) index (Va.Refused Reason.fewArguments))

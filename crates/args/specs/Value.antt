@@ -5,6 +5,8 @@ use Prim.Native.Nat.{ℕ}
 use mathlib.Core.Bool.{Bool, true, false, not, cond}
 use mathlib.Core.List.{List}
 use lib.Dec.{eqb}
+use Rattle.protocol.specs.Anys as Anys
+use Rattle.protocol.specs.Scalars as Scalars
 use Rattle.scalar.specs.Argument.{signedOf, doubleOf, floatOf}
 use Rattle.scalar.specs.declared.argument.Argument.{Argument}
 use Rattle.scalar.specs.declared.argument.Argument.the-variants as Va
@@ -28,17 +30,23 @@ bytesOf octets x =
 abbrev pub bytesIn : Bool → List ℕ → ℕ → ℕ → Argument
 bytesIn octets s at n = bytesOf octets (embedded (rowsOf bytes) s at n)
 
+-- the message of the octets or the string, in a field of the Scalar
+abbrev pub bytesBy : Bool → List ℕ → Slots → ℕ → Argument
+bytesBy octets s x field = present (countOf x field) (bytesIn octets s (startOf x field) (lenOf x field))
+
 -- by the Scalar's type
 unfoldable pub ofType : List ℕ → Slots → ℕ → Argument
 ofType s x t =
-    cond (eqb t 1) (present (countOf x 2) (signedOf (valueOf x 2)))
-    (cond (eqb t 2) (present (countOf x 3) (Va.Unsigned (valueOf x 3)))
-    (cond (eqb t 3) Va.Null
-    (cond (eqb t 4) (present (countOf x 5) (bytesIn true s (startOf x 5) (lenOf x 5)))
-    (cond (eqb t 5) (present (countOf x 6) (doubleOf (valueOf x 6)))
-    (cond (eqb t 6) (present (countOf x 7) (floatOf (low32 (valueOf x 7))))
-    (cond (eqb t 7) (present (countOf x 8) (Va.Bool (not (eqb (valueOf x 8) 0))))
-    (cond (eqb t 8) (present (countOf x 9) (bytesIn false s (startOf x 9) (lenOf x 9))) bad)))))))
+    cond (eqb t Scalars.sint) (present (countOf x Scalars.sintField) (signedOf (valueOf x Scalars.sintField)))
+    (cond (eqb t Scalars.uint) (present (countOf x Scalars.uintField) (Va.Unsigned (valueOf x Scalars.uintField)))
+    (cond (eqb t Scalars.null) Va.Null
+    (cond (eqb t Scalars.octets) (bytesBy true s x Scalars.octetsField)
+    (cond (eqb t Scalars.double) (present (countOf x Scalars.doubleField) (doubleOf (valueOf x Scalars.doubleField)))
+    (cond (eqb t Scalars.float)
+    (present (countOf x Scalars.floatField) (floatOf (low32 (valueOf x Scalars.floatField))))
+    (cond (eqb t Scalars.bool)
+    (present (countOf x Scalars.boolField) (Va.Bool (not (eqb (valueOf x Scalars.boolField) 0))))
+    (cond (eqb t Scalars.string) (bytesBy false s x Scalars.stringField) bad)))))))
 
 unfoldable pub scalarOf : List ℕ → Slots → Argument
 scalarOf s x = cond (x .good) (ofType s x (low32 (valueOf x 1))) bad
@@ -50,8 +58,9 @@ scalarIn s at n = scalarOf s (embedded (rowsOf scalar) s at n)
 -- by the Any's type: 1 scalar, 2 object, 3 array (L7)
 unfoldable pub ofAnyType : List ℕ → Slots → ℕ → Argument
 ofAnyType s x t =
-    cond (eqb t 1) (present (countOf x 2) (scalarIn s (startOf x 2) (lenOf x 2)))
-    (cond (eqb t 2) Va.Object (cond (eqb t 3) Va.Array bad))
+    cond (eqb t Anys.scalar)
+    (present (countOf x Anys.scalarField) (scalarIn s (startOf x Anys.scalarField) (lenOf x Anys.scalarField)))
+    (cond (eqb t Anys.object) Va.Object (cond (eqb t Anys.array) Va.Array bad))
 
 unfoldable pub anyOf : List ℕ → Slots → Argument
 anyOf s x = cond (x .good) (ofAnyType s x (low32 (valueOf x 1))) bad

@@ -12,8 +12,9 @@ ghost use Rattle.args.specs.Arguments.{
   placeOf,
   withType,
 };
-use crate::keys;
+use protocol::anys;
 use protocol::reason;
+use protocol::wire_type;
 use scalar::argument::Argument;
 use wire::field::Field;
 use wire::value::Value;
@@ -48,9 +49,6 @@ pub struct Arguments {
     pub end: usize,
 }
 
-// The kind where there is no object and no array.
-const NONE: u64 = 0;
-
 impl Arguments {
     pub fn none(start: usize, end: usize) -> Arguments
         ensures { λ r. ⌜ r ≡ noArguments start end ⌝ }
@@ -58,7 +56,7 @@ impl Arguments {
         Arguments {
             good: true,
             count: 0,
-            kind: 0,
+            kind: anys::NONE,
             index: 0,
             start,
             end,
@@ -71,7 +69,7 @@ impl Arguments {
         Arguments {
             good: false,
             count: 0,
-            kind: 0,
+            kind: anys::NONE,
             index: 0,
             start: 0,
             end: 0,
@@ -98,15 +96,15 @@ impl Arguments {
         requires { ⌜ self .count < 2 ^ 63 ⌝ }
         ensures { λ r. ⌜ r ≡ withType self t ⌝ }
     {
-        if t == keys::BAD {
+        if t == anys::NONE {
             return Arguments::bad();
         }
         let mut x = self;
         x.count += 1;
-        if t < keys::OBJECT {
+        if t < anys::OBJECT {
             return x;
         }
-        if x.kind != NONE {
+        if x.kind != anys::NONE {
             return x;
         }
         x.kind = t;
@@ -118,7 +116,7 @@ impl Arguments {
 // An args field: its number, its wire type (bytes), and both as its tag in one byte.
 const ARGS_NUMBER: u64 = 2;
 
-const ARGS_WIRE: u64 = 2;
+const ARGS_WIRE: u64 = wire_type::LEN;
 
 const ARGS_TAG: u8 = 18;
 
@@ -199,19 +197,19 @@ pub fn any_type(a: Argument) -> u64
     ensures { λ r. ⌜ r ≡ anyTypeOf a ⌝ }
 {
     match a {
-        Argument::Signed(_) => keys::SCALAR,
-        Argument::Unsigned(_) => keys::SCALAR,
-        Argument::Null => keys::SCALAR,
-        Argument::Octets { start: _, len: _ } => keys::SCALAR,
-        Argument::Double(_) => keys::SCALAR,
-        Argument::DoubleNan(_) => keys::SCALAR,
-        Argument::Float(_) => keys::SCALAR,
-        Argument::FloatNan(_) => keys::SCALAR,
-        Argument::Bool(_) => keys::SCALAR,
-        Argument::String { start: _, len: _ } => keys::SCALAR,
-        Argument::Object => keys::OBJECT,
-        Argument::Array => keys::ARRAY,
-        Argument::Refused(_) => keys::BAD,
+        Argument::Signed(_) => anys::SCALAR,
+        Argument::Unsigned(_) => anys::SCALAR,
+        Argument::Null => anys::SCALAR,
+        Argument::Octets { start: _, len: _ } => anys::SCALAR,
+        Argument::Double(_) => anys::SCALAR,
+        Argument::DoubleNan(_) => anys::SCALAR,
+        Argument::Float(_) => anys::SCALAR,
+        Argument::FloatNan(_) => anys::SCALAR,
+        Argument::Bool(_) => anys::SCALAR,
+        Argument::String { start: _, len: _ } => anys::SCALAR,
+        Argument::Object => anys::OBJECT,
+        Argument::Array => anys::ARRAY,
+        Argument::Refused(_) => anys::NONE,
     }
 }
 
@@ -219,7 +217,7 @@ pub fn any_type(a: Argument) -> u64
 fn handed(a: Argument) -> Argument
     ensures { λ r. ⌜ r ≡ asked a ⌝ }
 {
-    if keys::SCALAR < any_type(a) {
+    if anys::SCALAR < any_type(a) {
         return Argument::Refused(reason::NOT_SCALAR);
     }
     a

@@ -5,6 +5,7 @@ ghost use Rattle.wire.specs.Field.{fieldAt};
 ghost use Rattle.args.specs.private.Bound.{argsOf, badBound, boundAt, boundIn, found, testsArgs, wireBy};
 ghost use Rattle.args.specs.private.Bound.{withField};
 use crate::arguments::Arguments;
+use protocol::wire_type;
 use wire::field::Field;
 
 // What is kept of a message's own fields: whether field 1 and field 3 occur, and their values.
@@ -43,9 +44,9 @@ fn bad_bound() -> Bound
 }
 
 // The wire types of fields 1 and 3: of a StmtExecute bytes, of an Execute numbers.
-const BYTES: u64 = 2;
+const BYTES: u64 = wire_type::LEN;
 
-const NUMBER: u64 = 0;
+const NUMBER: u64 = wire_type::VARINT;
 
 fn wire_by(text: bool) -> u64
     ensures { λ r. ⌜ r ≡ wireBy text ⌝ }

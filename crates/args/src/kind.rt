@@ -6,6 +6,8 @@ ghost use Rattle.args.specs.Value.{argumentIn, scalarIn};
 use crate::arguments::any_type;
 use crate::keys;
 use crate::pair::Pair;
+use protocol::anys;
+use protocol::scalars;
 
 // The Any type of the Scalar in `n` bytes of s from `at` on: 1, or 0 for a bad one. As read_scalar reads it, but its
 // value is not put together.
@@ -13,8 +15,8 @@ fn scalar_type(s: &[u8], at: usize, n: usize) -> u64
     ensures { λ r. ⌜ r ≡ anyTypeOf (scalarIn (now (s .entry)) at n) ⌝ }
 {
     let all = s.len();
-    if crate::pair::read_lone(s, at, n) == keys::NULL {
-        return keys::SCALAR;
+    if crate::pair::read_lone(s, at, n) == scalars::NULL {
+        return anys::SCALAR;
     }
     if let Pair::Two {
         first,
@@ -24,17 +26,17 @@ fn scalar_type(s: &[u8], at: usize, n: usize) -> u64
     } = crate::pair::read_pair(s, at, n) {
         let named = first * 256 + tag;
         match named {
-            keys::SINT_KEY => return keys::SCALAR,
-            keys::UINT_KEY => return keys::SCALAR,
+            keys::SINT_KEY => return anys::SCALAR,
+            keys::UINT_KEY => return anys::SCALAR,
             keys::OCTETS_KEY => return any_type(crate::value::read_bytes(
                 &s[..all],
                 start,
                 value as usize,
                 true,
             )),
-            keys::DOUBLE_KEY => return keys::SCALAR,
-            keys::FLOAT_KEY => return keys::SCALAR,
-            keys::BOOL_KEY => return keys::SCALAR,
+            keys::DOUBLE_KEY => return anys::SCALAR,
+            keys::FLOAT_KEY => return anys::SCALAR,
+            keys::BOOL_KEY => return anys::SCALAR,
             keys::STRING_KEY => return any_type(crate::value::read_bytes(
                 &s[..all],
                 start,
@@ -53,11 +55,11 @@ pub fn argument_type(s: &[u8], at: usize, n: usize) -> u64
 {
     let all = s.len();
     let alone = crate::pair::read_lone(s, at, n);
-    if alone == keys::OBJECT {
-        return keys::OBJECT;
+    if alone == anys::OBJECT {
+        return anys::OBJECT;
     }
-    if alone == keys::ARRAY {
-        return keys::ARRAY;
+    if alone == anys::ARRAY {
+        return anys::ARRAY;
     }
     if let Pair::Two {
         first,

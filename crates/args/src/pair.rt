@@ -5,6 +5,7 @@
 ghost use mathlib.Core.Path.{_≡_};
 ghost use Rattle.wire.specs.Value.{valueAt};
 ghost use Rattle.args.specs.private.Pair.{loneIn, pairAt, pairIn, pairOf, textAt, textIn, textOf};
+use protocol::wire_type;
 use wire::value::Value;
 
 // Two fields that fill the message: number 1, a varint of one byte with the value `first`; and one whose tag is the
@@ -43,7 +44,7 @@ fn value_at(s: &[u8], wire: u64, at: usize) -> Value
     if at < n {
         let v = wide(s[at]);
         if v < 128 {
-            if wire == 0 {
+            if wire == wire_type::VARINT {
                 return Value::Good {
                     number: v,
                     start: at,
@@ -51,7 +52,7 @@ fn value_at(s: &[u8], wire: u64, at: usize) -> Value
                     next: at + 1,
                 };
             }
-            if wire == 2 {
+            if wire == wire_type::LEN {
                 let len = v as usize;
                 if len <= n - (at + 1) {
                     return Value::Good {

@@ -6,7 +6,9 @@ ghost use Rattle.args.specs.Value.{anyOf, argumentIn, bad, bytesIn, scal
 use crate::keys;
 use crate::pair::Pair;
 use crate::pair::Text;
+use protocol::anys;
 use protocol::reason;
+use protocol::scalars;
 use scalar::argument::Argument;
 
 // The named value must be present.
@@ -62,17 +64,17 @@ fn scalar_value(s: &[u8], seen: &[bool; 10], values: &[u64; 10], starts: &[usize
 {
     let t = values[1] % 0x1_0000_0000;
     match t {
-        keys::SINT => needed(seen[2], scalar::argument::signed_argument(values[2])),
-        keys::UINT => needed(seen[3], Argument::Unsigned(values[3])),
-        keys::NULL => Argument::Null,
-        keys::OCTETS => needed(seen[5], long_bytes(s, starts[5], values[5] as usize, true)),
-        keys::DOUBLE => needed(seen[6], scalar::argument::double_argument(values[6])),
-        keys::FLOAT => needed(
+        scalars::SINT => needed(seen[2], scalar::argument::signed_argument(values[2])),
+        scalars::UINT => needed(seen[3], Argument::Unsigned(values[3])),
+        scalars::NULL => Argument::Null,
+        scalars::OCTETS => needed(seen[5], long_bytes(s, starts[5], values[5] as usize, true)),
+        scalars::DOUBLE => needed(seen[6], scalar::argument::double_argument(values[6])),
+        scalars::FLOAT => needed(
             seen[7],
             scalar::argument::float_argument((values[7] % 0x1_0000_0000) as u32),
         ),
-        keys::BOOL => needed(seen[8], Argument::Bool(values[8] != 0)),
-        keys::STRING => needed(seen[9], long_bytes(s, starts[9], values[9] as usize, false)),
+        scalars::BOOL => needed(seen[8], Argument::Bool(values[8] != 0)),
+        scalars::STRING => needed(seen[9], long_bytes(s, starts[9], values[9] as usize, false)),
         _ => Argument::Refused(reason::BAD_PAYLOAD),
     }
 }
@@ -99,9 +101,9 @@ fn any_value(s: &[u8], seen: &[bool; 10], values: &[u64; 10], starts: &[usize; 1
 {
     let t = values[1] % 0x1_0000_0000;
     match t {
-        keys::SCALAR => needed(seen[2], long_scalar(s, starts[2], values[2] as usize)),
-        keys::OBJECT => Argument::Object,
-        keys::ARRAY => Argument::Array,
+        anys::SCALAR => needed(seen[2], long_scalar(s, starts[2], values[2] as usize)),
+        anys::OBJECT => Argument::Object,
+        anys::ARRAY => Argument::Array,
         _ => Argument::Refused(reason::BAD_PAYLOAD),
     }
 }
@@ -126,7 +128,7 @@ fn read_scalar(s: &[u8], at: usize, n: usize) -> Argument
     ensures { λ r. ⌜ r ≡ scalarIn (now (s .entry)) at n ⌝ }
 {
     let all = s.len();
-    if crate::pair::read_lone(s, at, n) == keys::NULL {
+    if crate::pair::read_lone(s, at, n) == scalars::NULL {
         return Argument::Null;
     }
     if let Pair::Two {
@@ -159,10 +161,10 @@ pub fn quick_argument(s: &[u8], at: usize, n: usize) -> Argument
 {
     let all = s.len();
     let alone = crate::pair::read_lone(s, at, n);
-    if alone == keys::OBJECT {
+    if alone == anys::OBJECT {
         return Argument::Object;
     }
-    if alone == keys::ARRAY {
+    if alone == anys::ARRAY {
         return Argument::Array;
     }
     if let Pair::Two {

@@ -15,6 +15,17 @@ use encode::field::put_fixed_field;
 use encode::field::put_number;
 use encode::field::put_prefix;
 use encode::field::tag_len;
+use protocol::anys;
+use protocol::wire_type;
+
+// Fixed values: the wire type as it stands in a tag, and the bytes.
+const I64: u8 = 1;
+
+const I64_BYTES: usize = 8;
+
+const I32: u8 = 5;
+
+const I32_BYTES: usize = 4;
 
 // Field numbers (L1): the type of an Any and of a Scalar, an Any's scalar, the args of a message, and the bytes in an
 // octets or string value.
@@ -27,7 +38,7 @@ const ARGS: u32 = 2;
 const VALUE: u32 = 1;
 
 // The type of an Any that is a scalar (L7).
-const IS_SCALAR: u64 = 1;
+const IS_SCALAR: u64 = anys::SCALAR;
 
 pub(crate) fn field_len(f: Form, bytes: &[u8]) -> usize
     ensures { λ r. ⌜ r ≡ length (argBytes (f .kind) (valueIn f (now (bytes .entry)))) ⌝ }
@@ -74,10 +85,10 @@ fn value_len(f: Form, bytes: &[u8]) -> usize
 {
     let wire = f.wire;
     match wire {
-        form::NUMBER => number_len(f.num, f.bits),
-        form::EIGHT => tag_len(f.num, 1) + 8,
-        form::BYTES => prefix_len(f.num, inner_len(bytes)) + inner_len(bytes),
-        form::FOUR => tag_len(f.num, 5) + 4,
+        wire_type::VARINT => number_len(f.num, f.bits),
+        wire_type::I64 => tag_len(f.num, I64) + I64_BYTES,
+        wire_type::LEN => prefix_len(f.num, inner_len(bytes)) + inner_len(bytes),
+        wire_type::I32 => tag_len(f.num, I32) + I32_BYTES,
         _ => 0,
     }
 }
@@ -87,10 +98,10 @@ fn put_value(f: Form, bytes: &[u8], buf: &mut [u8], at: usize) -> usize
 {
     let wire = f.wire;
     match wire {
-        form::NUMBER => put_number(buf, at, f.num, f.bits),
-        form::EIGHT => put_fixed_field(buf, at, f.num, 1, 8, f.bits),
-        form::BYTES => put_message(buf, at, f.num, bytes),
-        form::FOUR => put_fixed_field(buf, at, f.num, 5, 4, f.bits),
+        wire_type::VARINT => put_number(buf, at, f.num, f.bits),
+        wire_type::I64 => put_fixed_field(buf, at, f.num, I64, I64_BYTES, f.bits),
+        wire_type::LEN => put_message(buf, at, f.num, bytes),
+        wire_type::I32 => put_fixed_field(buf, at, f.num, I32, I32_BYTES, f.bits),
         _ => at,
     }
 }

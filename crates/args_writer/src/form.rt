@@ -13,20 +13,12 @@ ghost use Rattle.args_writer.specs.private.Form.{
   valueForm,
 };
 use protocol::scalars;
+use protocol::wire_type;
 use scalar::argument::Argument;
 use scalar::zigzag::zigzag_encode;
 
-// The wire types of the fields that hold values (W7). A null has no such field, which is told by a wire type that no
-// value has.
-pub(crate) const NUMBER: u64 = 0;
-
-pub(crate) const EIGHT: u64 = 1;
-
-pub(crate) const BYTES: u64 = 2;
-
-pub(crate) const FOUR: u64 = 5;
-
-const NO_FIELD: u64 = 3;
+// A null has no field with a value, which is told by a wire type that no value has.
+const NO_FIELD: u64 = wire_type::GROUP_START;
 
 // Whether it can be written, its Scalar type, the number, wire type and value of the field with its value, and the
 // place and length of its bytes.
@@ -82,7 +74,7 @@ fn bytes_form(kind: u64, num: u32, start: usize, len: usize, n: usize) -> Form
         good: true,
         kind,
         num,
-        wire: BYTES,
+        wire: wire_type::LEN,
         bits: 0,
         start,
         len,
@@ -106,7 +98,7 @@ fn double_form(x: f64) -> Form
     value_form(
         scalars::DOUBLE,
         scalars::DOUBLE_FIELD,
-        EIGHT,
+        wire_type::I64,
         f64::to_bits(x),
     )
 }
@@ -120,7 +112,7 @@ fn float_form(x: f32) -> Form
     value_form(
         scalars::FLOAT,
         scalars::FLOAT_FIELD,
-        FOUR,
+        wire_type::I32,
         wide(f32::to_bits(x)),
     )
 }
@@ -132,7 +124,7 @@ fn double_nan_form(bits: u64) -> Form
     if bits % 0x8000_0000_0000_0000 <= 0x7ff0_0000_0000_0000 {
         return no_form();
     }
-    value_form(scalars::DOUBLE, scalars::DOUBLE_FIELD, EIGHT, bits)
+    value_form(scalars::DOUBLE, scalars::DOUBLE_FIELD, wire_type::I64, bits)
 }
 
 fn float_nan_form(bits: u32) -> Form
@@ -141,16 +133,21 @@ fn float_nan_form(bits: u32) -> Form
     if bits % 0x8000_0000 <= 0x7f80_0000 {
         return no_form();
     }
-    value_form(scalars::FLOAT, scalars::FLOAT_FIELD, FOUR, bits as u64)
+    value_form(
+        scalars::FLOAT,
+        scalars::FLOAT_FIELD,
+        wire_type::I32,
+        bits as u64,
+    )
 }
 
 fn bool_form(b: bool) -> Form
     ensures { λ r. ⌜ r ≡ valueForm Scalars.bool Scalars.boolField 0 (cond b 1 0) ⌝ }
 {
     if b {
-        value_form(scalars::BOOL, scalars::BOOL_FIELD, NUMBER, 1)
+        value_form(scalars::BOOL, scalars::BOOL_FIELD, wire_type::VARINT, 1)
     } else {
-        value_form(scalars::BOOL, scalars::BOOL_FIELD, NUMBER, 0)
+        value_form(scalars::BOOL, scalars::BOOL_FIELD, wire_type::VARINT, 0)
     }
 }
 
@@ -162,10 +159,15 @@ pub(crate) fn form_of(a: Argument, n: usize) -> Form
         Argument::Signed(v) => value_form(
             scalars::SINT,
             scalars::SINT_FIELD,
-            NUMBER,
+            wire_type::VARINT,
             zigzag_encode(v),
         ),
-        Argument::Unsigned(v) => value_form(scalars::UINT, scalars::UINT_FIELD, NUMBER, v),
+        Argument::Unsigned(v) => value_form(
+            scalars::UINT,
+            scalars::UINT_FIELD,
+            wire_type::VARINT,
+            v,
+        ),
         Argument::Null => value_form(scalars::NULL, 0, NO_FIELD, 0),
         Argument::Octets { start, len } => bytes_form(
             scalars::OCTETS,

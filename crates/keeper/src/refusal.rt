@@ -14,15 +14,13 @@ ghost use mathlib.Core.Bool.{not};
 use args::arguments::Arguments;
 use message::request::Execute;
 use message::request::Open;
+use protocol::anys;
 use protocol::reason;
 use rules::Report;
 use session::Cursor;
 use session::Place;
 use session::Stmt;
 use session::WORDS;
-
-// The kind of arguments that are all scalars: no object and no array is among them.
-const ALL_SCALARS: u64 = 0;
 
 // The first of two refusals.
 pub(crate) fn or_else(first: u64, next: u64) -> u64
@@ -80,7 +78,7 @@ fn binding(stmt: Stmt, args: Arguments) -> u64
     if stmt.live == 0 {
         return reason::NO_STMT;
     }
-    if args.kind != ALL_SCALARS {
+    if args.kind != anys::NONE {
         return reason::NOT_SCALAR;
     }
     if args.count < stmt.placeholders as usize {

@@ -2,3 +2,5 @@ pub mod Client
 pub mod Reason
 pub mod Server
 pub mod Scalars
+pub mod Anys
+pub mod WireType

@@ -5,6 +5,7 @@ use Prim.Native.String.{String, [] as end, _∷_ as _then_}
 use mathlib.Core.Bool.{cond}
 use mathlib.Core.List.{List, [], _∷_, _++_}
 use lib.Dec.{eqb}
+use Rattle.protocol.specs.Anys as Anys
 use Rattle.protocol.specs.Reason as Reason
 use Rattle.reply.specs.Decimal.{decimal}
 
@@ -13,9 +14,9 @@ abbrev pub ascii : String → List ℕ
 ascii end = []
 ascii (c then s) = code c ∷ ascii s
 
--- the type of an argument (L7, P6); a number that is neither reads as 2
+-- the type of an argument (L7, P6); a number that is neither reads as an object
 abbrev pub kindName : ℕ → List ℕ
-kindName kind = cond (eqb kind 3) (ascii "ARRAY") (ascii "OBJECT")
+kindName kind = cond (eqb kind Anys.array) (ascii "ARRAY") (ascii "OBJECT")
 
 -- an argument that is an object or an array, by its index and its type
 abbrev pub unsupported : ℕ → ℕ → List ℕ

@@ -5,10 +5,8 @@ ghost use Rattle.encode.specs.Puts.{Puts};
 ghost use Rattle.reply.specs.Text.{kindName, text, unsupported};
 use crate::decimal::put_decimal;
 use encode::put::put_slice;
+use protocol::anys;
 use protocol::reason;
-
-// The type of an Any that is an array (L7).
-const ARRAY: u64 = 3;
 
 // Text, a number, text.
 fn put_numbered(t: &mut [u8], before: &[u8], n: u64, after: &[u8]) -> usize
@@ -24,7 +22,7 @@ fn put_numbered(t: &mut [u8], before: &[u8], n: u64, after: &[u8]) -> usize
 fn put_kind(t: &mut [u8], at: usize, kind: u64) -> usize
     ensures { λ r. ⌜ Puts (now (t .entry)) at (kindName kind) r (now (t .exit)) ⌝ }
 {
-    if kind == ARRAY {
+    if kind == anys::ARRAY {
         put_slice(t, at, b"ARRAY")
     } else {
         put_slice(t, at, b"OBJECT")

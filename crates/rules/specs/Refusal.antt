@@ -3,6 +3,7 @@ use Prim.Native.Nat.{ℕ}
 use mathlib.Core.Bool.{Bool, true, false, cond, not, _&&_, _||_}
 use mathlib.Core.List.{List, [], _∷_, _++_}
 use lib.Dec.{eqb, ltb, leb}
+use Rattle.protocol.specs.Anys as Anys
 use Rattle.protocol.specs.Client.{prepare, execute, deallocate, open', close, fetch}
 use Rattle.protocol.specs.Reason as Reason
 use Rattle.message.specs.Request.{stmtOf, cursorOf, argsOf}
@@ -40,7 +41,7 @@ stmtNotLive s q = oneOf3 execute deallocate open' q && not (isLiveStmt (liveStmt
 
 -- 8 "argument of Execute or Open is object or array" (R8)
 abbrev pub unsupported : Request → Bool
-unsupported q = oneOf execute open' q && not (eqb (argsOf q .kind) 0)
+unsupported q = oneOf execute open' q && not (eqb (argsOf q .kind) Anys.none)
 
 -- 9 "fewer arguments than placeholders" (R9)
 abbrev pub fewArguments : Session → Request → Bool

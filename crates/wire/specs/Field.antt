@@ -4,6 +4,7 @@ use Prim.Native.Nat.{ℕ, _-_}
 use mathlib.Core.Bool.{cond}
 use mathlib.Core.List.{List}
 use lib.Dec.{eqb}
+use Rattle.protocol.specs.WireType as WireType
 use Rattle.wire.specs.Tag.{tagAt}
 use Rattle.wire.specs.Value.{valueAt}
 use Rattle.wire.specs.Group.{groupEnd}
@@ -22,13 +23,13 @@ ofValue number wire Value.Bad = Field.Bad
 
 -- a group has no value of its own
 abbrev pub ofGroup : ℕ → ℕ → Skip → Field
-ofGroup number at (Skip.At next) = Field.Good number 3 0 at (next - at) next
+ofGroup number at (Skip.At next) = Field.Good number WireType.groupStart 0 at (next - at) next
 ofGroup number at Skip.Bad = Field.Bad
 
 -- the field with this number and wire type whose tag ends at `at`; a lone end of a group has no value, so it is bad
 abbrev pub fieldOf : List ℕ → ℕ → ℕ → ℕ → Field
 fieldOf s number wire at =
-    cond (eqb wire 3) (ofGroup number at (groupEnd maxDepth s at number)) (ofValue number wire (valueAt s wire at))
+    cond (eqb wire WireType.groupStart) (ofGroup number at (groupEnd maxDepth s at number)) (ofValue number wire (valueAt s wire at))
 
 abbrev pub ofTag : List ℕ → Tag → Field
 ofTag s (Tag.Field number wire next) = fieldOf s number wire next

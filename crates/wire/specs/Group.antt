@@ -5,6 +5,7 @@ use mathlib.Core.Bool.{cond}
 use mathlib.Core.List.{List}
 use lib.ListN.{length}
 use lib.Dec.{eqb}
+use Rattle.protocol.specs.WireType as WireType
 use Rattle.wire.specs.Tag.{tagAt}
 use Rattle.wire.specs.Value.{valueAt}
 use Rattle.wire.specs.declared.tag.Tag.{Tag}
@@ -28,8 +29,8 @@ andThen Skip.Bad more = Skip.Bad
 -- `inner`, any other field by its value; then `more` goes on
 abbrev pub groupField : (ℕ → ℕ → Skip) → (ℕ → Skip) → List ℕ → ℕ → Tag → Skip
 groupField inner more s number (Tag.Field n w next) =
-    cond (eqb w 4) (cond (eqb n number) (Skip.At next) Skip.Bad)
-    (cond (eqb w 3) (andThen (inner n next) more) (andThen (skipValue s w next) more))
+    cond (eqb w WireType.groupEnd) (cond (eqb n number) (Skip.At next) Skip.Bad)
+    (cond (eqb w WireType.groupStart) (andThen (inner n next) more) (andThen (skipValue s w next) more))
 groupField inner more s number Tag.Bad = Skip.Bad
 
 -- at most `most` fields of the group `number` from the place `at` on

@@ -4,6 +4,7 @@ use mathlib.Core.Bool.{cond}
 use mathlib.Core.List.{List}
 use lib.ListN.{length}
 use lib.Dec.{ltb, eqb}
+use Rattle.protocol.specs.WireType as WireType
 use Rattle.varint.specs.Varint.{varintAt}
 use Rattle.varint.specs.declared.Varint.{Varint}
 use Rattle.scalar.specs.Fixed.{fixedAt}
@@ -37,6 +38,6 @@ asLength s at = ofLength s (varintAt s at)
 -- by wire type; the others, 3 and 4, are a group's start and end
 abbrev pub valueAt : List ℕ → ℕ → ℕ → Value
 valueAt s wire at =
-    cond (eqb wire 0) (asNumber s at)
-    (cond (eqb wire 1) (asFixed 8 s at)
-    (cond (eqb wire 2) (asLength s at) (cond (eqb wire 5) (asFixed 4 s at) Value.Bad)))
+    cond (eqb wire WireType.varint) (asNumber s at)
+    (cond (eqb wire WireType.i64) (asFixed 8 s at)
+    (cond (eqb wire WireType.len) (asLength s at) (cond (eqb wire WireType.i32) (asFixed 4 s at) Value.Bad)))

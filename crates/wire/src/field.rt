@@ -4,6 +4,7 @@ ghost use Rattle.wire.specs.Field.{fieldAt, fieldOf, ofValue};
 use crate::group::Skip;
 use crate::tag::Tag;
 use crate::value::Value;
+use protocol::wire_type;
 
 // How many groups may stand one in another.
 const MAX_DEPTH: u64 = 32;
@@ -46,11 +47,11 @@ pub fn valued(n: u64, wire: u64, read: Value) -> Field
 fn tagged(s: &[u8], n: u64, wire: u64, at: usize) -> Field
     ensures { λ r. ⌜ r ≡ fieldOf (now (s .entry)) n wire at ⌝ }
 {
-    if wire == 3 {
+    if wire == wire_type::GROUP_START {
         return match crate::group::skip_group(s, at, n, MAX_DEPTH) {
             Skip::At(next) => Field::Good {
                 number: n,
-                wire: 3,
+                wire: wire_type::GROUP_START,
                 value: 0,
                 start: at,
                 len: next - at,
@@ -59,8 +60,8 @@ fn tagged(s: &[u8], n: u64, wire: u64, at: usize) -> Field
             Skip::Bad => Field::Bad,
         };
     }
-    if wire == 0 {
-        return valued(n, 0, crate::value::number_value(s, at));
+    if wire == wire_type::VARINT {
+        return valued(n, wire_type::VARINT, crate::value::number_value(s, at));
     }
     valued(n, wire, crate::value::read_value(s, wire, at))
 }
@@ -98,11 +99,19 @@ pub fn quick_field(s: &[u8], at: usize) -> Field
     }
     if tag < 128 {
         let wire = tag % 8;
-        if wire == 0 {
-            return valued(tag / 8, 0, crate::value::number_value(s, at + 1));
+        if wire == wire_type::VARINT {
+            return valued(
+                tag / 8,
+                wire_type::VARINT,
+                crate::value::number_value(s, at + 1),
+            );
         }
-        if wire == 2 {
-            return valued(tag / 8, 2, crate::value::length_value(s, at + 1));
+        if wire == wire_type::LEN {
+            return valued(
+                tag / 8,
+                wire_type::LEN,
+                crate::value::length_value(s, at + 1),
+            );
         }
     }
     read_field(&s[..n], at)

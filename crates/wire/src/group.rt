@@ -3,6 +3,7 @@ ghost use mathlib.Core.Path.{_≡_};
 ghost use Rattle.wire.specs.Group.{groupEnd, skipValue};
 use crate::tag::Tag;
 use crate::value::Value;
+use protocol::wire_type;
 
 // The place behind what was skipped, or a bad field on the way.
 pub enum Skip {
@@ -42,14 +43,14 @@ pub fn skip_group(s: &[u8], at: usize, number: u64, depth: u64) -> Skip
         else {
             return Skip::Bad;
         };
-        if w == 4 {
+        if w == wire_type::GROUP_END {
             if n == number {
                 return Skip::At(next);
             }
             return Skip::Bad;
         }
         let end = s.len();
-        if w == 3 {
+        if w == wire_type::GROUP_START {
             let Skip::At(q) = skip_group(&s[..end], next, n, depth - 1) else {
                 return Skip::Bad;
             };

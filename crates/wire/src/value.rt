@@ -1,6 +1,7 @@
 // The value behind a tag, by its wire type.
 ghost use mathlib.Core.Path.{_≡_};
 ghost use Rattle.wire.specs.Value.{ofFixed, asLength, asNumber, valueAt};
+use protocol::wire_type;
 use scalar::fixed::Fixed;
 use varint::Varint;
 
@@ -69,16 +70,16 @@ fn fixed_value(read: Fixed, width: usize, at: usize) -> Value
 pub fn read_value(s: &[u8], wire: u64, at: usize) -> Value
     ensures { λ r. ⌜ r ≡ valueAt (now (s .entry)) wire at ⌝ }
 {
-    if wire == 0 {
+    if wire == wire_type::VARINT {
         return number_value(s, at);
     }
-    if wire == 1 {
+    if wire == wire_type::I64 {
         return fixed_value(scalar::fixed::read_fixed64(s, at), 8, at);
     }
-    if wire == 2 {
+    if wire == wire_type::LEN {
         return length_value(s, at);
     }
-    if wire == 5 {
+    if wire == wire_type::I32 {
         return fixed_value(scalar::fixed::read_fixed32(s, at), 4, at);
     }
     Value::Bad

@@ -4,6 +4,7 @@ ghost use Rattle.writer.specs.Judge.{accepted, goodPrepare, goodStretch,
 use crate::Draft;
 use message::operation;
 use protocol::client;
+use protocol::wire_type;
 use wire::field::Field;
 
 // Whether s is a stretch of good args fields and nothing else.
@@ -26,7 +27,7 @@ fn is_stretch(s: &[u8]) -> bool
         if number != 2 {
             return false;
         }
-        if wire != 2 {
+        if wire != wire_type::LEN {
             return false;
         }
         let a = args::value::read_argument(s, start, len);

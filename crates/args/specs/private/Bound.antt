@@ -5,6 +5,7 @@ use mathlib.Core.Bool.{Bool, true, false, not, cond}
 use mathlib.Core.List.{List}
 use lib.ListN.{length, take}
 use lib.Dec.{leb, eqb}
+use Rattle.protocol.specs.WireType as WireType
 use Rattle.protocol.specs.Client as Client
 use Rattle.layout.specs.Table.{rowsOf, stmtExecute}
 use Rattle.layout.specs.Fields.{fieldList}
@@ -21,10 +22,14 @@ rowsBy true = rowsOf stmtExecute
 rowsBy false = rowsOf Client.execute
 
 abbrev pub wireBy : Bool → ℕ
-wireBy text = cond text 2 0
+wireBy text = cond text WireType.len WireType.varint
+
+-- the number of an args field
+abbrev pub argsField : ℕ
+argsField = 2
 
 abbrev pub testsArgs : ℕ → ℕ → Bool
-testsArgs number wire = cond (eqb number 2) (eqb wire 2) false
+testsArgs number wire = cond (eqb number argsField) (eqb wire WireType.len) false
 
 -- nothing found yet, and one field more
 abbrev pub nothing : Own

@@ -8,6 +8,7 @@ use mathlib.Core.Bool.{Bool, true, false, cond}
 use mathlib.Core.List.{List, []}
 use lib.Dec.{leb, eqb}
 use lib.Ieee.{Float, binary32, binary64, toBits, nanBits, isNan}
+use Rattle.protocol.specs.WireType as WireType
 use Rattle.scalar.specs.Zigzag.{zigzag}
 use Rattle.scalar.specs.declared.argument.Argument.{Argument}
 use Rattle.scalar.specs.declared.argument.Argument.the-variants as Va
@@ -59,9 +60,10 @@ formOf (Va.Refused r) n = noForm
 -- the field of the value, by its wire type; bytes stand in field 1 of a message
 unfoldable pub valueAs : ℕ → ℕ → ℕ → List ℕ → List ℕ
 valueAs wire num bits bytes =
-    cond (eqb wire 0) (numberField num bits)
-    (cond (eqb wire 1) (fixedField num 1 8 bits)
-    (cond (eqb wire 2) (bytesField num (bytesField 1 bytes)) (cond (eqb wire 5) (fixedField num 5 4 bits) [])))
+    cond (eqb wire WireType.varint) (numberField num bits)
+    (cond (eqb wire WireType.i64) (fixedField num WireType.i64 8 bits)
+    (cond (eqb wire WireType.len) (bytesField num (bytesField 1 bytes))
+    (cond (eqb wire WireType.i32) (fixedField num WireType.i32 4 bits) [])))
 
 abbrev pub valueIn : Form → List ℕ → List ℕ
 valueIn f bytes = valueAs (f .wire) (f .num) (f .bits) bytes
