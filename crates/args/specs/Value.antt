@@ -6,6 +6,7 @@ use mathlib.Core.Bool.{Bool, true, false, not, cond}
 use mathlib.Core.List.{List}
 use lib.Dec.{eqb}
 use Rattle.protocol.specs.Anys as Anys
+use Rattle.protocol.specs.Reason as Reason
 use Rattle.protocol.specs.Scalars as Scalars
 use Rattle.scalar.specs.Argument.{signedOf, doubleOf, floatOf}
 use Rattle.scalar.specs.declared.argument.Argument.{Argument}
@@ -16,7 +17,7 @@ use Rattle.args.specs.Part.{embedded, countOf, valueOf, startOf, lenOf, 
 
 -- a bad payload
 abbrev pub bad : Argument
-bad = Va.Refused 6
+bad = Va.Refused Reason.badPayload
 
 -- the value named must be present
 abbrev pub present : ℕ → Argument → Argument

@@ -44,7 +44,8 @@ module _ (s : Session) where
   pub reset-touches : {m : ℕ} → m ≡ maskOf isLiveCursor (s .cursors) →
       touches Place.Nothing Place.Nothing m ≡ touchesOf s Request.Reset
   unfolding ownStmt ownCursor endsAt endsIt
-  reset-touches e = found nowhere nowhere (e ∙ mask-same isLiveCursor _ (λ c. sym (and-true (isLiveCursor c))) (s .cursors))
+  reset-touches e =
+      found nowhere nowhere (e ∙ mask-same isLiveCursor _ (λ c. sym (and-true (isLiveCursor c))) (s .cursors))
 
   pub session-close-touches : touchesOf s Request.Reset ≡ touchesOf s Request.SessionClose
   unfolding ownStmt ownCursor endsAt endsIt
@@ -66,7 +67,8 @@ module _ (s : Session) where
   deallocate-touches stmt e = found e nowhere (mask-same (onStmt stmt) _ (on-stmt stmt) (s .cursors))
 
   pub open-touches : (o : Open) {a b : Place} {m : ℕ} → a ≡ stmtAt s (o .execute .stmt) →
-      b ≡ cursorPlace s (o .cursor) → m ≡ maskOf (isCursor (o .cursor)) (s .cursors) → touches a b m ≡ touchesOf s (Request.Open o)
+      b ≡ cursorPlace s (o .cursor) → m ≡ maskOf (isCursor (o .cursor)) (s .cursors) →
+      touches a b m ≡ touchesOf s (Request.Open o)
   unfolding ownStmt ownCursor endsAt endsIt
   open-touches o e f g = found e f (g ∙ mask-same (isCursor (o .cursor)) _ (of-id (o .cursor)) (s .cursors))
 

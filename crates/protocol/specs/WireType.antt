@@ -1,4 +1,5 @@
--- The wire types of a field: a varint, eight bytes, a length and as many bytes, a group's start and end, four bytes (W7).
+-- The wire types of a field (W7): a varint, eight bytes, a length and as many bytes, a group's start and end, four
+-- bytes.
 use Prim.Native.Nat.{ℕ}
 
 abbrev pub varint : ℕ

@@ -280,7 +280,8 @@ standing s (Prepare p) r l =
       stmt = λ e. absurd (false≢true e);
       cursor = λ e. absurd (false≢true e);
       prepared = λ _.
-          put-stands noStmt (isStmt (p .stmt)) freeStmt (newStmt (p .stmt) (r .placeholders)) (eq-eqb (p .stmt) (p .stmt) refl)
+          put-stands noStmt (isStmt (p .stmt)) freeStmt (newStmt (p .stmt) (r .placeholders))
+          (eq-eqb (p .stmt) (p .stmt) refl)
           (s .stmts) noStmtPlace (l .stmtPlaced);
       opened = λ e. absurd (false≢true e);
     }

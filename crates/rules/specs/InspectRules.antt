@@ -35,8 +35,8 @@ stmtThere s i = getD (s .stmts) i noStmt
 abbrev pub cursorThere : Session → ℕ → Cursor
 cursorThere s i = getD (s .cursors) i noCursor
 
--- a bit is set exactly if the cursor at its place is live and the request ends it, by the definition that the tally goes
--- by: of every session, and of every place (K16)
+-- a bit is set exactly if the cursor at its place is live and the request ends it, by the tally's own definition: of
+-- every session, and of every place (K16)
 abbrev pub BitsTold : Type 0
 BitsTold = (s : Session) (q : Request) (i : ℕ) → bit (endsAt s q) i ≡ endsCursor q (cursorThere s i)
 
@@ -48,8 +48,8 @@ pub record SameOpening (before after : Cursor) : Type 0 where
   pub live : after .live ≡ before .live
 
 -- an accepted step, at any place of the cursors: where the bit is set the cursor is gone, and an Open's own place is
--- the only one that holds another; where it is clear, the entry is as it was, but for what an Open puts at its own place
--- and for the rows that a Fetch sends (K17)
+-- the only one that holds another; where it is clear, the entry is as it was, but for what an Open puts at its own
+-- place and for the rows that a Fetch sends (K17)
 pub record EndsAndKeeps (s : Session) (q : Request) (after : Session) (i : ℕ) : Type 0 where
   pub ended : bit (endsAt s q) i ≡ true → isA open' q ≡ false → cursorThere after i ≡ noCursor
   pub replaced : bit (endsAt s q) i ≡ true → isA open' q ≡ true → ownCursor s q ≡ Place.At i

@@ -29,7 +29,8 @@ ofGroup number at Skip.Bad = Field.Bad
 -- the field with this number and wire type whose tag ends at `at`; a lone end of a group has no value, so it is bad
 abbrev pub fieldOf : List ℕ → ℕ → ℕ → ℕ → Field
 fieldOf s number wire at =
-    cond (eqb wire WireType.groupStart) (ofGroup number at (groupEnd maxDepth s at number)) (ofValue number wire (valueAt s wire at))
+    cond (eqb wire WireType.groupStart) (ofGroup number at (groupEnd maxDepth s at number))
+    (ofValue number wire (valueAt s wire at))
 
 abbrev pub ofTag : List ℕ → Tag → Field
 ofTag s (Tag.Field number wire next) = fieldOf s number wire next

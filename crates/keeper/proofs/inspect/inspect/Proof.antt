@@ -27,14 +27,16 @@ returns-3 c =
     let q = c .before .before in
     let a = q .before .before .args in
     let s = sessionOf (a .words .now) in
-    as-frame s (a .frame) (q .enum-told3 .given .1) (c .refused3 .ensures .0 ∙ unknown-look s _ (c .before .closed-or .ensures), c .refused3 .ensures .1)
+    as-frame s (a .frame) (q .enum-told3 .given .1)
+    (c .refused3 .ensures .0 ∙ unknown-look s _ (c .before .closed-or .ensures), c .refused3 .ensures .1)
 
 returns-4 : tie.Need-returns-4
 returns-4 c =
     let q = c .before .before in
     let a = q .before .before .args in
     let s = sessionOf (a .words .now) in
-    as-frame s (a .frame) (q .enum-told4 .given .1) (c .refused4 .ensures .0 ∙ payload-look s _ _ (c .before .closed-or2 .ensures), c .refused4 .ensures .1)
+    as-frame s (a .frame) (q .enum-told4 .given .1)
+    (c .refused4 .ensures .0 ∙ payload-look s _ _ (c .before .closed-or2 .ensures), c .refused4 .ensures .1)
 
 returns-5 : tie.Need-returns-5
 returns-5 c =

@@ -38,8 +38,10 @@ returns-3 c =
     let s = sessionOf (a .words .now) in
     as-request s (a .request) (q .request .given .1) (
       c .told .ensures .0 ∙ closed-or-look s (Request.Prepare _) _
-          (prepare-looks s _ (c .before .before .before .stmt-place .ensures) (c .before .before .full .ensures)) _ (prepare-wants s _),
-      c .told .ensures .1 ∙ c .before .on-stmt .ensures ∙ prepare-touches s _ (c .before .before .before .stmt-place .ensures),
+          (prepare-looks s _ (c .before .before .before .stmt-place .ensures) (c .before .before .full .ensures)) _
+          (prepare-wants s _),
+      c .told .ensures .1 ∙ c .before .on-stmt .ensures
+          ∙ prepare-touches s _ (c .before .before .before .stmt-place .ensures),
     )
 
 returns-4 : tie.Need-returns-4
@@ -50,7 +52,8 @@ returns-4 c =
     as-request s (a .request) (q .request2 .given .1) (
       c .told2 .ensures .0 ∙ closed-or-look s (Request.Execute _) _ (c .before .before .execute .ensures) _
           (execute-wants s _),
-      c .told2 .ensures .1 ∙ c .before .on-stmt2 .ensures ∙ execute-touches s _ (c .before .before .before .find-stmt .ensures),
+      c .told2 .ensures .1 ∙ c .before .on-stmt2 .ensures
+          ∙ execute-touches s _ (c .before .before .before .find-stmt .ensures),
     )
 
 returns-5 : tie.Need-returns-5
@@ -61,7 +64,8 @@ returns-5 c =
     as-request s (a .request) (q .request3 .given .1) (
       c .told3 .ensures .0 ∙ closed-or-look s (Request.Deallocate _) _
           (deallocate-looks s _ (c .before .before .before .before .find-stmt2 .ensures)
-          (c .before .before .before .stmt-at .ensures) (c .before .before .dead-stmt .ensures)) _ (deallocate-wants s _),
+          (c .before .before .before .stmt-at .ensures) (c .before .before .dead-stmt .ensures)) _
+          (deallocate-wants s _),
       c .told3 .ensures .1 ∙ c .before .on-stmt3 .ensures ∙ deallocate-touches s _
           (c .before .before .before .before .find-stmt2 .ensures),
     )

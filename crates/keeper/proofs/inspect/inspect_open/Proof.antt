@@ -18,7 +18,8 @@ returns c =
       c .told .ensures .0 ∙ closed-or-look s (Request.Open (a .o)) _ (c .before .before .before .open .ensures) _
           (open-wants s (a .o)),
       c .told .ensures .1 ∙ c .before .touches .ensures ∙ open-touches s (a .o)
-          (c .before .before .before .before .before .find-stmt .ensures) (c .before .before .before .before .cursor-place .ensures)
+          (c .before .before .before .before .before .find-stmt .ensures)
+          (c .before .before .before .before .cursor-place .ensures)
           (c .before .before .passing .ensures),
     )
 

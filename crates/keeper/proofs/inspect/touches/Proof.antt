@@ -11,8 +11,10 @@ use Rattle.keeper.proofs.inspect.touches.Tie as tie
 returns : tie.Need-returns
 returns c =
     let a = c .before .before .args in
-    ap {B = Touches} (λ (k : ℕ). record { stmt = k; cursor = c .index2 .result; ends = a .ends }) (c .before .index .ensures)
-    ∙ ap {B = Touches} (λ (k : ℕ). record { stmt = indexOf noStmtPlace (a .stmt); cursor = k; ends = a .ends }) (c .index2 .ensures)
+    ap {B = Touches} (λ (k : ℕ). record { stmt = k; cursor = c .index2 .result; ends = a .ends })
+    (c .before .index .ensures)
+    ∙ ap {B = Touches} (λ (k : ℕ). record { stmt = indexOf noStmtPlace (a .stmt); cursor = k; ends = a .ends })
+    (c .index2 .ensures)
 
 pub touches-spec : {M : Type 1} → statement M
 touches-spec =
