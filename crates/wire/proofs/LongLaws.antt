@@ -5,12 +5,11 @@ use mathlib.Core.Path.{_≡_, refl}
 use mathlib.Core.List.{List}
 use lib.ListN.{length}
 use lib.Dec.{ltb, eqb}
-use borrow.Author.Tests.{eqb-true}
 use Rattle.varint.specs.Varint.{varintAt}
 use Rattle.varint.specs.declared.Varint.{Varint}
 use Rattle.prelude.proofs.Cases.{both}
 use Rattle.wire.specs.Tag.{tagAt}
-use Rattle.wire.specs.Value.{asNumber, asFixed, ofLength, asLength, valueAt}
+use Rattle.wire.specs.Value.{ofLength, valueAt}
 use Rattle.wire.specs.Group.{groupEnd}
 use Rattle.wire.specs.Field.{maxDepth, ofValue, ofGroup, ofTag, fieldAt}
 use Rattle.wire.specs.declared.tag.Tag.{Tag}

@@ -1,4 +1,5 @@
--- `wire::field::quick_field` meets its contract. Assumes nothing.
+-- `wire::field::quick_field` meets its contract: a tag of one byte is judged by that byte; the rest goes the long way.
+-- Assumes nothing.
 use borrow.Author.Needs.{needs}
 use Prim.Native.Nat.{ℕ, _/_}
 use native.Mathlib.Omega.{arith}
@@ -10,16 +11,6 @@ use Rattle.wire.specs.Field.{ofValue, fieldAt}
 use Rattle.wire.proofs.FieldLaws.{quick-none, quick-low, quick-wire}
 use Rattle.wire.proofs.field.quick_field.Statement.{statement}
 use Rattle.wire.proofs.field.quick_field.Tie as tie
-
-returns : tie.Need-returns
-returns c = let a = c .before .before .args in quick-none (a .s .now) (a .at) (c .if1 .taken)
-
-returns-2 : tie.Need-returns-2
-returns-2 c =
-    let a = c .before .before .before .before .before .args in
-    let b = c .before .wide in
-    quick-low (a .s .now) (a .at) (b .result) (c .before .before .before .if1 .left) (b .ensures) (omega arith)
-    (c .if2 .taken)
 
 returns-3 : tie.Need-returns-3
 returns-3 c =
@@ -44,31 +35,15 @@ returns-4 c =
     (c .before .before .if5 .taken)
     (omega arith)
 
-slice-aggregate-read-field : tie.Need-slice-aggregate-read-field
-slice-aggregate-read-field c =
-    let a = c .before .before .before .before .before .before .before .args in sym (ap length (take-length (a .s .now)))
-
-returns-5 : tie.Need-returns-5
-returns-5 c =
-    let a = c .before .before .before .before .before .before .before .before .args in
-    c .read-field .ensures ∙ ap (λ (l : List ℕ). fieldAt l (a .at)) (take-length (a .s .now))
-
 pub quick-field-spec : {M : Type 1} → statement M
-quick-field-spec =
-    tie.close
-    (tie.spec
-    returns
-    (λ c. search needs)
+quick-field-spec = tie.close (tie.spec
+    (λ c. let a = c .before .before .args in quick-none (a .s .now) (a .at) (c .if1 .taken)) (λ c. search needs)
     (λ c κs. search needs)
-    returns-2
-    (λ c. search needs)
-    (λ c κs. search needs)
-    (λ c κs. search needs)
-    returns-3
-    (λ c. search needs)
-    (λ c κs. search needs)
-    (λ c κs. search needs)
-    returns-4
-    slice-aggregate-read-field
-    (λ c κs. search needs)
-    returns-5)
+    (λ c. let a = c .before .before .before .before .before .args in let b = c .before .wide in quick-low (a .s .now)
+    (a .at) (b .result) (c .before .before .before .if1 .left) (b .ensures) (omega arith) (c .if2 .taken))
+    (λ c. search needs) (λ c κs. search needs) (λ c κs. search needs) returns-3 (λ c. search needs)
+    (λ c κs. search needs) (λ c κs. search needs) returns-4
+    (λ c. let a = c .before .before .before .before .before .before .before .args in sym
+    (ap length (take-length (a .s .now)))) (λ c κs. search needs)
+    (λ c. let a = c .before .before .before .before .before .before .before .before .args in c .read-field .ensures ∙ ap
+    (λ (l : List ℕ). fieldAt l (a .at)) (take-length (a .s .now))))

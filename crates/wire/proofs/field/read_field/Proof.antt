@@ -11,13 +11,6 @@ use borrow.Author.Needs.{needs}
 use Rattle.wire.proofs.field.read_field.Statement.{statement}
 use Rattle.wire.proofs.field.read_field.Tie as tie
 
-slice-aggregate-read-tag : tie.Need-slice-aggregate-read-tag
-slice-aggregate-read-tag c = sym (ap length (take-length (c .before .before .args .s .now)))
-
-slice-aggregate-tagged : tie.Need-slice-aggregate-tagged
-slice-aggregate-tagged c = sym
-    (ap length (take-length (c .before .before .before .before .before .before .before .args .s .now)))
-
 returns : tie.Need-returns
 returns c =
     let a = c .before .before .before .before .before .before .before .before .args in
@@ -36,14 +29,7 @@ returns-2 c =
     ∙ c .enum-told .given .1))
 
 pub read-field-spec : {M : Type 1} → statement M
-read-field-spec =
-    tie.close
-    (tie.spec
-    slice-aggregate-read-tag
-    (λ c κs. search needs)
-    (λ c. search needs)
-    slice-aggregate-tagged
-    (λ c κs. search needs)
-    (λ c. search needs)
-    returns
-    returns-2)
+read-field-spec = tie.close (tie.spec (λ c. sym (ap length (take-length (c .before .before .args .s .now))))
+    (λ c κs. search needs) (λ c. search needs)
+    (λ c. sym (ap length (take-length (c .before .before .before .before .before .before .before .args .s .now))))
+    (λ c κs. search needs) (λ c. search needs) returns returns-2)

@@ -1,4 +1,5 @@
--- `wire::field::tagged` meets its contract. Assumes nothing.
+-- `wire::field::tagged` meets its contract: wire type 3 skips a group, any other is a value behind the tag.
+-- Assumes nothing.
 use Prim.Native.Nat.{ℕ}
 use mathlib.Core.Path.{sym, ap, _∙_}
 use Rattle.wire.specs.Value.{valueAt}
@@ -8,12 +9,6 @@ use Rattle.wire.proofs.ValueLaws.{value-number}
 use borrow.Author.Needs.{needs}
 use Rattle.wire.proofs.field.tagged.Statement.{statement}
 use Rattle.wire.proofs.field.tagged.Tie as tie
-
-sub-t9 : tie.Need-sub-t9
-sub-t9 c =
-    let a = c .before .before .before .before .before .before .args in
-    group-ends maxDepth (a .s .now) (a .at) (a .n) (sym (c .before .before .before .skip-group .ensures)
-    ∙ c .before .next .given .1)
 
 returns : tie.Need-returns
 returns c =
@@ -44,18 +39,8 @@ returns-4 c =
     ∙ field-value (a .s .now) (a .n) (a .wire) (a .at) (c .before .before .before .if1 .left)
 
 pub tagged-spec : {M : Type 1} → statement M
-tagged-spec =
-    tie.close
-    (tie.spec
-    (λ c κs. search needs)
-    (λ c. search needs)
-    sub-t9
-    (λ c. search needs)
-    returns
-    returns-2
-    (λ c κs. search needs)
-    (λ c κs. search needs)
-    returns-3
-    (λ c κs. search needs)
-    (λ c κs. search needs)
-    returns-4)
+tagged-spec = tie.close (tie.spec (λ c κs. search needs) (λ c. search needs)
+    (λ c. let a = c .before .before .before .before .before .before .args in group-ends maxDepth (a .s .now) (a .at)
+    (a .n) (sym (c .before .before .before .skip-group .ensures) ∙ c .before .next .given .1)) (λ c. search needs)
+    returns returns-2 (λ c κs. search needs) (λ c κs. search needs) returns-3 (λ c κs. search needs)
+    (λ c κs. search needs) returns-4)

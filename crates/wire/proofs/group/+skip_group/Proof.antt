@@ -1,4 +1,4 @@
--- `wire::group::skip_group` meets its contract. Assumes nothing.
+-- `wire::group::skip_group` meets its contract: each turn of the loop is one law on `Skipping`. Assumes nothing.
 use borrow.Author.Needs.{needs}
 use Prim.Native.Nat.{_-_}
 use native.Mathlib.Omega.{arith}

@@ -1,16 +1,11 @@
--- `wire::group::skip_value` meets its contract. Assumes nothing.
+-- `wire::group::skip_value` meets its contract: each arm is one clause of behind. Assumes nothing.
 use mathlib.Core.Path.{sym, ap, _∙_}
 use Rattle.wire.specs.Group.{behind}
 use borrow.Author.Needs.{needs}
 use Rattle.wire.proofs.group.skip_value.Statement.{statement}
 use Rattle.wire.proofs.group.skip_value.Tie as tie
 
-returns : tie.Need-returns
-returns c = ap behind (sym (c .before .next .given .1) ∙ c .before .before .before .read-value .ensures)
-
-returns-2 : tie.Need-returns-2
-returns-2 c = ap behind (sym (c .enum-told .given .1) ∙ c .before .before .read-value .ensures)
-
 pub skip-value-spec : {M : Type 1} → statement M
-skip-value-spec =
-    tie.close (tie.spec (λ c κs. search needs) (λ c. search needs) (λ c. search needs) returns returns-2)
+skip-value-spec = tie.close (tie.spec (λ c κs. search needs) (λ c. search needs) (λ c. search needs)
+    (λ c. ap behind (sym (c .before .next .given .1) ∙ c .before .before .before .read-value .ensures))
+    (λ c. ap behind (sym (c .enum-told .given .1) ∙ c .before .before .read-value .ensures)))

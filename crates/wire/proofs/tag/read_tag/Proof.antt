@@ -32,24 +32,8 @@ returns-3 c =
     short-good (a .s .now) (a .at) (b .result) (c .before .before .before .before .before .if1 .taken) (b .ensures)
     (c .before .before .if2 .taken) (c .before .if3 .left) (c .if4 .left)
 
-slice-aggregate-long-tag : tie.Need-slice-aggregate-long-tag
-slice-aggregate-long-tag c = sym (ap length (take-length (c .before .before .before .args .s .now)))
-
-returns-4 : tie.Need-returns-4
-returns-4 c =
-    let a = c .before .before .before .before .args in c .long-tag .ensures ∙ ap (λ (l : List ℕ). tagAt l (a .at))
-    (take-length (a .s .now))
-
 pub read-tag-spec : {M : Type 1} → statement M
-read-tag-spec =
-    tie.close
-    (tie.spec
-    (λ c. search needs)
-    (λ c κs. search needs)
-    returns
-    returns-2
-    (λ c. search needs)
-    returns-3
-    slice-aggregate-long-tag
-    (λ c κs. search needs)
-    returns-4)
+read-tag-spec = tie.close (tie.spec (λ c. search needs) (λ c κs. search needs) returns returns-2 (λ c. search needs)
+    returns-3 (λ c. sym (ap length (take-length (c .before .before .before .args .s .now)))) (λ c κs. search needs)
+    (λ c. let a = c .before .before .before .before .args in c .long-tag .ensures ∙ ap (λ (l : List ℕ). tagAt l (a .at))
+    (take-length (a .s .now))))

@@ -1,12 +1,11 @@
--- `wire::value::fixed_value` meets its contract. Assumes nothing.
+-- `wire::value::fixed_value` meets its contract: each arm is one clause of ofFixed. Assumes nothing.
 use mathlib.Core.Path.{sym, ap}
 use Rattle.wire.specs.Value.{ofFixed}
 use borrow.Author.Needs.{needs}
 use Rattle.wire.proofs.value.fixed_value.Statement.{statement}
 use Rattle.wire.proofs.value.fixed_value.Tie as tie
 
-returns : tie.Need-returns
-returns c = let a = c .before .before .before .args in ap (ofFixed (a .width) (a .at)) (sym (c .before .read .given .1))
-
 pub fixed-value-spec : {M : Type 1} → statement M
-fixed-value-spec = tie.close (tie.spec (λ c. search needs) (λ c. search needs) returns (λ c. search needs))
+fixed-value-spec = tie.close (tie.spec (λ c. search needs) (λ c. search needs)
+    (λ c. let a = c .before .before .before .args in ap (ofFixed (a .width) (a .at)) (sym (c .before .read .given .1)))
+    (λ c. search needs))

@@ -1,4 +1,4 @@
--- `wire::value::number_value` meets its contract. Assumes nothing.
+-- `wire::value::number_value` meets its contract: each arm is one clause of ofVarint. Assumes nothing.
 use borrow.Author.Needs.{needs}
 use mathlib.Core.Path.{sym, ap, _∙_}
 use native.Mathlib.Omega.{arith}
@@ -7,24 +7,14 @@ use Rattle.wire.proofs.ValueLaws.{varint-ends}
 use Rattle.wire.proofs.value.number_value.Statement.{statement}
 use Rattle.wire.proofs.value.number_value.Tie as tie
 
-sub-t7 : tie.Need-sub-t7
-sub-t7 c =
-    let a = c .before .before .before .before .before .args in
-    omega (
-      arith,
-      varint-ends (a .s .now) (a .at) (sym (c .before .value .given .1)
-          ∙ c .before .before .before .read-small .ensures),
-    )
-
-returns : tie.Need-returns
-returns c = ap (ofVarint (c .before .before .before .before .before .args .at))
-    (sym (c .before .value .given .1) ∙ c .before .before .before .read-small .ensures)
-
-returns-2 : tie.Need-returns-2
-returns-2 c =
-    ap (ofVarint (c .before .before .before .before .args .at))
-    (sym (c .enum-told .given .1) ∙ c .before .before .read-small .ensures)
-
 pub number-value-spec : {M : Type 1} → statement M
-number-value-spec =
-    tie.close (tie.spec (λ c κs. search needs) (λ c. search needs) sub-t7 (λ c. search needs) returns returns-2)
+number-value-spec = tie.close (tie.spec (λ c κs. search needs) (λ c. search needs)
+    (λ c. let a = c .before .before .before .before .before .args in omega (
+      arith,
+      varint-ends (a .s .now) (a .at) (sym
+          (c .before .value .given .1) ∙ c .before .before .before .read-small .ensures),
+    )) (λ c. search needs)
+    (λ c. ap (ofVarint (c .before .before .before .before .before .args .at))
+    (sym (c .before .value .given .1) ∙ c .before .before .before .read-small .ensures))
+    (λ c. ap (ofVarint (c .before .before .before .before .args .at))
+    (sym (c .enum-told .given .1) ∙ c .before .before .read-small .ensures)))
