@@ -1,4 +1,5 @@
--- `args::arguments::next_argument` meets its contract. Assumes nothing.
+-- `args::arguments::next_argument` meets its contract: each arm is what the next place makes of the argument. Assumes
+-- nothing.
 use mathlib.Core.Path.{sym, ap, _∙_}
 use Rattle.args.specs.declared.arguments.NextArgument.{NextArgument}
 use Rattle.args.proofs.PlaceLaws.{next-placed}
@@ -13,25 +14,10 @@ returns c =
     ∙ next-placed (a .s .now) (a .at) _ (sym (c .before .before .start .given .1)
     ∙ c .before .before .before .before .next-place .ensures)
 
-returns-2 : tie.Need-returns-2
-returns-2 c =
-    let a = c .before .before .before .before .args in
-    next-placed (a .s .now) (a .at) _ (sym (c .enum-told .given .1) ∙ c .before .before .next-place .ensures)
-
-returns-3 : tie.Need-returns-3
-returns-3 c =
-    let a = c .before .before .before .before .args in
-    next-placed (a .s .now) (a .at) _ (sym (c .enum-told2 .given .1) ∙ c .before .before .next-place .ensures)
-
 pub next-argument-spec : {M : Type 1} → statement M
-next-argument-spec =
-    tie.close
-    (tie.spec
-    (λ c κs. search needs)
-    (λ c. search needs)
-    (λ c κs. search needs)
-    (λ c. search needs)
-    (λ c. search needs)
-    returns
-    returns-2
-    returns-3)
+next-argument-spec = tie.close (tie.spec (λ c κs. search needs) (λ c. search needs) (λ c κs. search needs)
+    (λ c. search needs) (λ c. search needs) returns
+    (λ c. let a = c .before .before .before .before .args in next-placed (a .s .now) (a .at) _
+    (sym (c .enum-told .given .1) ∙ c .before .before .next-place .ensures))
+    (λ c. let a = c .before .before .before .before .args in next-placed (a .s .now) (a .at) _
+    (sym (c .enum-told2 .given .1) ∙ c .before .before .next-place .ensures)))

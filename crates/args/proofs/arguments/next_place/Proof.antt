@@ -1,4 +1,5 @@
--- `args::arguments::next_place` meets its contract. Assumes nothing.
+-- `args::arguments::next_place` meets its contract: an args field is known by its tag; the rest is looked for. Assumes
+-- nothing.
 use Prim.Native.Nat.{ℕ}
 use mathlib.Core.Path.{sym, ap, _∙_}
 use mathlib.Core.List.{List}
@@ -10,9 +11,6 @@ use borrow.Author.Needs.{needs}
 use Rattle.args.proofs.arguments.next_place.Statement.{statement}
 use Rattle.args.proofs.arguments.next_place.Tie as tie
 
-returns : tie.Need-returns
-returns c = let a = c .before .before .args in place-none (a .s .now) (a .at) (c .if1 .taken)
-
 returns-2 : tie.Need-returns-2
 returns-2 c =
     let a = c .before .before .before .before .before .before .args in
@@ -20,24 +18,11 @@ returns-2 c =
     ∙ ap placeOf (c .before .length-value .ensures)
     ∙ place-here (a .s .now) (a .at) (c .before .before .before .before .if1 .left) (c .before .before .if2 .taken)
 
-slice-aggregate-seek-place : tie.Need-slice-aggregate-seek-place
-slice-aggregate-seek-place c = sym (ap length (take-length (c .before .before .before .before .before .args .s .now)))
-
-returns-3 : tie.Need-returns-3
-returns-3 c =
-    let a = c .before .before .before .before .before .before .args in
-    c .seek-place .ensures ∙ ap (λ (l : List ℕ). argPlace l (a .at)) (take-length (a .s .now))
-
 pub next-place-spec : {M : Type 1} → statement M
-next-place-spec =
-    tie.close
-    (tie.spec
-    returns
-    (λ c. search needs)
-    (λ c. search needs)
+next-place-spec = tie.close (tie.spec
+    (λ c. let a = c .before .before .args in place-none (a .s .now) (a .at) (c .if1 .taken)) (λ c. search needs)
+    (λ c. search needs) (λ c κs. search needs) (λ c κs. search needs) returns-2
+    (λ c. sym (ap length (take-length (c .before .before .before .before .before .args .s .now))))
     (λ c κs. search needs)
-    (λ c κs. search needs)
-    returns-2
-    slice-aggregate-seek-place
-    (λ c κs. search needs)
-    returns-3)
+    (λ c. let a = c .before .before .before .before .before .before .args in c .seek-place .ensures ∙ ap
+    (λ (l : List ℕ). argPlace l (a .at)) (take-length (a .s .now))))

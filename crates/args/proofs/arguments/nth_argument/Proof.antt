@@ -1,4 +1,4 @@
--- `args::arguments::nth_argument` meets its contract. Assumes nothing.
+-- `args::arguments::nth_argument` meets its contract: each turn of the loop is one law on `Counting`. Assumes nothing.
 use borrow.Author.Needs.{needs}
 use Prim.Native.Nat.{_-_}
 use native.Mathlib.Nat.{pos-of-ne-zero}
@@ -17,23 +17,12 @@ Inv-loop s from index p₀ left₀ p left = Counting s from index p left
 abbrev μ-loop : tie.MeasureT-loop
 μ-loop s from index p₀ left₀ p left = length s - p
 
-loop-holds : tie.Need-loop-holds Inv-loop μ-loop
-loop-holds c = let a = c .before .args in count-starts (a .s .now) (a .from) (a .index)
-
-returns : tie.Need-returns Inv-loop μ-loop
-returns c =
-    ap asked (count-none (c .before .before .before .before .loop .inv)
-    (sym (c .before .before .next-argument .ensures) ∙ c .enum-told .given .1))
-
 returns-2 : tie.Need-returns-2 Inv-loop μ-loop
 returns-2 c = c .handed .ensures ∙ ap asked (count-hit
     (c .before .before .before .before .before .before .before .loop .inv)
     (c .before .before .before .before .before .before .loop-test .taken)
     (sym (c .before .before .before .before .before .next-argument .ensures)
     ∙ c .before .before .before .value .given .1) (c .before .if1 .taken))
-
-sub-left : tie.Need-sub-left Inv-loop μ-loop
-sub-left c = pos-of-ne-zero (c .if1 .left)
 
 loop-less : tie.Need-loop-less Inv-loop μ-loop
 loop-less c = let a = c .before .before .before .before .before .before .before .before .args in omega (
@@ -50,23 +39,11 @@ loop-again c = count-on (c .before .before .before .before .before .before .loop
     (sym (c .before .before .before .before .next-argument .ensures) ∙ c .before .before .value .given .1)
     (c .if1 .left)
 
-returns-3 : tie.Need-returns-3 Inv-loop μ-loop
-returns-3 c = ap asked (count-end (c .before .loop .inv) (c .loop-test .left))
-
 pub nth-argument-spec : {M : Type 1} → statement M
-nth-argument-spec =
-    tie.close
-    (tie.spec
-    Inv-loop
-    μ-loop
-    loop-holds
-    (λ c κs. tt)
+nth-argument-spec = tie.close (tie.spec Inv-loop μ-loop
+    (λ c. let a = c .before .args in count-starts (a .s .now) (a .from) (a .index)) (λ c κs. tt) (λ c. search needs)
     (λ c. search needs)
-    (λ c. search needs)
-    returns
-    (λ c κs. tt)
-    returns-2
-    sub-left
-    loop-less
-    loop-again
-    returns-3)
+    (λ c. ap asked (count-none (c .before .before .before .before .loop .inv) (sym
+    (c .before .before .next-argument .ensures) ∙ c .enum-told .given .1))) (λ c κs. tt) returns-2
+    (λ c. pos-of-ne-zero (c .if1 .left)) loop-less loop-again
+    (λ c. ap asked (count-end (c .before .loop .inv) (c .loop-test .left))))

@@ -1,4 +1,4 @@
--- `args::arguments::seek_place` meets its contract. Assumes nothing.
+-- `args::arguments::seek_place` meets its contract: each turn of the loop is one law on `Seeking`. Assumes nothing.
 use borrow.Author.Needs.{needs}
 use Prim.Native.Nat.{_-_}
 use native.Mathlib.Omega.{arith}
@@ -13,14 +13,6 @@ Inv-loop s at p₀ p = Seeking s at p
 
 abbrev μ-loop : tie.MeasureT-loop
 μ-loop s at p₀ p = length s - p
-
-loop-holds : tie.Need-loop-holds Inv-loop μ-loop
-loop-holds c = starts (c .before .args .s .now) (c .before .args .at)
-
-returns : tie.Need-returns Inv-loop μ-loop
-returns c =
-    no-field (c .before .before .before .before .loop .inv) (c .before .before .before .loop-test .taken)
-    (sym (c .before .before .read-field .ensures) ∙ c .enum-told .given .1)
 
 returns-2 : tie.Need-returns-2 Inv-loop μ-loop
 returns-2 c = found (c .before .before .before .before .before .before .before .loop .inv)
@@ -60,23 +52,9 @@ loop-again-2 c = other-number (c .before .before .before .before .before .before
     (c .before .before .before .before .before .loop-test .taken)
     (sym (c .before .before .before .before .read-field .ensures) ∙ c .before .before .number .given .1) (c .if1 .left)
 
-returns-3 : tie.Need-returns-3 Inv-loop μ-loop
-returns-3 c = ends (c .before .loop .inv) (c .loop-test .left)
-
 pub seek-place-spec : {M : Type 1} → statement M
-seek-place-spec =
-    tie.close
-    (tie.spec
-    Inv-loop
-    μ-loop
-    loop-holds
-    (λ c κs. tt)
-    (λ c. search needs)
-    (λ c. search needs)
-    returns
-    returns-2
-    loop-less
-    loop-again
-    loop-less-2
-    loop-again-2
-    returns-3)
+seek-place-spec = tie.close (tie.spec Inv-loop μ-loop (λ c. starts (c .before .args .s .now) (c .before .args .at))
+    (λ c κs. tt) (λ c. search needs) (λ c. search needs)
+    (λ c. no-field (c .before .before .before .before .loop .inv) (c .before .before .before .loop-test .taken)
+    (sym (c .before .before .read-field .ensures) ∙ c .enum-told .given .1)) returns-2 loop-less loop-again loop-less-2
+    loop-again-2 (λ c. ends (c .before .loop .inv) (c .loop-test .left)))

@@ -15,25 +15,12 @@ Inv-loop s from text own k₀ x₀ p₀ k x p = Binding text s from p x k
 abbrev μ-loop : tie.MeasureT-loop
 μ-loop s from text own k₀ x₀ p₀ k x p = length s - p
 
-loop-holds : tie.Need-loop-holds Inv-loop μ-loop
-loop-holds c =
-    let a = c .before .before .before .args in rw (c .none .ensures) (binds (a .text) (a .s .now) (a .from))
-
 returns : tie.Need-returns Inv-loop μ-loop
 returns c =
     c .bad-bound .ensures
     ∙ no-field (c .before .before .before .before .before .loop .inv)
     (c .before .before .before .before .loop-test .taken)
     (sym (c .before .before .before .field-at .ensures) ∙ c .before .enum-told .given .1)
-
-with-type-requires : tie.Need-with-type-requires Inv-loop μ-loop
-with-type-requires c κs =
-    omega (
-      arith,
-      c .before .before .before .before .before .before .before .before .loop .inv .walking .small,
-      c
-          .before .before .before .before .before .before .before .loop-test .taken,
-    )
 
 returns-2 : tie.Need-returns-2 Inv-loop μ-loop
 returns-2 c =
@@ -92,32 +79,14 @@ loop-again-2 c =
     ∙ c .before .before .before .before .number .given .1)
     (sym (c .before .before .is-args .ensures) ∙ c .before .if1 .left)))
 
-returns-3 : tie.Need-returns-3 Inv-loop μ-loop
-returns-3 c = c .bound-of .ensures ∙ done (c .before .before .loop .inv) (c .before .loop-test .left)
-
 pub bound-at-spec : {M : Type 1} → statement M
-bound-at-spec =
-    tie.close
-    (tie.spec
-    Inv-loop
-    μ-loop
-    (λ c κs. tt)
-    (λ c κs. tt)
-    loop-holds
-    (λ c κs. tt)
-    (λ c. search needs)
-    (λ c. search needs)
-    (λ c κs. tt)
-    returns
-    (λ c κs. tt)
-    (λ c κs. tt)
-    with-type-requires
-    (λ c κs. tt)
-    returns-2
-    loop-less
-    loop-again
-    (λ c κs. tt)
-    loop-less-2
-    loop-again-2
-    (λ c κs. tt)
-    returns-3)
+bound-at-spec = tie.close (tie.spec Inv-loop μ-loop (λ c κs. tt) (λ c κs. tt)
+    (λ c. let a = c .before .before .before .args in rw (c .none .ensures) (binds (a .text) (a .s .now) (a .from)))
+    (λ c κs. tt) (λ c. search needs) (λ c. search needs) (λ c κs. tt) returns (λ c κs. tt) (λ c κs. tt)
+    (λ c κs. omega (
+      arith,
+      c .before .before .before .before .before .before .before .before .loop .inv .walking .small,
+      c .before .before .before .before .before .before .before .loop-test .taken,
+    )) (λ c κs. tt) returns-2 loop-less
+    loop-again (λ c κs. tt) loop-less-2 loop-again-2 (λ c κs. tt)
+    (λ c. c .bound-of .ensures ∙ done (c .before .before .loop .inv) (c .before .loop-test .left)))

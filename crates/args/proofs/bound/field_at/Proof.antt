@@ -17,23 +17,9 @@ returns c =
     ∙ ap (ofValue 2 2) (c .before .length-value .ensures)
     ∙ args-here (a .s .now) (a .at) (c .before .before .before .before .if1 .taken) (c .before .before .if2 .taken)
 
-slice-aggregate-read-field : tie.Need-slice-aggregate-read-field
-slice-aggregate-read-field c = sym (ap length (take-length (c .before .before .before .args .s .now)))
-
-returns-2 : tie.Need-returns-2
-returns-2 c =
-    let a = c .before .before .before .before .args in
-    c .read-field .ensures ∙ ap (λ (l : List ℕ). fieldAt l (a .at)) (take-length (a .s .now))
-
 pub field-at-spec : {M : Type 1} → statement M
-field-at-spec =
-    tie.close
-    (tie.spec
-    (λ c. search needs)
-    (λ c. search needs)
+field-at-spec = tie.close (tie.spec (λ c. search needs) (λ c. search needs) (λ c κs. search needs)
+    (λ c κs. search needs) returns (λ c. sym (ap length (take-length (c .before .before .before .args .s .now))))
     (λ c κs. search needs)
-    (λ c κs. search needs)
-    returns
-    slice-aggregate-read-field
-    (λ c κs. search needs)
-    returns-2)
+    (λ c. let a = c .before .before .before .before .args in c .read-field .ensures ∙ ap
+    (λ (l : List ℕ). fieldAt l (a .at)) (take-length (a .s .now))))

@@ -8,35 +8,13 @@ use borrow.Author.Needs.{needs}
 use Rattle.args.proofs.bound.read_bound.Statement.{statement}
 use Rattle.args.proofs.bound.read_bound.Tie as tie
 
-returns : tie.Need-returns
-returns c =
-    let a = c .before .before .before .args in
-    c .bad-bound .ensures ∙ bound-past (a .text) (a .s .now) (a .at) (a .n) (omega arith)
-
-returns-2 : tie.Need-returns-2
-returns-2 c =
-    let a = c .before .before .before .before .args in
-    c .bad-bound2 .ensures ∙ bound-past (a .text) (a .s .now) (a .at) (a .n) (omega arith)
-
-slice-aggregate-bound-at : tie.Need-slice-aggregate-bound-at
-slice-aggregate-bound-at c =
-    let a = c .before .before .before .before .args in sym (length-take-le (a .at + a .n) (a .s .now) (omega arith))
-
-returns-3 : tie.Need-returns-3
-returns-3 c =
-    let a = c .before .before .before .before .before .args in
-    c .bound-at .ensures ∙ bound-cut (a .text) (a .s .now) (a .at) (a .n) (omega arith)
-
 pub read-bound-spec : {M : Type 1} → statement M
-read-bound-spec =
-    tie.close
-    (tie.spec
-    (λ c κs. search needs)
-    returns
-    (λ c. search needs)
-    (λ c κs. search needs)
-    returns-2
-    (λ c. search needs)
-    slice-aggregate-bound-at
-    (λ c κs. search needs)
-    returns-3)
+read-bound-spec = tie.close (tie.spec (λ c κs. search needs)
+    (λ c. let a = c .before .before .before .args in c .bad-bound .ensures ∙ bound-past (a .text) (a .s .now) (a .at)
+    (a .n) (omega arith)) (λ c. search needs) (λ c κs. search needs)
+    (λ c. let a = c .before .before .before .before .args in c .bad-bound2 .ensures ∙ bound-past (a .text) (a .s .now)
+    (a .at) (a .n) (omega arith)) (λ c. search needs)
+    (λ c. let a = c .before .before .before .before .args in sym
+    (length-take-le (a .at + a .n) (a .s .now) (omega arith))) (λ c κs. search needs)
+    (λ c. let a = c .before .before .before .before .before .args in c .bound-at .ensures ∙ bound-cut (a .text)
+    (a .s .now) (a .at) (a .n) (omega arith)))

@@ -19,29 +19,6 @@ use borrow.Author.Needs.{needs}
 use Rattle.args.proofs.kind.scalar_type.Statement.{statement}
 use Rattle.args.proofs.kind.scalar_type.Tie as tie
 
-returns : tie.Need-returns
-returns c =
-    let a = c .before .before .before .args in
-    ap anyTypeOf (null-read (a .s .now) (a .at) (a .n) (c .before .read-lone .ensures) (c .if1 .taken))
-
-mul-named : tie.Need-mul-named
-mul-named c =
-    let a = c .before .before .before .before .before .before .before .args in
-    omega (
-      arith,
-      named-short (a .s .now) (a .at) (a .n) (c .before .first .given .1)
-          (c .before .before .before .read-pair .ensures),
-    )
-
-add-named : tie.Need-add-named
-add-named c =
-    let a = c .before .before .before .before .before .before .before .args in
-    omega (
-      arith,
-      named-short (a .s .now) (a .at) (a .n) (c .before .first .given .1)
-          (c .before .before .before .read-pair .ensures),
-    )
-
 returns-2 : tie.Need-returns-2
 returns-2 c =
     let a = c .before .before .before .before .before .before .before .before .args in
@@ -55,11 +32,6 @@ returns-3 c =
     let r = c .before .before .before .before in
     let f = c .before .before .first .given in
     ap anyTypeOf (uint-read (a .s .now) (a .at) (a .n) (f .1) (r .read-pair .ensures) (c .match2 .keys2))
-
-slice-aggregate-read-bytes : tie.Need-slice-aggregate-read-bytes
-slice-aggregate-read-bytes c = sym
-    (ap length (take-length
-    (c .before .before .before .before .before .before .before .before .before .args .s .now)))
 
 returns-4 : tie.Need-returns-4
 returns-4 c =
@@ -98,11 +70,6 @@ returns-7 c =
     let f = c .before .before .first .given in
     ap anyTypeOf (bool-read (a .s .now) (a .at) (a .n) (f .1) (r .read-pair .ensures) (c .match2 .keys6))
 
-slice-aggregate-read-bytes-2 : tie.Need-slice-aggregate-read-bytes-2
-slice-aggregate-read-bytes-2 c = sym
-    (ap length (take-length
-    (c .before .before .before .before .before .before .before .before .before .args .s .now)))
-
 returns-8 : tie.Need-returns-8
 returns-8 c =
     let a = c .before .before .before .before .before .before .before .before .before .before .before .args in
@@ -115,10 +82,6 @@ returns-8 c =
     ∙ string-read (a .s .now) (a .at) (a .n) (f .1) (r .read-pair .ensures)
     (c .before .before .before .match2 .keys7))
 
-slice-aggregate-long-scalar : tie.Need-slice-aggregate-long-scalar
-slice-aggregate-long-scalar c = sym
-    (ap length (take-length (c .before .before .before .before .before .before .args .s .now)))
-
 returns-9 : tie.Need-returns-9
 returns-9 c =
     let a = c .before .before .before .before .before .before .before .before .args in
@@ -127,30 +90,26 @@ returns-9 c =
     (c .before .long-scalar .ensures ∙ ap (λ (l : List ℕ). scalarIn l (a .at) (a .n)) (take-length (a .s .now)))
 
 pub scalar-type-spec : {M : Type 1} → statement M
-scalar-type-spec =
-    tie.close
-    (tie.spec
-    (λ c κs. search needs)
-    returns
-    (λ c κs. search needs)
+scalar-type-spec = tie.close (tie.spec (λ c κs. search needs)
+    (λ c. let a = c .before .before .before .args in ap anyTypeOf
+    (null-read (a .s .now) (a .at) (a .n) (c .before .read-lone .ensures) (c .if1 .taken))) (λ c κs. search needs)
     (λ c. search needs)
-    mul-named
-    add-named
-    returns-2
+    (λ c. let a = c .before .before .before .before .before .before .before .args in omega (
+      arith,
+      named-short
+          (a .s .now) (a .at) (a .n) (c .before .first .given .1) (c .before .before .before .read-pair .ensures),
+    ))
+    (λ c. let a = c .before .before .before .before .before .before .before .args in omega (
+      arith,
+      named-short
+          (a .s .now) (a .at) (a .n) (c .before .first .given .1) (c .before .before .before .read-pair .ensures),
+    )) returns-2
     returns-3
-    slice-aggregate-read-bytes
-    (λ c κs. search needs)
-    (λ c κs. search needs)
-    returns-4
-    returns-5
-    returns-6
-    returns-7
-    slice-aggregate-read-bytes-2
-    (λ c κs. search needs)
-    (λ c κs. search needs)
-    returns-8
-    (λ c. search needs)
-    slice-aggregate-long-scalar
-    (λ c κs. search needs)
-    (λ c κs. search needs)
-    returns-9)
+    (λ c. sym
+    (ap length (take-length (c .before .before .before .before .before .before .before .before .before .args .s .now))))
+    (λ c κs. search needs) (λ c κs. search needs) returns-4 returns-5 returns-6 returns-7
+    (λ c. sym
+    (ap length (take-length (c .before .before .before .before .before .before .before .before .before .args .s .now))))
+    (λ c κs. search needs) (λ c κs. search needs) returns-8 (λ c. search needs)
+    (λ c. sym (ap length (take-length (c .before .before .before .before .before .before .args .s .now))))
+    (λ c κs. search needs) (λ c κs. search needs) returns-9)

@@ -7,16 +7,9 @@ use borrow.Author.Needs.{needs}
 use Rattle.args.proofs.pair.alone.Statement.{statement}
 use Rattle.args.proofs.pair.alone.Tie as tie
 
-returns : tie.Need-returns
-returns c = text-ends (c .before .before .before .before .args .end) (c .before .before .read .given .1)
-    (omega (arith, c .if1 .taken))
-
-returns-2 : tie.Need-returns-2
-returns-2 c = text-goes-on (c .before .before .before .before .args .end) (c .before .before .read .given .1)
-    (c .if1 .left)
-
-returns-3 : tie.Need-returns-3
-returns-3 c = ap (textOf (c .before .before .args .end)) (sym (c .enum-told .given .1))
-
 pub alone-spec : {M : Type 1} → statement M
-alone-spec = tie.close (tie.spec (λ c. search needs) returns (λ c. search needs) returns-2 returns-3)
+alone-spec = tie.close (tie.spec (λ c. search needs)
+    (λ c. text-ends (c .before .before .before .before .args .end) (c .before .before .read .given .1)
+    (omega (arith, c .if1 .taken))) (λ c. search needs)
+    (λ c. text-goes-on (c .before .before .before .before .args .end) (c .before .before .read .given .1)
+    (c .if1 .left)) (λ c. ap (textOf (c .before .before .args .end)) (sym (c .enum-told .given .1))))

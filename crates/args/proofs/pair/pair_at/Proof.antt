@@ -1,26 +1,11 @@
--- `args::pair::pair_at` meets its contract. Assumes nothing.
+-- `args::pair::pair_at` meets its contract: each test of the code is the test of the definition at the same byte.
+-- Assumes nothing.
 use native.Mathlib.Omega.{arith}
 use mathlib.Core.Path.{_∙_}
 use Rattle.args.proofs.PairLaws.{at-short, at-other, at-long-first, at-long-tag, at-pair}
 use borrow.Author.Needs.{needs}
 use Rattle.args.proofs.pair.pair_at.Statement.{statement}
 use Rattle.args.proofs.pair.pair_at.Tie as tie
-
-returns : tie.Need-returns
-returns c = let a = c .before .before .args in at-short (a .s .now) (a .at) (omega arith)
-
-returns-2 : tie.Need-returns-2
-returns-2 c = let a = c .before .before .before .args in at-short (a .s .now) (a .at) (omega arith)
-
-returns-3 : tie.Need-returns-3
-returns-3 c = let a = c .before .before .before .before .before .args in at-other (a .s .now) (a .at) (omega arith)
-    (c .if3 .taken)
-
-returns-4 : tie.Need-returns-4
-returns-4 c =
-    let a = c .before .before .before .before .before .before .before .before .args in
-    at-long-first (a .s .now) (a .at) (omega arith) (omega arith) (c .before .wide .result) (c .before .wide .ensures)
-    (c .if4 .taken)
 
 returns-5 : tie.Need-returns-5
 returns-5 c =
@@ -40,22 +25,11 @@ returns-6 c =
     (tag .result) (tag .ensures) (omega arith) _ (c .before .value-at .ensures)
 
 pub pair-at-spec : {M : Type 1} → statement M
-pair-at-spec =
-    tie.close
-    (tie.spec
-    returns
-    returns-2
-    (λ c. search needs)
-    returns-3
-    (λ c. search needs)
-    (λ c. search needs)
-    (λ c κs. search needs)
-    returns-4
-    (λ c. search needs)
-    (λ c. search needs)
-    (λ c κs. search needs)
-    returns-5
-    (λ c. search needs)
-    (λ c κs. search needs)
-    (λ c κs. search needs)
-    returns-6)
+pair-at-spec = tie.close (tie.spec (λ c. let a = c .before .before .args in at-short (a .s .now) (a .at) (omega arith))
+    (λ c. let a = c .before .before .before .args in at-short (a .s .now) (a .at) (omega arith)) (λ c. search needs)
+    (λ c. let a = c .before .before .before .before .before .args in at-other (a .s .now) (a .at) (omega arith)
+    (c .if3 .taken)) (λ c. search needs) (λ c. search needs) (λ c κs. search needs)
+    (λ c. let a = c .before .before .before .before .before .before .before .before .args in at-long-first (a .s .now)
+    (a .at) (omega arith) (omega arith) (c .before .wide .result) (c .before .wide .ensures) (c .if4 .taken))
+    (λ c. search needs) (λ c. search needs) (λ c κs. search needs) returns-5 (λ c. search needs) (λ c κs. search needs)
+    (λ c κs. search needs) returns-6)

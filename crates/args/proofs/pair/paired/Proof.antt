@@ -1,4 +1,4 @@
--- `args::pair::paired` meets its contract. Assumes nothing.
+-- `args::pair::paired` meets its contract: the value ends with the message or it does not. Assumes nothing.
 use native.Mathlib.Omega.{arith}
 use mathlib.Core.Path.{sym, ap}
 use Rattle.args.specs.private.Pair.{pairOf}
@@ -7,16 +7,10 @@ use borrow.Author.Needs.{needs}
 use Rattle.args.proofs.pair.paired.Statement.{statement}
 use Rattle.args.proofs.pair.paired.Tie as tie
 
-returns : tie.Need-returns
-returns c = let a = c .before .before .before .before .args in pair-ends (a .first) (a .tag) (a .end)
-    (c .before .before .read .given .1) (omega (arith, c .if1 .taken))
-
-returns-2 : tie.Need-returns-2
-returns-2 c = let a = c .before .before .before .before .args in pair-goes-on (a .first) (a .tag) (a .end)
-    (c .before .before .read .given .1) (c .if1 .left)
-
-returns-3 : tie.Need-returns-3
-returns-3 c = let a = c .before .before .args in ap (pairOf (a .first) (a .tag) (a .end)) (sym (c .enum-told .given .1))
-
 pub paired-spec : {M : Type 1} → statement M
-paired-spec = tie.close (tie.spec (λ c. search needs) returns (λ c. search needs) returns-2 returns-3)
+paired-spec = tie.close (tie.spec (λ c. search needs)
+    (λ c. let a = c .before .before .before .before .args in pair-ends (a .first) (a .tag) (a .end)
+    (c .before .before .read .given .1) (omega (arith, c .if1 .taken))) (λ c. search needs)
+    (λ c. let a = c .before .before .before .before .args in pair-goes-on (a .first) (a .tag) (a .end)
+    (c .before .before .read .given .1) (c .if1 .left))
+    (λ c. let a = c .before .before .args in ap (pairOf (a .first) (a .tag) (a .end)) (sym (c .enum-told .given .1))))

@@ -5,22 +5,6 @@ use borrow.Author.Needs.{needs}
 use Rattle.args.proofs.pair.read_lone.Statement.{statement}
 use Rattle.args.proofs.pair.read_lone.Tie as tie
 
-returns : tie.Need-returns
-returns c = let a = c .before .before .args in lone-longer (a .s .now) (a .at) (a .n) (c .if1 .taken)
-
-returns-2 : tie.Need-returns-2
-returns-2 c = let a = c .before .before .before .args in lone-past (a .s .now) (a .at) (a .n) (omega arith)
-    (omega arith)
-
-returns-3 : tie.Need-returns-3
-returns-3 c = let a = c .before .before .before .before .args in lone-past (a .s .now) (a .at) (a .n) (omega arith)
-    (omega arith)
-
-returns-4 : tie.Need-returns-4
-returns-4 c =
-    let a = c .before .before .before .before .before .before .args in
-    lone-other (a .s .now) (a .at) (a .n) (omega arith) (omega arith) (c .if4 .taken)
-
 returns-5 : tie.Need-returns-5
 returns-5 c =
     let a = c .before .before .before .before .before .before .before .before .before .args in
@@ -36,17 +20,12 @@ returns-6 c =
     (omega arith)
 
 pub read-lone-spec : {M : Type 1} → statement M
-read-lone-spec =
-    tie.close
-    (tie.spec
-    returns
-    returns-2
+read-lone-spec = tie.close (tie.spec
+    (λ c. let a = c .before .before .args in lone-longer (a .s .now) (a .at) (a .n) (c .if1 .taken))
+    (λ c. let a = c .before .before .before .args in lone-past (a .s .now) (a .at) (a .n) (omega arith) (omega arith))
     (λ c. search needs)
-    returns-3
-    (λ c. search needs)
-    returns-4
-    (λ c. search needs)
-    (λ c. search needs)
-    (λ c κs. search needs)
-    returns-5
-    returns-6)
+    (λ c. let a = c .before .before .before .before .args in lone-past (a .s .now) (a .at) (a .n) (omega arith)
+    (omega arith)) (λ c. search needs)
+    (λ c. let a = c .before .before .before .before .before .before .args in lone-other (a .s .now) (a .at) (a .n)
+    (omega arith) (omega arith) (c .if4 .taken)) (λ c. search needs) (λ c. search needs) (λ c κs. search needs)
+    returns-5 returns-6)

@@ -8,29 +8,12 @@ use borrow.Author.Needs.{needs}
 use Rattle.args.proofs.pair.read_text.Statement.{statement}
 use Rattle.args.proofs.pair.read_text.Tie as tie
 
-slice-aggregate-text-at : tie.Need-slice-aggregate-text-at
-slice-aggregate-text-at c = let a = c .before .before .before .before .args in omega
-    (arith, length-take (a .at + a .n) (a .s .now))
-
-returns : tie.Need-returns
-returns c = let a = c .before .before .args in text-past (a .s .now) (a .at) (a .n) (omega arith)
-
-returns-2 : tie.Need-returns-2
-returns-2 c = let a = c .before .before .before .args in text-past (a .s .now) (a .at) (a .n) (omega arith)
-
-returns-3 : tie.Need-returns-3
-returns-3 c =
-    let a = c .before .before .before .before .before .args in c .text-at .ensures ∙ text-cut (a .s .now) (a .at)
-    (a .n) (omega arith)
-
 pub read-text-spec : {M : Type 1} → statement M
-read-text-spec =
-    tie.close
-    (tie.spec
-    returns
+read-text-spec = tie.close (tie.spec
+    (λ c. let a = c .before .before .args in text-past (a .s .now) (a .at) (a .n) (omega arith)) (λ c. search needs)
+    (λ c. let a = c .before .before .before .args in text-past (a .s .now) (a .at) (a .n) (omega arith))
     (λ c. search needs)
-    returns-2
-    (λ c. search needs)
-    slice-aggregate-text-at
+    (λ c. let a = c .before .before .before .before .args in omega (arith, length-take (a .at + a .n) (a .s .now)))
     (λ c κs. search needs)
-    returns-3)
+    (λ c. let a = c .before .before .before .before .before .args in c .text-at .ensures ∙ text-cut (a .s .now) (a .at)
+    (a .n) (omega arith)))

@@ -5,14 +5,6 @@ use borrow.Author.Needs.{needs}
 use Rattle.args.proofs.pair.text_at.Statement.{statement}
 use Rattle.args.proofs.pair.text_at.Tie as tie
 
-returns : tie.Need-returns
-returns c = let a = c .before .before .args in text-none (a .s .now) (a .at) (c .if1 .taken)
-
-returns-2 : tie.Need-returns-2
-returns-2 c =
-    let a = c .before .before .before .before .args in text-other (a .s .now) (a .at) (c .before .before .if1 .left)
-    (c .if2 .taken)
-
 returns-3 : tie.Need-returns-3
 returns-3 c =
     let a = c .before .before .before .before .before .before .args in
@@ -21,13 +13,8 @@ returns-3 c =
     (c .before .length-value .ensures)
 
 pub text-at-spec : {M : Type 1} → statement M
-text-at-spec =
-    tie.close
-    (tie.spec
-    returns
-    (λ c. search needs)
-    returns-2
-    (λ c. search needs)
-    (λ c κs. search needs)
-    (λ c κs. search needs)
+text-at-spec = tie.close (tie.spec
+    (λ c. let a = c .before .before .args in text-none (a .s .now) (a .at) (c .if1 .taken)) (λ c. search needs)
+    (λ c. let a = c .before .before .before .before .args in text-other (a .s .now) (a .at)
+    (c .before .before .if1 .left) (c .if2 .taken)) (λ c. search needs) (λ c κs. search needs) (λ c κs. search needs)
     returns-3)

@@ -1,4 +1,5 @@
--- `args::pair::value_at` meets its contract. Assumes nothing.
+-- `args::pair::value_at` meets its contract: a number or a length of one byte is that byte; the rest goes the long way.
+-- Assumes nothing.
 use Prim.Native.Nat.{ℕ}
 use mathlib.Core.Path.{sym, ap, _∙_}
 use mathlib.Core.List.{List}
@@ -26,28 +27,9 @@ returns-2 c =
     (c .before .before .before .before .before .before .if1 .taken) (b .ensures)
     (c .before .before .before .if2 .taken) (c .before .if4 .taken) (c .if5 .taken)
 
-slice-aggregate-read-value : tie.Need-slice-aggregate-read-value
-slice-aggregate-read-value c = let a = c .before .before .before .args in sym (ap length (take-length (a .s .now)))
-
-returns-3 : tie.Need-returns-3
-returns-3 c =
-    let a = c .before .before .before .before .args in
-    c .read-value .ensures ∙ ap (λ (l : List ℕ). valueAt l (a .wire) (a .at)) (take-length (a .s .now))
-
 pub value-at-spec : {M : Type 1} → statement M
-value-at-spec =
-    tie.close
-    (tie.spec
-    (λ c. search needs)
-    (λ c κs. search needs)
-    (λ c. search needs)
-    returns
-    (λ c. search needs)
-    (λ c. search needs)
-    (λ c. search needs)
-    (λ c. search needs)
-    (λ c. search needs)
-    returns-2
-    slice-aggregate-read-value
-    (λ c κs. search needs)
-    returns-3)
+value-at-spec = tie.close (tie.spec (λ c. search needs) (λ c κs. search needs) (λ c. search needs) returns
+    (λ c. search needs) (λ c. search needs) (λ c. search needs) (λ c. search needs) (λ c. search needs) returns-2
+    (λ c. let a = c .before .before .before .args in sym (ap length (take-length (a .s .now)))) (λ c κs. search needs)
+    (λ c. let a = c .before .before .before .before .args in c .read-value .ensures ∙ ap
+    (λ (l : List ℕ). valueAt l (a .wire) (a .at)) (take-length (a .s .now))))

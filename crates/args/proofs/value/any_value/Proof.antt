@@ -1,4 +1,4 @@
--- `args::value::any_value` meets its contract. Assumes nothing.
+-- `args::value::any_value` meets its contract: the Any type decides, an arm for each. Assumes nothing.
 use mathlib.Core.Bool.{true, false, cond}
 use mathlib.Core.Path.{refl, sym, ap, _∙_}
 use lib.ListN.{getD}
@@ -44,16 +44,5 @@ returns-4 c =
     ∙ any-good (a .s .now) x refl
 
 pub any-value-spec : {M : Type 1} → statement M
-any-value-spec =
-    tie.close
-    (tie.spec
-    (λ c. search needs)
-    (λ c. search needs)
-    (λ c. search needs)
-    (λ c. search needs)
-    (λ c κs. search needs)
-    (λ c κs. search needs)
-    returns
-    returns-2
-    returns-3
-    returns-4)
+any-value-spec = tie.close (tie.spec (λ c. search needs) (λ c. search needs) (λ c. search needs) (λ c. search needs)
+    (λ c κs. search needs) (λ c κs. search needs) returns returns-2 returns-3 returns-4)

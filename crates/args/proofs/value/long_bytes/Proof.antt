@@ -1,4 +1,5 @@
--- `args::value::long_bytes` meets its contract. Assumes nothing.
+-- `args::value::long_bytes` meets its contract: the arrays hold the field, and its slot is the place and length of the
+-- bytes. Assumes nothing.
 use mathlib.Core.Path.{_∙_}
 use borrow.Author.Tests.{not-true, not-false}
 use Rattle.prelude.proofs.Cases.{yes, no as without}
@@ -31,14 +32,5 @@ returns-3 c =
     (rw (r .bytes-rows .ensures) at (c .before .before .fill-part .ensures)) (not-false _ (c .before .if1 .left))
 
 pub long-bytes-spec : {M : Type 1} → statement M
-long-bytes-spec =
-    tie.close
-    (tie.spec
-    (λ c κs. search needs)
-    (λ c. search needs)
-    (λ c κs. search needs)
-    returns
-    (λ c. search needs)
-    (λ c. search needs)
-    returns-2
-    returns-3)
+long-bytes-spec = tie.close (tie.spec (λ c κs. search needs) (λ c. search needs) (λ c κs. search needs) returns
+    (λ c. search needs) (λ c. search needs) returns-2 returns-3)

@@ -1,4 +1,4 @@
--- `args::value::long_scalar` meets its contract. Assumes nothing.
+-- `args::value::long_scalar` meets its contract: the arrays hold the fields of the Scalar. Assumes nothing.
 use mathlib.Core.Path.{_∙_}
 use borrow.Author.Tests.{not-true, not-false}
 use Rattle.args.proofs.ArrayLaws.{scalar-held, scalar-refused}
@@ -23,12 +23,5 @@ returns-2 c =
     (not-false _ (e .if1 .left))
 
 pub long-scalar-spec : {M : Type 1} → statement M
-long-scalar-spec =
-    tie.close
-    (tie.spec
-    (λ c κs. search needs)
-    (λ c. search needs)
-    (λ c κs. search needs)
-    returns
-    (λ c κs. search needs)
-    returns-2)
+long-scalar-spec = tie.close (tie.spec (λ c κs. search needs) (λ c. search needs) (λ c κs. search needs) returns
+    (λ c κs. search needs) returns-2)

@@ -58,30 +58,10 @@ returns-3 c =
     (c .before .before .before .before .before .read-pair .ensures)
     (rowsOf any) 1 18 (c .before .if3 .taken) (omega arith) refl refl refl)
 
-slice-aggregate-read-argument : tie.Need-slice-aggregate-read-argument
-slice-aggregate-read-argument c =
-    let a = c .before .before .before .before .before .before .before .args in
-    sym (ap length (take-length (a .s .now)))
-
-returns-4 : tie.Need-returns-4
-returns-4 c =
-    let a = c .before .before .before .before .before .before .before .before .args in
-    c .read-argument .ensures ∙ ap (λ (l : List ℕ). argumentIn l (a .at) (a .n)) (take-length (a .s .now))
-
 pub quick-argument-spec : {M : Type 1} → statement M
-quick-argument-spec =
-    tie.close
-    (tie.spec
-    (λ c κs. search needs)
-    returns
-    returns-2
-    (λ c κs. search needs)
-    (λ c. search needs)
-    mul-if3
-    add-if3
-    (λ c κs. search needs)
-    returns-3
-    (λ c. search needs)
-    slice-aggregate-read-argument
-    (λ c κs. search needs)
-    returns-4)
+quick-argument-spec = tie.close (tie.spec (λ c κs. search needs) returns returns-2 (λ c κs. search needs)
+    (λ c. search needs) mul-if3 add-if3 (λ c κs. search needs) returns-3 (λ c. search needs)
+    (λ c. let a = c .before .before .before .before .before .before .before .args in sym
+    (ap length (take-length (a .s .now)))) (λ c κs. search needs)
+    (λ c. let a = c .before .before .before .before .before .before .before .before .args in c .read-argument .ensures ∙
+    ap (λ (l : List ℕ). argumentIn l (a .at) (a .n)) (take-length (a .s .now))))

@@ -32,24 +32,9 @@ returns-2 c =
     (text-kept (a .s .now) (a .at) (a .n) (c .before .before .start .given .1)
     (c .before .before .before .before .read-text .ensures) (rowsOf bytes) refl)
 
-slice-aggregate-long-bytes : tie.Need-slice-aggregate-long-bytes
-slice-aggregate-long-bytes c = sym (ap length (take-length (c .before .before .before .before .before .args .s .now)))
-
-returns-3 : tie.Need-returns-3
-returns-3 c =
-    let a = c .before .before .before .before .before .before .args in
-    c .long-bytes .ensures
-    ∙ ap (λ (l : List ℕ). bytesIn (a .octets) l (a .at) (a .n)) (take-length (a .s .now))
-
 pub read-bytes-spec : {M : Type 1} → statement M
-read-bytes-spec =
-    tie.close
-    (tie.spec
+read-bytes-spec = tie.close (tie.spec (λ c κs. search needs) (λ c. search needs) returns returns-2 (λ c. search needs)
+    (λ c. sym (ap length (take-length (c .before .before .before .before .before .args .s .now))))
     (λ c κs. search needs)
-    (λ c. search needs)
-    returns
-    returns-2
-    (λ c. search needs)
-    slice-aggregate-long-bytes
-    (λ c κs. search needs)
-    returns-3)
+    (λ c. let a = c .before .before .before .before .before .before .args in c .long-bytes .ensures ∙ ap
+    (λ (l : List ℕ). bytesIn (a .octets) l (a .at) (a .n)) (take-length (a .s .now))))

@@ -14,29 +14,6 @@ use borrow.Author.Needs.{needs}
 use Rattle.args.proofs.value.read_scalar.Statement.{statement}
 use Rattle.args.proofs.value.read_scalar.Tie as tie
 
-returns : tie.Need-returns
-returns c =
-    let a = c .before .before .before .args in
-    null-read (a .s .now) (a .at) (a .n) (c .before .read-lone .ensures) (c .if1 .taken)
-
-mul-named : tie.Need-mul-named
-mul-named c =
-    let a = c .before .before .before .before .before .before .before .args in
-    omega (
-      arith,
-      named-short (a .s .now) (a .at) (a .n) (c .before .first .given .1)
-          (c .before .before .before .read-pair .ensures),
-    )
-
-add-named : tie.Need-add-named
-add-named c =
-    let a = c .before .before .before .before .before .before .before .args in
-    omega (
-      arith,
-      named-short (a .s .now) (a .at) (a .n) (c .before .first .given .1)
-          (c .before .before .before .read-pair .ensures),
-    )
-
 returns-2 : tie.Need-returns-2
 returns-2 c =
     let a = c .before .before .before .before .before .before .before .before .before .args in
@@ -51,11 +28,6 @@ returns-3 c =
     let r = c .before .before .before .before in
     let f = c .before .before .first .given in
     uint-read (a .s .now) (a .at) (a .n) (f .1) (r .read-pair .ensures) (c .match2 .keys2)
-
-slice-aggregate-read-bytes : tie.Need-slice-aggregate-read-bytes
-slice-aggregate-read-bytes c = sym
-    (ap length (take-length
-    (c .before .before .before .before .before .before .before .before .before .args .s .now)))
 
 returns-4 : tie.Need-returns-4
 returns-4 c =
@@ -89,11 +61,6 @@ returns-7 c =
     let f = c .before .before .first .given in
     bool-read (a .s .now) (a .at) (a .n) (f .1) (r .read-pair .ensures) (c .match2 .keys6)
 
-slice-aggregate-read-bytes-2 : tie.Need-slice-aggregate-read-bytes-2
-slice-aggregate-read-bytes-2 c = sym
-    (ap length (take-length
-    (c .before .before .before .before .before .before .before .before .before .args .s .now)))
-
 returns-8 : tie.Need-returns-8
 returns-8 c =
     let a = c .before .before .before .before .before .before .before .before .before .before .args in
@@ -103,41 +70,29 @@ returns-8 c =
     ∙ ap (λ (l : List ℕ). bytesIn false l (f .0 .1 .1 .1 .0) (f .0 .1 .1 .0)) (take-length (a .s .now))
     ∙ string-read (a .s .now) (a .at) (a .n) (f .1) (r .read-pair .ensures) (c .before .before .match2 .keys7)
 
-slice-aggregate-long-scalar : tie.Need-slice-aggregate-long-scalar
-slice-aggregate-long-scalar c = sym
-    (ap length (take-length (c .before .before .before .before .before .before .args .s .now)))
-
-returns-9 : tie.Need-returns-9
-returns-9 c =
-    let a = c .before .before .before .before .before .before .before .args in
-    c .long-scalar .ensures ∙ ap (λ (l : List ℕ). scalarIn l (a .at) (a .n)) (take-length (a .s .now))
-
 pub read-scalar-spec : {M : Type 1} → statement M
-read-scalar-spec =
-    tie.close
-    (tie.spec
+read-scalar-spec = tie.close (tie.spec (λ c κs. search needs)
+    (λ c. let a = c .before .before .before .args in null-read (a .s .now) (a .at) (a .n)
+    (c .before .read-lone .ensures) (c .if1 .taken)) (λ c κs. search needs) (λ c. search needs)
+    (λ c. let a = c .before .before .before .before .before .before .before .args in omega (
+      arith,
+      named-short
+          (a .s .now) (a .at) (a .n) (c .before .first .given .1) (c .before .before .before .read-pair .ensures),
+    ))
+    (λ c. let a = c .before .before .before .before .before .before .before .args in omega (
+      arith,
+      named-short
+          (a .s .now) (a .at) (a .n) (c .before .first .given .1) (c .before .before .before .read-pair .ensures),
+    ))
+    (λ c κs. search needs) returns-2 returns-3
+    (λ c. sym
+    (ap length (take-length (c .before .before .before .before .before .before .before .before .before .args .s .now))))
+    (λ c κs. search needs) returns-4 (λ c κs. search needs) returns-5 (λ c. search needs) (λ c κs. search needs)
+    returns-6 returns-7
+    (λ c. sym
+    (ap length (take-length (c .before .before .before .before .before .before .before .before .before .args .s .now))))
+    (λ c κs. search needs) returns-8 (λ c. search needs)
+    (λ c. sym (ap length (take-length (c .before .before .before .before .before .before .args .s .now))))
     (λ c κs. search needs)
-    returns
-    (λ c κs. search needs)
-    (λ c. search needs)
-    mul-named
-    add-named
-    (λ c κs. search needs)
-    returns-2
-    returns-3
-    slice-aggregate-read-bytes
-    (λ c κs. search needs)
-    returns-4
-    (λ c κs. search needs)
-    returns-5
-    (λ c. search needs)
-    (λ c κs. search needs)
-    returns-6
-    returns-7
-    slice-aggregate-read-bytes-2
-    (λ c κs. search needs)
-    returns-8
-    (λ c. search needs)
-    slice-aggregate-long-scalar
-    (λ c κs. search needs)
-    returns-9)
+    (λ c. let a = c .before .before .before .before .before .before .before .args in c .long-scalar .ensures ∙ ap
+    (λ (l : List ℕ). scalarIn l (a .at) (a .n)) (take-length (a .s .now))))

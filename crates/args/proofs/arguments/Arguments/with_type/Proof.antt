@@ -1,4 +1,5 @@
--- `args::arguments::Arguments::with_type` meets its contract. Assumes nothing.
+-- `args::arguments::Arguments::with_type` meets its contract: each test of the code is one of withType's, in its order.
+-- Assumes nothing.
 use Prim.Native.Nat.{ℕ}
 use native.Mathlib.Nat.{add-sub-cancel}
 use Rattle.args.specs.Arguments.{counted}
@@ -8,19 +9,6 @@ use borrow.Author.Needs.{needs}
 use Rattle.args.proofs.arguments.Arguments.with_type.Statement.{statement}
 use Rattle.args.proofs.arguments.Arguments.with_type.Tie as tie
 
-returns : tie.Need-returns
-returns c = let a = c .before .before .args in c .bad .ensures ∙ type-bad (a .self) (a .t) (c .before .if1 .taken)
-
-returns-2 : tie.Need-returns-2
-returns-2 c = let a = c .before .before .before .args in type-scalar (a .self) (a .t) (c .before .before .if1 .left)
-    (c .if2 .taken)
-
-returns-3 : tie.Need-returns-3
-returns-3 c =
-    let a = c .before .before .before .before .before .args in
-    type-later (a .self) (a .t) (c .before .before .before .before .if1 .left) (c .before .before .if2 .left)
-    (c .if3 .taken)
-
 returns-4 : tie.Need-returns-4
 returns-4 c =
     let a = c .before .before .before .before .before .before .args in
@@ -29,6 +17,11 @@ returns-4 c =
     (c .before .before .before .if2 .left) (c .before .if3 .left)
 
 pub with-type-spec : {M : Type 1} → statement M
-with-type-spec =
-    tie.close (tie.spec (λ c κs. search needs) returns (λ c. search needs) returns-2 returns-3 (λ c. search needs)
+with-type-spec = tie.close (tie.spec (λ c κs. search needs)
+    (λ c. let a = c .before .before .args in c .bad .ensures ∙ type-bad (a .self) (a .t) (c .before .if1 .taken))
+    (λ c. search needs)
+    (λ c. let a = c .before .before .before .args in type-scalar (a .self) (a .t) (c .before .before .if1 .left)
+    (c .if2 .taken))
+    (λ c. let a = c .before .before .before .before .before .args in type-later (a .self) (a .t)
+    (c .before .before .before .before .if1 .left) (c .before .before .if2 .left) (c .if3 .taken)) (λ c. search needs)
     returns-4)

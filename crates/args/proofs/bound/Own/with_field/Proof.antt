@@ -1,30 +1,14 @@
 -- Each test of the code is a test of the definition.
 use Rattle.args.proofs.BoundLaws.{with-other, with-one, with-three, with-none}
-use borrow.Author.Needs.{needs}
 use Rattle.args.proofs.bound.Own.with_field.Statement.{statement}
 use Rattle.args.proofs.bound.Own.with_field.Tie as tie
 
-returns : tie.Need-returns
-returns c = let a = c .before .args in with-other (a .self) (a .own) (a .number) (a .wire) (a .value) (c .if1 .taken)
-
-returns-2 : tie.Need-returns-2
-returns-2 c =
-    let a = c .before .before .args in
-    with-one (a .self) (a .own) (a .number) (a .wire) (a .value) (c .before .if1 .left) (c .if2 .taken)
-
-returns-3 : tie.Need-returns-3
-returns-3 c =
-    let a = c .before .before .before .args in
-    with-three (a .self) (a .own) (a .number) (a .wire) (a .value) (c .before .before .if1 .left)
-    (c .before .if2 .left)
-    (c .if3 .taken)
-
-returns-4 : tie.Need-returns-4
-returns-4 c =
-    let a = c .before .before .before .args in
-    with-none (a .self) (a .own) (a .number) (a .wire) (a .value) (c .before .before .if1 .left)
-    (c .before .if2 .left)
-    (c .if3 .left)
-
 pub with-field-spec : {M : Type 1} → statement M
-with-field-spec = tie.close (tie.spec returns returns-2 returns-3 returns-4)
+with-field-spec = tie.close (tie.spec
+    (λ c. let a = c .before .args in with-other (a .self) (a .own) (a .number) (a .wire) (a .value) (c .if1 .taken))
+    (λ c. let a = c .before .before .args in with-one (a .self) (a .own) (a .number) (a .wire) (a .value)
+    (c .before .if1 .left) (c .if2 .taken))
+    (λ c. let a = c .before .before .before .args in with-three (a .self) (a .own) (a .number) (a .wire) (a .value)
+    (c .before .before .if1 .left) (c .before .if2 .left) (c .if3 .taken))
+    (λ c. let a = c .before .before .before .args in with-none (a .self) (a .own) (a .number) (a .wire) (a .value)
+    (c .before .before .if1 .left) (c .before .if2 .left) (c .if3 .left)))
