@@ -15,13 +15,6 @@ use borrow.Author.Needs.{needs}
 use Rattle.message.proofs.execute.execute_from.Statement.{statement}
 use Rattle.message.proofs.execute.execute_from.Tie as tie
 
-returns : tie.Need-returns
-returns c =
-    let b = c .before .before .read-bound in
-    let a = c .before .before .before .before .args in
-    ap (executeFrom (a .s .now))
-    (run-lost (a .s .now) payload (a .n) (b .result) (b .ensures) (not-true _ (c .if1 .taken)))
-
 add-execute-of : tie.Need-add-execute-of
 add-execute-of c =
     let b = c .before .before .read-bound in
@@ -38,11 +31,8 @@ returns-2 c =
     (run-found (a .s .now) payload (a .n) (b .result) (b .ensures) (not-false _ (c .before .if1 .left)))
 
 pub execute-from-spec : {M : Type 1} → statement M
-execute-from-spec =
-    tie.close
-    (tie.spec
-    (λ c κs. search needs)
-    returns
-    add-execute-of
-    (λ c κs. search needs)
-    returns-2)
+execute-from-spec = tie.close (tie.spec (λ c κs. search needs)
+    (λ c. let b = c .before .before .read-bound in let a = c .before .before .before .before .args in ap
+    (executeFrom (a .s .now))
+    (run-lost (a .s .now) payload (a .n) (b .result) (b .ensures) (not-true _ (c .if1 .taken)))) add-execute-of
+    (λ c κs. search needs) returns-2)

@@ -3,19 +3,8 @@ use borrow.Author.Needs.{needs}
 use Rattle.message.proofs.execute.execute_of.Statement.{statement}
 use Rattle.message.proofs.execute.execute_of.Tie as tie
 
-returns : tie.Need-returns
-returns c =
-    rw (c .arguments .ensures)
-    (rw (c .before .read-truth .ensures)
-    (rw (c .before .before .read-optional .ensures)
-    (rw (c .before .before .before .low .ensures))))
-
 pub execute-of-spec : {M : Type 1} → statement M
-execute-of-spec =
-    tie.close
-    (tie.spec
+execute-of-spec = tie.close (tie.spec (λ c κs. search needs) (λ c κs. search needs) (λ c κs. search needs)
     (λ c κs. search needs)
-    (λ c κs. search needs)
-    (λ c κs. search needs)
-    (λ c κs. search needs)
-    returns)
+    (λ c. rw (c .arguments .ensures) (rw (c .before .read-truth .ensures) (rw
+    (c .before .before .read-optional .ensures) (rw (c .before .before .before .low .ensures))))))

@@ -8,27 +8,11 @@ use borrow.Author.Needs.{needs}
 use Rattle.message.proofs.execute.find_opening.Statement.{statement}
 use Rattle.message.proofs.execute.find_opening.Tie as tie
 
-returns : tie.Need-returns
-returns c =
-    let s = c .before .before .before .before .before .args .s .now in
-    open-paired s (subst (Says s) (c .before .id .given .1) (c .before .before .before .read-outer .ensures))
-
-slice-aggregate-long-opening : tie.Need-slice-aggregate-long-opening
-slice-aggregate-long-opening c = sym
-    (ap length (take-length (c .before .before .before .before .before .args .s .now)))
-
-returns-2 : tie.Need-returns-2
-returns-2 c =
-    rw (take-length (c .before .before .before .before .before .before .args .s .now)) at (c .long-opening .ensures)
-
 pub find-opening-spec : {M : Type 1} → statement M
-find-opening-spec =
-    tie.close
-    (tie.spec
+find-opening-spec = tie.close (tie.spec (λ c κs. search needs) (λ c. search needs)
+    (λ c. let s = c .before .before .before .before .before .args .s .now in open-paired s
+    (subst (Says s) (c .before .id .given .1) (c .before .before .before .read-outer .ensures))) (λ c. search needs)
+    (λ c. sym (ap length (take-length (c .before .before .before .before .before .args .s .now))))
     (λ c κs. search needs)
-    (λ c. search needs)
-    returns
-    (λ c. search needs)
-    slice-aggregate-long-opening
-    (λ c κs. search needs)
-    returns-2)
+    (λ c. rw (take-length (c .before .before .before .before .before .before .args .s .now)) at
+    (c .long-opening .ensures)))

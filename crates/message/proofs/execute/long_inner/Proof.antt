@@ -36,15 +36,5 @@ returns-3 c id rows =
     (not-false _ (c .if2 .left)) _ refl
 
 pub long-inner-spec : {M : Type 1} → statement M
-long-inner-spec =
-    tie.close
-    (tie.spec
-    (λ c κs. search needs)
-    (λ c. search needs)
-    (λ c κs. search needs)
-    returns
-    (λ c. search needs)
-    returns-2
-    (λ c. search needs)
-    (λ c. search needs)
-    returns-3)
+long-inner-spec = tie.close (tie.spec (λ c κs. search needs) (λ c. search needs) (λ c κs. search needs) returns
+    (λ c. search needs) returns-2 (λ c. search needs) (λ c. search needs) returns-3)

@@ -38,13 +38,5 @@ returns-2 c =
     (not-false _ (c .before .before .before .if1 .left))))))
 
 pub open-from-spec : {M : Type 1} → statement M
-open-from-spec =
-    tie.close
-    (tie.spec
-    (λ c κs. search needs)
-    returns
-    (λ c κs. search needs)
-    (λ c κs. search needs)
-    add-execute-of
-    (λ c κs. search needs)
-    returns-2)
+open-from-spec = tie.close (tie.spec (λ c κs. search needs) returns (λ c κs. search needs) (λ c κs. search needs)
+    add-execute-of (λ c κs. search needs) returns-2)

@@ -20,12 +20,5 @@ returns-2 c =
     ∙ c .before .before .find-execute .ensures (a .id) (optionalBy (a .has) (a .asked))
 
 pub open-inside-spec : {M : Type 1} → statement M
-open-inside-spec =
-    tie.close
-    (tie.spec
-    (λ c κs. search needs)
-    (λ c. search needs)
-    (λ c κs. search needs)
-    (λ c. search needs)
-    returns
-    returns-2)
+open-inside-spec = tie.close (tie.spec (λ c κs. search needs) (λ c. search needs) (λ c κs. search needs)
+    (λ c. search needs) returns returns-2)

@@ -14,9 +14,4 @@ returns c =
     c .execute-from .ensures ∙ ap (λ (k : ℕ). executeFrom s (executeIn s payload k)) (c .before .rest .ensures)
 
 pub read-execute-spec : {M : Type 1} → statement M
-read-execute-spec =
-    tie.close
-    (tie.spec
-    (λ c κs. search needs)
-    (λ c κs. search needs)
-    returns)
+read-execute-spec = tie.close (tie.spec (λ c κs. search needs) (λ c κs. search needs) returns)

@@ -5,25 +5,10 @@ use borrow.Author.Needs.{needs}
 use Rattle.message.proofs.execute.read_open.Statement.{statement}
 use Rattle.message.proofs.execute.read_open.Tie as tie
 
-returns : tie.Need-returns
-returns c =
-    c .open-inside .ensures
-    ∙ ap (ofOpening (c .before .before .before .before .before .before .args .s .now))
-    (sym (c .before .before .id .given .1))
-    ∙ c .before .before .before .before .find-opening .ensures
-
-returns-2 : tie.Need-returns-2
-returns-2 c =
-    ap (ofOpening (c .before .before .before .before .args .s .now)) (sym (c .enum-told .given .1))
-    ∙ c .before .before .find-opening .ensures
-
 pub read-open-spec : {M : Type 1} → statement M
-read-open-spec =
-    tie.close
-    (tie.spec
-    (λ c κs. search needs)
+read-open-spec = tie.close (tie.spec (λ c κs. search needs) (λ c. search needs) (λ c κs. search needs)
     (λ c. search needs)
-    (λ c κs. search needs)
-    (λ c. search needs)
-    returns
-    returns-2)
+    (λ c. c .open-inside .ensures ∙ ap (ofOpening (c .before .before .before .before .before .before .args .s .now))
+    (sym (c .before .before .id .given .1)) ∙ c .before .before .before .before .find-opening .ensures)
+    (λ c. ap (ofOpening (c .before .before .before .before .args .s .now)) (sym (c .enum-told .given .1)) ∙
+    c .before .before .find-opening .ensures))

@@ -20,26 +20,6 @@ slice-aggregate-nth-argument c =
     (length-take-le (a .result .end) s
     (omega (arith, ap (λ (y : Arguments). y .end) (a .ensures), w .0, w .1 .args)))
 
-returns : tie.Need-returns
-returns c =
-    let a = c .before .before .before .before .args in
-    ap (argumentIn (a .s .now) (a .index)) (sym (c .enum-told .given .1) ∙ c .before .before .read-frame .ensures)
-
-returns-2 : tie.Need-returns-2
-returns-2 c =
-    let a = c .before .before .before .before .args in
-    ap (argumentIn (a .s .now) (a .index)) (sym (c .enum-told2 .given .1) ∙ c .before .before .read-frame .ensures)
-
-returns-3 : tie.Need-returns-3
-returns-3 c =
-    let a = c .before .before .before .before .args in
-    ap (argumentIn (a .s .now) (a .index)) (sym (c .enum-told3 .given .1) ∙ c .before .before .read-frame .ensures)
-
-returns-4 : tie.Need-returns-4
-returns-4 c =
-    let a = c .before .before .before .before .args in
-    ap (argumentIn (a .s .now) (a .index)) (sym (c .enum-told4 .given .1) ∙ c .before .before .read-frame .ensures)
-
 returns-5 : tie.Need-returns-5
 returns-5 c =
     let a = c .before .before .before .before .before .before .before .before .args in
@@ -50,20 +30,13 @@ returns-5 c =
     ∙ c .before .before .before .before .before .before .read-frame .ensures)
 
 pub argument-spec : {M : Type 1} → statement M
-argument-spec =
-    tie.close
-    (tie.spec
-    (λ c κs. search needs)
-    (λ c. search needs)
-    (λ c. search needs)
-    (λ c. search needs)
-    (λ c. search needs)
-    (λ c. search needs)
-    (λ c κs. search needs)
-    slice-aggregate-nth-argument
-    (λ c κs. search needs)
-    returns
-    returns-2
-    returns-3
-    returns-4
-    returns-5)
+argument-spec = tie.close (tie.spec (λ c κs. search needs) (λ c. search needs) (λ c. search needs) (λ c. search needs)
+    (λ c. search needs) (λ c. search needs) (λ c κs. search needs) slice-aggregate-nth-argument (λ c κs. search needs)
+    (λ c. let a = c .before .before .before .before .args in ap (argumentIn (a .s .now) (a .index))
+    (sym (c .enum-told .given .1) ∙ c .before .before .read-frame .ensures))
+    (λ c. let a = c .before .before .before .before .args in ap (argumentIn (a .s .now) (a .index))
+    (sym (c .enum-told2 .given .1) ∙ c .before .before .read-frame .ensures))
+    (λ c. let a = c .before .before .before .before .args in ap (argumentIn (a .s .now) (a .index))
+    (sym (c .enum-told3 .given .1) ∙ c .before .before .read-frame .ensures))
+    (λ c. let a = c .before .before .before .before .args in ap (argumentIn (a .s .now) (a .index))
+    (sym (c .enum-told4 .given .1) ∙ c .before .before .read-frame .ensures)) returns-5)

@@ -11,16 +11,6 @@ use borrow.Author.Needs.{needs}
 use Rattle.message.proofs.frame.chosen_body.Statement.{statement}
 use Rattle.message.proofs.frame.chosen_body.Tie as tie
 
-add-end : tie.Need-add-end
-add-end c =
-    let p = c .before .chosen-part in
-    omega (arith, chosen-within (c .before .before .before .args .s .now) (p .result) (p .ensures))
-
-part-result-end : tie.Need-part-result-end
-part-result-end c =
-    let p = c .before .chosen-part in
-    omega (arith, chosen-within (c .before .before .before .args .s .now) (p .result) (p .ensures))
-
 returns : tie.Need-returns
 returns c =
     let s = c .before .before .before .before .args .s .now in
@@ -32,5 +22,9 @@ returns c =
     (bytes, (ap (λ (x : Part). (q .0, x .start + q .1)) (p .ensures), ap length bytes ∙ body-length s))
 
 pub chosen-body-spec : {M : Type 1} → statement M
-chosen-body-spec =
-    tie.close (tie.spec (λ c κs. search needs) add-end (λ c. search needs) (λ c. search needs) part-result-end returns)
+chosen-body-spec = tie.close (tie.spec (λ c κs. search needs)
+    (λ c. let p = c .before .chosen-part in omega
+    (arith, chosen-within (c .before .before .before .args .s .now) (p .result) (p .ensures))) (λ c. search needs)
+    (λ c. search needs)
+    (λ c. let p = c .before .chosen-part in omega
+    (arith, chosen-within (c .before .before .before .args .s .now) (p .result) (p .ensures))) returns)

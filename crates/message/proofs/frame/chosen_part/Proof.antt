@@ -5,36 +5,12 @@ use borrow.Author.Needs.{needs}
 use Rattle.message.proofs.frame.chosen_part.Statement.{statement}
 use Rattle.message.proofs.frame.chosen_part.Tie as tie
 
-returns : tie.Need-returns
-returns c = ap partOf (sym (c .enum-told .given .1) ∙ c .before .before .read-frame .ensures)
-
-returns-2 : tie.Need-returns-2
-returns-2 c = ap partOf (sym (c .enum-told2 .given .1) ∙ c .before .before .read-frame .ensures)
-
-returns-3 : tie.Need-returns-3
-returns-3 c = ap partOf (sym (c .enum-told3 .given .1) ∙ c .before .before .read-frame .ensures)
-
-returns-4 : tie.Need-returns-4
-returns-4 c = ap partOf (sym (c .enum-told4 .given .1) ∙ c .before .before .read-frame .ensures)
-
-returns-5 : tie.Need-returns-5
-returns-5 c =
-    c .body-of .ensures ∙ ap partOf
-    (sym (c .before .before .request .given .1) ∙ c .before .before .before .before .read-frame .ensures)
-
 pub chosen-part-spec : {M : Type 1} → statement M
-chosen-part-spec =
-    tie.close
-    (tie.spec
-    (λ c κs. search needs)
-    (λ c. search needs)
-    (λ c. search needs)
-    (λ c. search needs)
-    (λ c. search needs)
-    (λ c. search needs)
-    (λ c κs. search needs)
-    returns
-    returns-2
-    returns-3
-    returns-4
-    returns-5)
+chosen-part-spec = tie.close (tie.spec (λ c κs. search needs) (λ c. search needs) (λ c. search needs)
+    (λ c. search needs) (λ c. search needs) (λ c. search needs) (λ c κs. search needs)
+    (λ c. ap partOf (sym (c .enum-told .given .1) ∙ c .before .before .read-frame .ensures))
+    (λ c. ap partOf (sym (c .enum-told2 .given .1) ∙ c .before .before .read-frame .ensures))
+    (λ c. ap partOf (sym (c .enum-told3 .given .1) ∙ c .before .before .read-frame .ensures))
+    (λ c. ap partOf (sym (c .enum-told4 .given .1) ∙ c .before .before .read-frame .ensures))
+    (λ c. c .body-of .ensures ∙ ap partOf
+    (sym (c .before .before .request .given .1) ∙ c .before .before .before .before .read-frame .ensures)))

@@ -32,15 +32,5 @@ returns-2 c =
     (sym (c .before .before .reason .given .1) ∙ c .before .before .before .before .read-head .ensures)
 
 pub read-frame-spec : {M : Type 1} → statement M
-read-frame-spec =
-    tie.close
-    (tie.spec
-    (λ c κs. search needs)
-    (λ c. search needs)
-    slice-aggregate-read-kind
-    (λ c κs. search needs)
-    (λ c κs. search needs)
-    (λ c. search needs)
-    (λ c κs. search needs)
-    returns
-    returns-2)
+read-frame-spec = tie.close (tie.spec (λ c κs. search needs) (λ c. search needs) slice-aggregate-read-kind
+    (λ c κs. search needs) (λ c κs. search needs) (λ c. search needs) (λ c κs. search needs) returns returns-2)

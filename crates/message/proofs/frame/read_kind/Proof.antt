@@ -47,32 +47,9 @@ unfolding frameIn
 returns-8 c =
     c .read-fetch .ensures ∙ ap (frameIn (c .before .before .before .args .s .now)) (sym (c .before .match .keys8))
 
-returns-9 : tie.Need-returns-9
-returns-9 c =
-    let a = c .before .before .args in
-    let r = c .match .rest in
-    let q = r .0 .0 .0 .0 in
-    kind-unknown (a .s .now) (a .kind) (q .0 .0 .0 .1) (q .0 .0 .1) (q .0 .1) (q .1) (r .0 .0 .0 .1) (r .0 .0 .1)
-    (r .0 .1) (r .1)
-
 pub read-kind-spec : {M : Type 1} → statement M
-read-kind-spec =
-    tie.close
-    (tie.spec
-    (λ c κs. search needs)
-    (λ c κs. search needs)
-    (λ c κs. search needs)
-    (λ c κs. search needs)
-    (λ c κs. search needs)
-    (λ c κs. search needs)
-    (λ c κs. search needs)
-    (λ c κs. search needs)
-    returns
-    returns-2
-    returns-3
-    returns-4
-    returns-5
-    returns-6
-    returns-7
-    returns-8
-    returns-9)
+read-kind-spec = tie.close (tie.spec (λ c κs. search needs) (λ c κs. search needs) (λ c κs. search needs)
+    (λ c κs. search needs) (λ c κs. search needs) (λ c κs. search needs) (λ c κs. search needs) (λ c κs. search needs)
+    returns returns-2 returns-3 returns-4 returns-5 returns-6 returns-7 returns-8
+    (λ c. let a = c .before .before .args in let r = c .match .rest in let q = r .0 .0 .0 .0 in kind-unknown (a .s .now)
+    (a .kind) (q .0 .0 .0 .1) (q .0 .0 .1) (q .0 .1) (q .1) (r .0 .0 .0 .1) (r .0 .0 .1) (r .0 .1) (r .1)))

@@ -5,17 +5,6 @@ use borrow.Author.Needs.{needs}
 use Rattle.message.proofs.head.read_head.Statement.{statement}
 use Rattle.message.proofs.head.read_head.Tie as tie
 
-returns : tie.Need-returns
-returns c =
-    head-short (c .before .before .before .before .args .s .now)
-    (sym (c .enum-told .given .1) ∙ c .before .before .read-fixed32 .ensures)
-
-returns-2 : tie.Need-returns-2
-returns-2 c =
-    head-empty (c .before .before .before .before .before .before .args .s .now)
-    (sym (c .before .before .value .given .1) ∙ c .before .before .before .before .read-fixed32 .ensures)
-    (c .if1 .taken)
-
 returns-3 : tie.Need-returns-3
 returns-3 c =
     head-large (c .before .before .before .before .before .before .before .args .s .now)
@@ -37,16 +26,9 @@ returns-5 c =
     (c .before .before .if2 .left) (c .before .if3 .left)
 
 pub read-head-spec : {M : Type 1} → statement M
-read-head-spec =
-    tie.close
-    (tie.spec
-    (λ c κs. search needs)
-    (λ c. search needs)
-    (λ c. search needs)
-    returns
-    returns-2
-    returns-3
-    (λ c. search needs)
-    returns-4
-    (λ c. search needs)
-    returns-5)
+read-head-spec = tie.close (tie.spec (λ c κs. search needs) (λ c. search needs) (λ c. search needs)
+    (λ c. head-short (c .before .before .before .before .args .s .now)
+    (sym (c .enum-told .given .1) ∙ c .before .before .read-fixed32 .ensures))
+    (λ c. head-empty (c .before .before .before .before .before .before .args .s .now)
+    (sym (c .before .before .value .given .1) ∙ c .before .before .before .before .read-fixed32 .ensures)
+    (c .if1 .taken)) returns-3 (λ c. search needs) returns-4 (λ c. search needs) returns-5)

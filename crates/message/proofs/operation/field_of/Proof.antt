@@ -4,17 +4,6 @@ use Rattle.message.proofs.MessageLaws.{chosen-find, chosen-insert, chos
 use Rattle.message.proofs.operation.field_of.Statement.{statement}
 use Rattle.message.proofs.operation.field_of.Tie as tie
 
-returns : tie.Need-returns
-returns c = (chosen-find (c .before .args .t) (c .if1 .taken), omega arith)
-
-returns-2 : tie.Need-returns-2
-returns-2 c = (chosen-insert (c .before .before .args .t) (c .before .if1 .left) (c .if2 .taken), omega arith)
-
-returns-3 : tie.Need-returns-3
-returns-3 c =
-    let b = c .before in
-    (chosen-update (b .before .before .args .t) (b .before .if1 .left) (b .if2 .left) (c .if3 .taken), omega arith)
-
 returns-4 : tie.Need-returns-4
 returns-4 c = let d = c .before in let b = d .before in (
   chosen-delete (b .before .before .args .t) (b .before .if1 .left) (b .if2 .left) (d .if3 .left) (c .if4 .taken),
@@ -28,4 +17,8 @@ returns-5 c = let b = c .before .before in (
 )
 
 pub field-of-spec : {M : Type 1} → statement M
-field-of-spec = tie.close (tie.spec returns returns-2 returns-3 returns-4 returns-5)
+field-of-spec = tie.close (tie.spec (λ c. (chosen-find (c .before .args .t) (c .if1 .taken), omega arith))
+    (λ c. (chosen-insert (c .before .before .args .t) (c .before .if1 .left) (c .if2 .taken), omega arith))
+    (λ c. let b = c .before in
+    (chosen-update (b .before .before .args .t) (b .before .if1 .left) (b .if2 .left) (c .if3 .taken), omega arith))
+    returns-4 returns-5)

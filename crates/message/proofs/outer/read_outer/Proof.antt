@@ -48,25 +48,7 @@ returns-7 c =
     (omega (arith, c .before .if4 .left)))
 
 pub read-outer-spec : {M : Type 1} → statement M
-read-outer-spec =
-    tie.close
-    (tie.spec
-    (λ c κs. search needs)
-    (λ c. tt)
-    (λ c. search needs)
-    (λ c κs. search needs)
-    (λ c. search needs)
-    (λ c. search needs)
-    (λ c. tt)
-    (λ c κs. search needs)
-    returns-3
-    (λ c. search needs)
-    (λ c. tt)
-    (λ c. search needs)
-    (λ c κs. search needs)
-    (λ c. search needs)
-    (λ c. search needs)
-    (λ c. tt)
-    (λ c. tt)
-    (λ c κs. search needs)
-    returns-7)
+read-outer-spec = tie.close (tie.spec (λ c κs. search needs) (λ c. tt) (λ c. search needs) (λ c κs. search needs)
+    (λ c. search needs) (λ c. search needs) (λ c. tt) (λ c κs. search needs) returns-3 (λ c. search needs) (λ c. tt)
+    (λ c. search needs) (λ c κs. search needs) (λ c. search needs) (λ c. search needs) (λ c. tt) (λ c. tt)
+    (λ c κs. search needs) returns-7)

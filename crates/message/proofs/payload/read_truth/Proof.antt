@@ -3,11 +3,6 @@ use Rattle.message.proofs.MessageLaws.{truth-no, truth-yes}
 use Rattle.message.proofs.payload.read_truth.Statement.{statement}
 use Rattle.message.proofs.payload.read_truth.Tie as tie
 
-returns : tie.Need-returns
-returns c = truth-yes (c .before .before .args .o) (c .if1 .taken)
-
-returns-2 : tie.Need-returns-2
-returns-2 c = truth-no (c .before .before .args .o) (c .if1 .left)
-
 pub read-truth-spec : {M : Type 1} → statement M
-read-truth-spec = tie.close (tie.spec returns returns-2)
+read-truth-spec = tie.close (tie.spec (λ c. truth-yes (c .before .before .args .o) (c .if1 .taken))
+    (λ c. truth-no (c .before .before .args .o) (c .if1 .left)))

@@ -15,18 +15,6 @@ use borrow.Author.Needs.{needs}
 use Rattle.message.proofs.prepare.find_body.Statement.{statement}
 use Rattle.message.proofs.prepare.find_body.Tie as tie
 
-mul-if1 : tie.Need-mul-if1
-mul-if1 c =
-    let r = c .before .before .before in
-    let a = r .before .before .args in
-    omega (arith, named-short (a .s .now) (a .at) (a .n) (c .before .first .given .1) (r .read-pair .ensures))
-
-add-if1 : tie.Need-add-if1
-add-if1 c =
-    let r = c .before .before .before in
-    let a = r .before .before .args in
-    omega (arith, named-short (a .s .now) (a .at) (a .n) (c .before .first .given .1) (r .read-pair .ensures))
-
 returns : tie.Need-returns
 unfolding rowsOf rowFor hasRequired
 returns c id =
@@ -36,25 +24,14 @@ returns c id =
     (c .before .before .before .before .read-pair .ensures)
     (rowsOf prepareStmt) 5 50 (c .if1 .taken) (omega arith) refl refl refl)
 
-slice-aggregate-long-chosen : tie.Need-slice-aggregate-long-chosen
-slice-aggregate-long-chosen c = sym (ap length (take-length (c .before .before .before .before .args .s .now)))
-
-returns-2 : tie.Need-returns-2
-returns-2 c =
-    let a = c .before .before .before .before .before .args in
-    subst (λ (l : List ℕ). Chooses l (a .at) (a .n) (c .long-chosen .result)) (take-length (a .s .now))
-    (c .long-chosen .ensures)
-
 pub find-body-spec : {M : Type 1} → statement M
-find-body-spec =
-    tie.close
-    (tie.spec
+find-body-spec = tie.close (tie.spec (λ c κs. search needs) (λ c. search needs)
+    (λ c. let r = c .before .before .before in let a = r .before .before .args in omega
+    (arith, named-short (a .s .now) (a .at) (a .n) (c .before .first .given .1) (r .read-pair .ensures)))
+    (λ c. let r = c .before .before .before in let a = r .before .before .args in omega
+    (arith, named-short (a .s .now) (a .at) (a .n) (c .before .first .given .1) (r .read-pair .ensures))) returns
+    (λ c. search needs) (λ c. sym (ap length (take-length (c .before .before .before .before .args .s .now))))
     (λ c κs. search needs)
-    (λ c. search needs)
-    mul-if1
-    add-if1
-    returns
-    (λ c. search needs)
-    slice-aggregate-long-chosen
-    (λ c κs. search needs)
-    returns-2)
+    (λ c. let a = c .before .before .before .before .before .args in subst
+    (λ (l : List ℕ). Chooses l (a .at) (a .n) (c .long-chosen .result)) (take-length (a .s .now))
+    (c .long-chosen .ensures)))

@@ -43,11 +43,5 @@ returns-2 c =
     ∙ ap (prepareFrom (a .s .now) (a .id) (a .operation) (record { start = a .start; len = a .len })) (b .ensures)))
 
 pub prepare-from-spec : {M : Type 1} → statement M
-prepare-from-spec =
-    tie.close
-    (tie.spec
-    (λ c κs. search needs)
-    returns
-    (λ c κs. search needs)
-    (λ c κs. search needs)
+prepare-from-spec = tie.close (tie.spec (λ c κs. search needs) returns (λ c κs. search needs) (λ c κs. search needs)
     returns-2)

@@ -12,18 +12,8 @@ returns c =
     ∙ ap (ofChosen (a .s .now) (a .id)) (sym (c .before .before .operation .given .1))
     ∙ c .before .before .before .before .find-body .ensures (a .id)
 
-returns-2 : tie.Need-returns-2
-returns-2 c =
-    let a = c .before .before .before .before .args in
-    ap (ofChosen (a .s .now) (a .id)) (sym (c .enum-told .given .1)) ∙ c .before .before .find-body .ensures (a .id)
-
 pub prepare-inside-spec : {M : Type 1} → statement M
-prepare-inside-spec =
-    tie.close
-    (tie.spec
-    (λ c κs. search needs)
-    (λ c. search needs)
-    (λ c κs. search needs)
-    (λ c. search needs)
-    returns
-    returns-2)
+prepare-inside-spec = tie.close (tie.spec (λ c κs. search needs) (λ c. search needs) (λ c κs. search needs)
+    (λ c. search needs) returns
+    (λ c. let a = c .before .before .before .before .args in ap (ofChosen (a .s .now) (a .id))
+    (sym (c .enum-told .given .1)) ∙ c .before .before .find-body .ensures (a .id)))

@@ -57,20 +57,6 @@ returns-4 c =
     (held-good (f .fill-part .ensures) (not-false _ (c .before .if3 .left)))
 
 pub read-body-spec : {M : Type 1} → statement M
-read-body-spec =
-    tie.close
-    (tie.spec
-    (λ c κs. search needs)
-    (λ c κs. search needs)
-    returns
-    add-arguments
-    (λ c κs. search needs)
-    returns-2
-    (λ c κs. search needs)
-    (λ c. search needs)
-    (λ c. search needs)
-    (λ c κs. search needs)
-    (λ c κs. search needs)
-    returns-3
-    (λ c κs. search needs)
-    returns-4)
+read-body-spec = tie.close (tie.spec (λ c κs. search needs) (λ c κs. search needs) returns add-arguments
+    (λ c κs. search needs) returns-2 (λ c κs. search needs) (λ c. search needs) (λ c. search needs)
+    (λ c κs. search needs) (λ c κs. search needs) returns-3 (λ c κs. search needs) returns-4)

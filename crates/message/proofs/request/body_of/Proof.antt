@@ -5,44 +5,10 @@ use borrow.Author.Needs.{needs}
 use Rattle.message.proofs.request.body_of.Statement.{statement}
 use Rattle.message.proofs.request.body_of.Tie as tie
 
-returns : tie.Need-returns
-returns c = ap bodyOf (sym (c .enum-told .given .1))
-
-returns-2 : tie.Need-returns-2
-returns-2 c = ap bodyOf (sym (c .enum-told2 .given .1))
-
-returns-4 : tie.Need-returns-4
-returns-4 c = ap bodyOf (sym (c .enum-told3 .given .1))
-
-returns-5 : tie.Need-returns-5
-returns-5 c = ap bodyOf (sym (c .enum-told4 .given .1))
-
-returns-6 : tie.Need-returns-6
-returns-6 c = ap bodyOf (sym (c .before .before .q2 .given .1))
-
-returns-7 : tie.Need-returns-7
-returns-7 c = ap bodyOf (sym (c .enum-told5 .given .1))
-
-returns-8 : tie.Need-returns-8
-returns-8 c = ap bodyOf (sym (c .enum-told6 .given .1))
-
 pub body-of-spec : {M : Type 1} → statement M
-body-of-spec =
-    tie.close
-    (tie.spec
-    (λ c. search needs)
-    (λ c. search needs)
-    (λ c. search needs)
-    (λ c. search needs)
-    (λ c. search needs)
-    (λ c. search needs)
-    (λ c. search needs)
-    (λ c. search needs)
-    returns
-    returns-2
-    (λ c. search needs)
-    returns-4
-    returns-5
-    returns-6
-    returns-7
-    returns-8)
+body-of-spec = tie.close (tie.spec (λ c. search needs) (λ c. search needs) (λ c. search needs) (λ c. search needs)
+    (λ c. search needs) (λ c. search needs) (λ c. search needs) (λ c. search needs)
+    (λ c. ap bodyOf (sym (c .enum-told .given .1))) (λ c. ap bodyOf (sym (c .enum-told2 .given .1))) (λ c. search needs)
+    (λ c. ap bodyOf (sym (c .enum-told3 .given .1))) (λ c. ap bodyOf (sym (c .enum-told4 .given .1)))
+    (λ c. ap bodyOf (sym (c .before .before .q2 .given .1))) (λ c. ap bodyOf (sym (c .enum-told5 .given .1)))
+    (λ c. ap bodyOf (sym (c .enum-told6 .given .1))))

@@ -6,11 +6,8 @@ use borrow.Author.Needs.{needs}
 use Rattle.message.proofs.simple.is_plain.Statement.{statement}
 use Rattle.message.proofs.simple.is_plain.Tie as tie
 
-returns : tie.Need-returns
-returns c =
-    holds-whole [] (c .before .before .before .before .before .before .before .args .s .now) payload
-    (c .fill-fields .ensures) .answer
-
 pub is-plain-spec : {M : Type 1} → statement M
-is-plain-spec =
-    tie.close (tie.spec (λ c κs. search needs) (λ c. search needs) (λ c. search needs) (λ c κs. search needs) returns)
+is-plain-spec = tie.close (tie.spec (λ c κs. search needs) (λ c. search needs) (λ c. search needs)
+    (λ c κs. search needs)
+    (λ c. holds-whole [] (c .before .before .before .before .before .before .before .args .s .now) payload
+    (c .fill-fields .ensures) .answer))

@@ -30,13 +30,5 @@ returns-2 c =
     (not-false _ (c .before .if1 .left)))
 
 pub read-close-spec : {M : Type 1} → statement M
-read-close-spec =
-    tie.close
-    (tie.spec
-    (λ c κs. search needs)
-    (λ c. search needs)
-    (λ c κs. search needs)
-    returns
-    (λ c. search needs)
-    (λ c κs. search needs)
-    returns-2)
+read-close-spec = tie.close (tie.spec (λ c κs. search needs) (λ c. search needs) (λ c κs. search needs) returns
+    (λ c. search needs) (λ c κs. search needs) returns-2)

@@ -32,13 +32,5 @@ returns-2 c =
     (not-false _ (c .before .if1 .left)))
 
 pub read-deallocate-spec : {M : Type 1} → statement M
-read-deallocate-spec =
-    tie.close
-    (tie.spec
-    (λ c κs. search needs)
-    (λ c. search needs)
-    (λ c κs. search needs)
-    returns
-    (λ c. search needs)
-    (λ c κs. search needs)
-    returns-2)
+read-deallocate-spec = tie.close (tie.spec (λ c κs. search needs) (λ c. search needs) (λ c κs. search needs) returns
+    (λ c. search needs) (λ c κs. search needs) returns-2)

@@ -15,24 +15,9 @@ returns c =
     (p .before .if1 .taken) (p .read-pair .ensures) (c .before .before .if2 .taken) (c .low .result) (c .low .ensures)
     (c .before .read-optional .result) (c .before .read-optional .ensures)
 
-slice-aggregate-long-fetch : tie.Need-slice-aggregate-long-fetch
-slice-aggregate-long-fetch c =
-    let s = c .before .before .before .args .s .now in sym (ap length (take-length s))
-
-returns-2 : tie.Need-returns-2
-returns-2 c =
-    let s = c .before .before .before .before .args .s .now in c .long-fetch .ensures ∙ ap fetchFrame (take-length s)
-
 pub read-fetch-spec : {M : Type 1} → statement M
-read-fetch-spec =
-    tie.close
-    (tie.spec
-    (λ c κs. search needs)
-    (λ c. search needs)
-    (λ c κs. search needs)
-    (λ c κs. search needs)
-    returns
-    (λ c. search needs)
-    slice-aggregate-long-fetch
-    (λ c κs. search needs)
-    returns-2)
+read-fetch-spec = tie.close (tie.spec (λ c κs. search needs) (λ c. search needs) (λ c κs. search needs)
+    (λ c κs. search needs) returns (λ c. search needs)
+    (λ c. let s = c .before .before .before .args .s .now in sym (ap length (take-length s))) (λ c κs. search needs)
+    (λ c. let s = c .before .before .before .before .args .s .now in c .long-fetch .ensures ∙ ap fetchFrame
+    (take-length s)))
