@@ -4,12 +4,14 @@
 
 /* Each entry is searched once, for the refusals and for the places. */
 
+_Static_assert(MASKS(MAX_CURSORS) == 1, "endings are told in one mask");
+
 static uint64_t with_number(const Session *s, const uint32_t *numbers, uint32_t number)
 {
-    uint32_t same = 0;
+    uint64_t same = 0;
     for (int i = 0; i < MAX_CURSORS; i++)
-        same |= (uint32_t)(numbers[i] == number) << i;
-    return same & s->live_cursors;
+        same |= (uint64_t)(numbers[i] == number) << i;
+    return same & s->live_cursors[0];
 }
 
 /* Of a message with arguments, by its statement. */
@@ -94,7 +96,7 @@ static void touch(const Session *s, const Message *m, Places *at, Inspection *to
         fetch(s, m, at, look);
         break;
     default:
-        told->ends = s->live_cursors;
+        told->ends = s->live_cursors[0];
     }
 }
 
