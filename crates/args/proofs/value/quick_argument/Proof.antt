@@ -1,67 +1,33 @@
 -- By the laws on one field and on two, a short way answers what the rows do; the rest goes the long way.
-use Prim.Native.Nat.{ℕ}
 use native.Mathlib.Omega.{arith}
-use mathlib.Core.Path.{refl, sym, ap, _∙_}
-use mathlib.Core.List.{List}
+use mathlib.Core.Path.{sym, ap, _∙_}
 use lib.ListN.{length}
 use lib.Seq.{take-length}
-use Rattle.layout.specs.Table.{rowsOf, any}
-use Rattle.layout.specs.Row.{rowFor}
-use Rattle.layout.specs.Fields.{hasRequired}
-use Rattle.args.specs.Value.{ofAnyType, anyOf, argumentIn}
-use Rattle.args.proofs.PairLaws.{lone-kept, named-short, pair-bytes}
+use Rattle.args.proofs.ScalarLaws.{Held, named-fits, object-read, array-read, scalar-read, long-argument-read}
 use borrow.Author.Needs.{needs}
 use Rattle.args.proofs.value.quick_argument.Statement.{statement}
 use Rattle.args.proofs.value.quick_argument.Tie as tie
 
-returns : tie.Need-returns
-unfolding rowsOf rowFor hasRequired anyOf ofAnyType
-returns c =
-    let a = c .before .before .before .args in
-    ap (anyOf (a .s .now))
-    (lone-kept (a .s .now) (a .at) (a .n) (c .before .read-lone .ensures)
-    (rowsOf any) 2 (c .if1 .taken) (omega arith) refl)
+-- where a pair is read, the bytes hold it
+module _ (f : tie.After-first) where
+  abbrev start : tie.Start
+  start = f .before .before .before .before .before .before .before
 
-returns-2 : tie.Need-returns-2
-unfolding rowsOf rowFor hasRequired anyOf ofAnyType
-returns-2 c =
-    let a = c .before .before .before .before .args in
-    ap (anyOf (a .s .now))
-    (lone-kept (a .s .now) (a .at) (a .n) (c .before .before .read-lone .ensures)
-    (rowsOf any) 3 (c .if2 .taken) (omega arith) refl)
-
-mul-if3 : tie.Need-mul-if3
-mul-if3 c =
-    let a = c .before .before .before .before .before .before .before .before .args in
-    omega (
-      arith,
-      named-short (a .s .now) (a .at) (a .n) (c .before .first .given .1)
-          (c .before .before .before .read-pair .ensures),
-    )
-
-add-if3 : tie.Need-add-if3
-add-if3 c =
-    let a = c .before .before .before .before .before .before .before .before .args in
-    omega (
-      arith,
-      named-short (a .s .now) (a .at) (a .n) (c .before .first .given .1)
-          (c .before .before .before .read-pair .ensures),
-    )
-
-returns-3 : tie.Need-returns-3
-unfolding rowsOf rowFor hasRequired anyOf ofAnyType
-returns-3 c =
-    let a = c .before .before .before .before .before .before .before .before .before .before .args in
-    c .read-scalar .ensures
-    ∙ ap (anyOf (a .s .now))
-    (pair-bytes (a .s .now) (a .at) (a .n) (c .before .before .before .first .given .1)
-    (c .before .before .before .before .before .read-pair .ensures)
-    (rowsOf any) 1 18 (c .before .if3 .taken) (omega arith) refl refl refl)
+  held : Held (start .args .s .now) (start .args .at) (start .args .n) (f .first .given .0 .0)
+      (f .first .given .0 .1 .0) (f .first .given .0 .1 .1 .0) (f .first .given .0 .1 .1 .1 .0)
+  held = record { is = sym (f .before .before .read-pair .ensures) ∙ f .first .given .1 }
 
 pub quick-argument-spec : {M : Type 1} → statement M
-quick-argument-spec = tie.close (tie.spec (λ c κs. search needs) returns returns-2 (λ c κs. search needs)
-    (λ c. search needs) mul-if3 add-if3 (λ c κs. search needs) returns-3 (λ c. search needs)
-    (λ c. let a = c .before .before .before .before .before .before .before .args in sym
-    (ap length (take-length (a .s .now)))) (λ c κs. search needs)
-    (λ c. let a = c .before .before .before .before .before .before .before .before .args in c .read-argument .ensures ∙
-    ap (λ (l : List ℕ). argumentIn l (a .at) (a .n)) (take-length (a .s .now))))
+quick-argument-spec = tie.close (tie.spec (λ c κs. search needs)
+    (λ c. let a = c .before .before .before .args in object-read (a .s .now) (a .at) (a .n)
+    (c .before .read-lone .ensures) (c .if1 .taken))
+    (λ c. let a = c .before .before .before .before .args in array-read (a .s .now) (a .at) (a .n)
+    (c .before .before .read-lone .ensures) (c .if2 .taken)) (λ c κs. search needs) (λ c. search needs)
+    (λ c. omega (arith, named-fits (held (c .before)))) (λ c. omega (arith, named-fits (held (c .before))))
+    (λ c κs. search needs)
+    (λ c. c .read-scalar .ensures ∙ scalar-read (held (c .before .before .before)) (c .before .if3 .taken))
+    (λ c. search needs)
+    (λ c. sym (ap length (take-length (c .before .before .before .before .before .before .before .args .s .now))))
+    (λ c κs. search needs)
+    (λ c. let a = c .before .before .before .before .before .before .before .before .args in long-argument-read
+    (a .s .now) (a .at) (a .n) (c .read-argument .ensures)))
