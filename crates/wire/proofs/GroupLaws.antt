@@ -65,88 +65,94 @@ pub unended : {depth : ℕ} {s : List ℕ} {at number p : ℕ} → Skipping dept
 unended {depth} {s} {at} {number} {p} k h =
     sym (fields-end (λ n q. groupEnd (depth - 1) s q n) (k .most) s p number h) ∙ k .whole
 
-module _ {depth : ℕ} {s : List ℕ} {at number p : ℕ} (k : Skipping depth s at number p) (inside : p < length s) where
-  abbrev inner : ℕ → ℕ → Skip
-  inner n q = groupEnd (depth - 1) s q n
+-- one turn: what stands at the place is read as a tag
+pub record Turn (depth : ℕ) (s : List ℕ) (at number p : ℕ) (t : Tag) : Type 0 where
+  pub state : Skipping depth s at number p
+  pub inside : p < length s
+  pub tag : tagAt s p ≡ t
 
+abbrev inner : ℕ → List ℕ → ℕ → ℕ → Skip
+inner depth s n q = groupEnd (depth - 1) s q n
+
+module _ {depth : ℕ} {s : List ℕ} {at number p : ℕ} {t : Tag} (r : Turn depth s at number p t) where
   abbrev more : ℕ → Skip
-  more q = rest depth (k .most - 1) s q number
+  more q = rest depth (r .state .most - 1) s q number
 
-  turn : (t : Tag) → tagAt s p ≡ t → groupField inner more s number t ≡ groupEnd depth s at number
-  turn t e =
+  answers : groupField (inner depth s) more s number t ≡ groupEnd depth s at number
+  answers =
       sym
-      (unroll inner (k .most) s p number (omega (arith, k .enough))
-      ∙ ap (groupField inner more s number) e)
-      ∙ k .whole
+      (unroll (inner depth s) (r .state .most) s p number (omega (arith, r .state .enough, r .inside))
+      ∙ ap (groupField (inner depth s) more s number) (r .tag))
+      ∙ r .state .whole
 
-  pub no-tag : tagAt s p ≡ Tag.Bad → Skip.Bad ≡ groupEnd depth s at number
-  no-tag e = turn Tag.Bad e
+pub no-tag : {depth : ℕ} {s : List ℕ} {at number p : ℕ} → Turn depth s at number p Tag.Bad →
+    Skip.Bad ≡ groupEnd depth s at number
+no-tag r = answers r
 
-  module _ {n w next : ℕ} (e : tagAt s p ≡ Tag.Field n w next) where
-    pub ended : w ≡ 4 → n ≡ number → Skip.At next ≡ groupEnd depth s at number
-    ended h g = sym (simp (eq-eqb w 4 h, eq-eqb n number g)) ∙ turn (Tag.Field n w next) e
+module _ {depth : ℕ} {s : List ℕ} {at number p n w next : ℕ} (r : Turn depth s at number p (Tag.Field n w next)) where
+  pub ended : w ≡ 4 → n ≡ number → Skip.At next ≡ groupEnd depth s at number
+  ended h g = sym (simp (eq-eqb w 4 h, eq-eqb n number g)) ∙ answers r
 
-    pub misended : w ≡ 4 → (n ≡ number → ⊥) → Skip.Bad ≡ groupEnd depth s at number
-    misended h g = sym (simp (eq-eqb w 4 h, ne-eqb n number g)) ∙ turn (Tag.Field n w next) e
+  pub misended : w ≡ 4 → (n ≡ number → ⊥) → Skip.Bad ≡ groupEnd depth s at number
+  misended h g = sym (simp (eq-eqb w 4 h, ne-eqb n number g)) ∙ answers r
 
-    into : (w ≡ 4 → ⊥) → w ≡ 3 → andThen (inner n next) more ≡ groupEnd depth s at number
-    into h g = sym (simp (ne-eqb w 4 h, eq-eqb w 3 g)) ∙ turn (Tag.Field n w next) e
+  into : (w ≡ 4 → ⊥) → w ≡ 3 → andThen (inner depth s n next) (more r) ≡ groupEnd depth s at number
+  into h g = sym (simp (ne-eqb w 4 h, eq-eqb w 3 g)) ∙ answers r
 
-    over : (w ≡ 4 → ⊥) → (w ≡ 3 → ⊥) → andThen (skipValue s w next) more ≡ groupEnd depth s at number
-    over h g = sym (simp (ne-eqb w 4 h, ne-eqb w 3 g)) ∙ turn (Tag.Field n w next) e
+  over : (w ≡ 4 → ⊥) → (w ≡ 3 → ⊥) → andThen (skipValue s w next) (more r) ≡ groupEnd depth s at number
+  over h g = sym (simp (ne-eqb w 4 h, ne-eqb w 3 g)) ∙ answers r
 
-    next-past : p < next
-    next-past = tag-inside (tag-past s p)
-      where
-        tag-inside : PastTag p (length s) (tagAt s p) → p < next
-        tag-inside = rw e (λ h. h .0)
+  next-past : p < next
+  next-past = tag-inside (tag-past s p)
+    where
+      tag-inside : PastTag p (length s) (tagAt s p) → p < next
+      tag-inside = rw (r .tag) (λ h. h .0)
 
-    -- a skip from the tag's end on that answers for the group: a bad one, or the loop's next place
-    stops : (x : Skip) → andThen x more ≡ groupEnd depth s at number → x ≡ Skip.Bad →
-        Skip.Bad ≡ groupEnd depth s at number
-    stops x h b = ap (λ (y : Skip). andThen y more) (sym b) ∙ h
+  -- a skip from the tag's end on that answers for the group: a bad one, or the loop's next place
+  stops : (x : Skip) → andThen x (more r) ≡ groupEnd depth s at number → x ≡ Skip.Bad →
+      Skip.Bad ≡ groupEnd depth s at number
+  stops x h b = ap (λ (y : Skip). andThen y (more r)) (sym b) ∙ h
 
-    advances : (x : Skip) → PastSkip next (length s) x → {q : ℕ} → x ≡ Skip.At q → p < q
-    advances x h {q} b = go (rw b at h)
-      where
-        go : PastSkip next (length s) (Skip.At q) → p < q
-        go g = omega (arith, next-past)
+  advances : (x : Skip) → PastSkip next (length s) x → {q : ℕ} → x ≡ Skip.At q → p < q
+  advances x h {q} b = go (rw b at h)
+    where
+      go : PastSkip next (length s) (Skip.At q) → p < q
+      go g = omega (arith, next-past)
 
-    goes-on : (x : Skip) → andThen x more ≡ groupEnd depth s at number → PastSkip next (length s) x → {q : ℕ} →
-        x ≡ Skip.At q →
-        Skipping depth s at number q
-    goes-on x h g {q} b =
-        record {
-          deep = k .deep;
-          most = k .most - 1;
-          enough = omega (arith, k .enough, advances x g b);
-          whole = ap (λ (y : Skip). andThen y more) (sym b) ∙ h;
-        }
+  goes-on : (x : Skip) → andThen x (more r) ≡ groupEnd depth s at number → PastSkip next (length s) x → {q : ℕ} →
+      x ≡ Skip.At q →
+      Skipping depth s at number q
+  goes-on x h g {q} b =
+      record {
+        deep = r .state .deep;
+        most = r .state .most - 1;
+        enough = omega (arith, r .state .enough, advances x g b);
+        whole = ap (λ (y : Skip). andThen y (more r)) (sym b) ∙ h;
+      }
 
-    -- the field is an inner group
-    pub inner-bad : (w ≡ 4 → ⊥) → w ≡ 3 → inner n next ≡ Skip.Bad → Skip.Bad ≡ groupEnd depth s at number
-    inner-bad h g = stops (inner n next) (into h g)
+  -- the bytes lent anew are the same
+  pub group-lent : {x : Skip} → x ≡ inner depth (take (length s) s) n next → inner depth s n next ≡ x
+  group-lent e = sym (e ∙ ap (λ (l : List ℕ). inner depth l n next) (take-length s))
 
-    pub inner-past : {q : ℕ} → inner n next ≡ Skip.At q → p < q
-    inner-past = advances (inner n next) (group-past (depth - 1) s next n)
+  pub value-lent : {x : Skip} → x ≡ skipValue (take (length s) s) w next → skipValue s w next ≡ x
+  value-lent e = sym (e ∙ ap (λ (l : List ℕ). skipValue l w next) (take-length s))
 
-    pub inner-on : (w ≡ 4 → ⊥) → w ≡ 3 → {q : ℕ} → inner n next ≡ Skip.At q → Skipping depth s at number q
-    inner-on h g = goes-on (inner n next) (into h g) (group-past (depth - 1) s next n)
+  -- the field is an inner group
+  pub inner-bad : (w ≡ 4 → ⊥) → w ≡ 3 → inner depth s n next ≡ Skip.Bad → Skip.Bad ≡ groupEnd depth s at number
+  inner-bad h g = stops (inner depth s n next) (into h g)
 
-    -- the field has a value
-    pub value-bad : (w ≡ 4 → ⊥) → (w ≡ 3 → ⊥) → skipValue s w next ≡ Skip.Bad → Skip.Bad ≡ groupEnd depth s at number
-    value-bad h g = stops (skipValue s w next) (over h g)
+  pub inner-past : {q : ℕ} → inner depth s n next ≡ Skip.At q → p < q
+  inner-past = advances (inner depth s n next) (group-past (depth - 1) s next n)
 
-    pub value-past : {q : ℕ} → skipValue s w next ≡ Skip.At q → p < q
-    value-past = advances (skipValue s w next) (skip-past s w next)
+  pub inner-on : (w ≡ 4 → ⊥) → w ≡ 3 → {q : ℕ} → inner depth s n next ≡ Skip.At q → Skipping depth s at number q
+  inner-on h g = goes-on (inner depth s n next) (into h g) (group-past (depth - 1) s next n)
 
-    pub value-on : (w ≡ 4 → ⊥) → (w ≡ 3 → ⊥) → {q : ℕ} → skipValue s w next ≡ Skip.At q → Skipping depth s at number q
-    value-on h g = goes-on (skipValue s w next) (over h g) (skip-past s w next)
+  -- the field has a value
+  pub value-bad : (w ≡ 4 → ⊥) → (w ≡ 3 → ⊥) → skipValue s w next ≡ Skip.Bad → Skip.Bad ≡ groupEnd depth s at number
+  value-bad h g = stops (skipValue s w next) (over h g)
 
--- the bytes lent anew are the same
-module _ (s : List ℕ) {x : Skip} where
-  pub group-lent : (depth at n : ℕ) → x ≡ groupEnd depth (take (length s) s) at n → groupEnd depth s at n ≡ x
-  group-lent depth at n e = sym (e ∙ ap (λ (l : List ℕ). groupEnd depth l at n) (take-length s))
+  pub value-past : {q : ℕ} → skipValue s w next ≡ Skip.At q → p < q
+  value-past = advances (skipValue s w next) (skip-past s w next)
 
-  pub value-lent : (wire at : ℕ) → x ≡ skipValue (take (length s) s) wire at → skipValue s wire at ≡ x
-  value-lent wire at e = sym (e ∙ ap (λ (l : List ℕ). skipValue l wire at) (take-length s))
+  pub value-on : (w ≡ 4 → ⊥) → (w ≡ 3 → ⊥) → {q : ℕ} → skipValue s w next ≡ Skip.At q → Skipping depth s at number q
+  value-on h g = goes-on (skipValue s w next) (over h g) (skip-past s w next)

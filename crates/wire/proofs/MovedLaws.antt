@@ -23,7 +23,7 @@ use Rattle.wire.specs.declared.value.Value.{Value}
 use Rattle.wire.specs.declared.group.Skip.{Skip}
 use Rattle.wire.specs.declared.field.Field.{Field}
 use Rattle.wire.proofs.FieldLaws.{field-tagged}
-use Rattle.wire.proofs.GroupLaws.{Skipping, starts, shut, unended, no-tag, ended, misended, inner-bad}
+use Rattle.wire.proofs.GroupLaws.{Skipping, Turn, starts, shut, unended, no-tag, ended, misended, inner-bad}
 use Rattle.wire.proofs.GroupLaws.{inner-past, inner-on, value-bad, value-past, value-on}
 use Rattle.prelude.proofs.Cases.{less-or-not}
 pub use Rattle.varint.proofs.TailLaws.{Tail, tail-length, Stands, stands-length, stands-take}
@@ -152,36 +152,37 @@ module _ {s : List ℕ} {d : ℕ} {t : List ℕ} (k : Tail s d t) where
     module _ (p : ℕ) (i : p < length t) (f : Skipping depth t at number p)
         (g : Skipping depth s (d + at) number (d + p))
         (on : (q : ℕ) → p < q → Skipping depth t at number q → Skipping depth s (d + at) number (d + q) → Alike) where
-      j : d + p < length s
-      j = omega (arith, tail-length k)
+      here : (x : Tag) → tagAt t p ≡ x → Turn depth t at number p x
+      here x e = record { state = f; inside = i; tag = e }
 
-      module _ (n w next : ℕ) (e : tagAt t p ≡ Tag.Field n w next) where
-        e′ : tagAt s (d + p) ≡ Tag.Field n w (d + next)
-        e′ = tag-moved p ∙ ap (movedTag d) e
+      there : (x : Tag) → tagAt t p ≡ x → Turn depth s (d + at) number (d + p) (movedTag d x)
+      there x e = record { state = g; inside = omega (arith, tail-length k); tag = tag-moved p ∙ ap (movedTag d) e }
 
+      module _ (n w next : ℕ) (r : Turn depth t at number p (Tag.Field n w next))
+          (r′ : Turn depth s (d + at) number (d + p) (Tag.Field n w (d + next))) where
         by-number : w ≡ 4 → (b : Bool) → eqb n number ≡ b → Alike
         by-number h4 true b =
             let m = eqb-true n number b in
-            sym (ended g j e′ h4 m) ∙ ap (movedSkip d) (ended f i e h4 m)
+            sym (ended r′ h4 m) ∙ ap (movedSkip d) (ended r h4 m)
         by-number h4 false b =
             let m = eqb-false n number b in
-            sym (misended g j e′ h4 m) ∙ ap (movedSkip d) (misended f i e h4 m)
+            sym (misended r′ h4 m) ∙ ap (movedSkip d) (misended r h4 m)
 
         by-inner : (w ≡ 4 → ⊥) → w ≡ 3 → (y : Skip) → groupEnd (depth - 1) t next n ≡ y → Alike
         by-inner h4 h3 (Skip.At q) b =
             let b′ = inner next n ∙ ap (movedSkip d) b in
-            on q (inner-past f i e b) (inner-on f i e h4 h3 b) (inner-on g j e′ h4 h3 b′)
+            on q (inner-past r b) (inner-on r h4 h3 b) (inner-on r′ h4 h3 b′)
         by-inner h4 h3 Skip.Bad b =
             let b′ = inner next n ∙ ap (movedSkip d) b in
-            sym (inner-bad g j e′ h4 h3 b′) ∙ ap (movedSkip d) (inner-bad f i e h4 h3 b)
+            sym (inner-bad r′ h4 h3 b′) ∙ ap (movedSkip d) (inner-bad r h4 h3 b)
 
         by-value : (w ≡ 4 → ⊥) → (w ≡ 3 → ⊥) → (y : Skip) → skipValue t w next ≡ y → Alike
         by-value h4 h3 (Skip.At q) b =
             let b′ = skip-moved w next ∙ ap (movedSkip d) b in
-            on q (value-past f i e b) (value-on f i e h4 h3 b) (value-on g j e′ h4 h3 b′)
+            on q (value-past r b) (value-on r h4 h3 b) (value-on r′ h4 h3 b′)
         by-value h4 h3 Skip.Bad b =
             let b′ = skip-moved w next ∙ ap (movedSkip d) b in
-            sym (value-bad g j e′ h4 h3 b′) ∙ ap (movedSkip d) (value-bad f i e h4 h3 b)
+            sym (value-bad r′ h4 h3 b′) ∙ ap (movedSkip d) (value-bad r h4 h3 b)
 
         by-start : (w ≡ 4 → ⊥) → (b : Bool) → eqb w 3 ≡ b → Alike
         by-start h4 true b = by-inner h4 (eqb-true w 3 b) (groupEnd (depth - 1) t next n) refl
@@ -192,8 +193,9 @@ module _ {s : List ℕ} {d : ℕ} {t : List ℕ} (k : Tail s d t) where
         by-end false b = by-start (eqb-false w 4 b) (eqb w 3) refl
 
       by-tag : (x : Tag) → tagAt t p ≡ x → Alike
-      by-tag Tag.Bad e = sym (no-tag g j (tag-moved p ∙ ap (movedTag d) e)) ∙ ap (movedSkip d) (no-tag f i e)
-      by-tag (Tag.Field n w next) e = by-end n w next e (eqb w 4) refl
+      by-tag Tag.Bad e = sym (no-tag (there Tag.Bad e)) ∙ ap (movedSkip d) (no-tag (here Tag.Bad e))
+      by-tag (Tag.Field n w next) e =
+          by-end n w next (here (Tag.Field n w next) e) (there (Tag.Field n w next) e) (eqb w 4) refl
 
     walks : (most p : ℕ) → length t ≤ p + most → Skipping depth t at number p →
         Skipping depth s (d + at) number (d + p) → Alike

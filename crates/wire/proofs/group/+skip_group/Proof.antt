@@ -2,14 +2,14 @@
 use borrow.Author.Needs.{needs}
 use Prim.Native.Nat.{_-_}
 use native.Mathlib.Omega.{arith}
-use mathlib.Core.Path.{sym, ap, _∙_}
+use mathlib.Core.Path.{_≡_, sym, ap, _∙_}
 use lib.ListN.{length}
 use lib.Seq.{take-length}
 use Rattle.wire.specs.Group.{groupEnd}
 use native.Mathlib.Nat.{pos-of-ne-zero}
-use Rattle.wire.proofs.GroupLaws.{Skipping, shut, starts, unended, no-tag, ended, misended, inner-bad}
-use Rattle.wire.proofs.GroupLaws.{inner-past, inner-on, value-bad, value-past, value-on, group-lent}
-use Rattle.wire.proofs.GroupLaws.{value-lent}
+use Rattle.wire.specs.declared.tag.Tag.{Tag}
+use Rattle.wire.proofs.GroupLaws.{Skipping, Turn, shut, starts, unended, no-tag, ended, misended, inner-bad}
+use Rattle.wire.proofs.GroupLaws.{inner-past, inner-on, value-bad, value-past, value-on, group-lent, value-lent}
 use Prim.Native.Nat.{ℕ, _<_}
 use borrow.Fn.Kinds.{In}
 use borrow.Fn.PlainCycle.{Measures, is, falls, and}
@@ -38,8 +38,8 @@ skip-group-Inv-loop s at number depth p₀ p = Skipping depth s at number p
 abbrev skip-group-μ-loop : skip-group-lts.MeasureT-loop
 skip-group-μ-loop s at number depth p₀ p = length s - p
 
-pub +skip-group-spec : {M : Type 1} → statement M
-+skip-group-spec = close μ-skip-group λ t. skip-group-lts.spec (
+abbrev claims : ℕ → skip-group-lts.Claims
+claims t = (
   read-tag-reads.Asked,
   read-tag-reads.Learnt,
   skip-group-below t,
@@ -47,120 +47,86 @@ pub +skip-group-spec : {M : Type 1} → statement M
   skip-value-reads.Asked,
   skip-value-reads.Learnt,
 )
-    (skip-group-at t)
-    skip-group.Post
-    skip-group-Inv-loop
-    skip-group-μ-loop
+
+-- where a tag is read, it is that of a turn
+module _ (t : ℕ) where
+  abbrev Read : Type 0
+  Read =
+      skip-group-lts.After-read-tag (claims t) (skip-group-at t) skip-group.Post skip-group-Inv-loop skip-group-μ-loop
+
+  abbrev Tagged : Type 0
+  Tagged = skip-group-lts.After-n (claims t) (skip-group-at t) skip-group.Post skip-group-Inv-loop skip-group-μ-loop
+
+  abbrev given : Read → skip-group-lts.Start (claims t) (skip-group-at t) skip-group.Post skip-group-Inv-loop
+      skip-group-μ-loop
+  given x = x .before .before .before .before .before
+
+  read : (x : Read) {g : Tag} → x .read-tag .result ≡ g →
+      Turn (given x .args .depth) (given x .args .s .now) (given x .args .at) (given x .args .number)
+      (x .before .before .loop .p) g
+  read x e =
+      record {
+        state = x .before .before .loop .inv;
+        inside = x .before .loop-test .taken;
+        tag = sym (x .read-tag .ensures) ∙ e;
+      }
+
+  turn : (f : Tagged) →
+      let a = given (f .before .before) .args in
+      Turn (a .depth) (a .s .now) (a .at) (a .number) (f .before .before .before .before .loop .p)
+      (Tag.Field (f .n .given .0 .0) (f .n .given .0 .1 .0) (f .n .given .0 .1 .1 .0))
+  turn f = read (f .before .before) (f .n .given .1)
+
+pub +skip-group-spec : {M : Type 1} → statement M
++skip-group-spec = close μ-skip-group λ t. skip-group-lts.spec (claims t) (skip-group-at t) skip-group.Post
+    skip-group-Inv-loop skip-group-μ-loop
     (λ c. let a = c .before .before .args in
     sym (shut (a .s .now) (a .at) (a .number)) ∙ ap (λ (d : ℕ). groupEnd d (a .s .now) (a .at) (a .number))
     (sym (c .if1 .taken)))
-    (λ c. starts _ _ _ _ (pos-of-ne-zero (c .if1 .left)))
-    (λ c κs. tt)
-    (λ c. search needs)
-    (λ c. search needs)
-    (λ c. no-tag (c .before .before .before .before .loop .inv) (c .before .before .before .loop-test .taken)
-    (sym (c .before .before .read-tag .ensures) ∙ c .enum-told .given .1))
-    (λ c. ended (c .before .before .before .before .before .before .before .loop .inv)
-    (c .before .before .before .before .before .before .loop-test .taken)
-    (sym (c .before .before .before .before .before .read-tag .ensures) ∙ c .before .before .before .n .given .1)
-    (c .before .if2 .taken) (c .if3 .taken))
-    (λ c. misended (c .before .before .before .before .before .before .before .loop .inv)
-    (c .before .before .before .before .before .before .loop-test .taken)
-    (sym (c .before .before .before .before .before .read-tag .ensures) ∙ c .before .before .before .n .given .1)
-    (c .before .if2 .taken) (c .if3 .left))
-    (λ c. sym (ap length (take-length
-    (c .before .before .before .before .before .before .before .before .before .before .before .args .s .now))))
-    (λ c. (c .before .before .before .before .before .before .before .before .loop .inv) .deep)
+    (λ c. starts _ _ _ _ (pos-of-ne-zero (c .if1 .left))) (λ c κs. tt) (λ c. search needs) (λ c. search needs)
+    (λ c. no-tag (read t (c .before .before) (c .enum-told .given .1)))
+    (λ c. ended (turn t (c .before .before .before)) (c .before .if2 .taken) (c .if3 .taken))
+    (λ c. misended (turn t (c .before .before .before)) (c .before .if2 .taken) (c .if3 .left))
+    (λ c. sym (ap length (take-length (given t (c .before .before .before .before .before .before) .args .s .now))))
+    (λ c. turn t (c .before .before .before .before) .state .deep)
     (λ c κs. (
       omega (
         arith,
-        c .before .before .before .before .before .before .before .before .before .before .before
-            .pre .0,
-        (c .before .before .before .before .before .before .before .before .loop .inv) .deep,
+        given t (c .before .before .before .before .before .before) .pre .0,
+        turn t (c .before .before .before .before) .state .deep,
       ),
       tt,
     ))
     (λ c. search needs)
     (λ c. search needs)
-    (λ c. inner-bad (c .before .before .before .before .before .before .before .before .before .before .before .loop
-    .inv) (c .before .before .before .before .before .before .before .before .before .before .loop-test .taken)
-    (sym (c .before .before .before .before .before .before .before .before .before .read-tag .ensures)
-    ∙ c .before .before .before .before .before .before .before .n .given .1)
-    (c .before .before .before .before .before .if2 .left) (c .before .before .before .before .if4 .taken)
-    (group-lent (c .before .before .before .before .before .before .before .before .before .before .before .before
-    .before .before .args .s .now)
-    (c .before .before .before .before .before .before .before .before .before .before .before .before .before
-    .before .args .depth - 1) (c .before .before .before .before .before .before .before .n .given .0 .1 .1 .0)
-    (c .before .before .before .before .before .before .before .n .given .0 .0)
-    (c .before .before .skip-group .ensures) ∙ c .enum-told2 .given .1))
-    (λ c. omega (
+    (λ c. let r = turn t (c .before .before .before .before .before .before .before) in
+    inner-bad r (c .before .before .before .before .before .if2 .left) (c .before .before .before .before .if4 .taken)
+    (group-lent r (c .before .before .skip-group .ensures) ∙ c .enum-told2 .given .1))
+    (λ c. let r = turn t (c .before .before .before .before .before .before .before .before) in
+    omega (
       arith,
-      c .before .before .before .before .before .before .before .before .before .before .before .loop-test .taken,
-      inner-past (c .before .before .before .before .before .before .before .before .before .before .before .before
-          .loop .inv) (c .before .before .before .before .before .before .before .before .before .before .before
-          .loop-test .taken)
-          (sym (c .before .before .before .before .before .before .before .before .before .before .read-tag .ensures)
-          ∙ c .before .before .before .before .before .before .before .before .n .given .1)
-          (group-lent (c .before .before .before .before .before .before .before .before .before .before .before
-          .before .before .before .before .args .s .now)
-          (c .before .before .before .before .before .before .before .before .before .before .before .before .before
-          .before .before .args .depth - 1)
-          (c .before .before .before .before .before .before .before .before .n .given .0 .1 .1 .0)
-          (c .before .before .before .before .before .before .before .before .n .given .0 .0)
-          (c .before .before .before .skip-group .ensures) ∙ c .before .q .given .1),
+      r .inside,
+      inner-past r
+          (group-lent r (c .before .before .before .skip-group .ensures) ∙ c .before .q .given .1),
     ))
-    (λ c. inner-on (c .before .before .before .before .before .before .before .before .before .before .before .before
-    .loop .inv) (c .before .before .before .before .before .before .before .before .before .before .before .loop-test
-    .taken)
-    (sym (c .before .before .before .before .before .before .before .before .before .before .read-tag .ensures)
-    ∙ c .before .before .before .before .before .before .before .before .n .given .1)
-    (c .before .before .before .before .before .before .if2 .left)
+    (λ c. let r = turn t (c .before .before .before .before .before .before .before .before) in
+    inner-on r (c .before .before .before .before .before .before .if2 .left)
     (c .before .before .before .before .before .if4 .taken)
-    (group-lent (c .before .before .before .before .before .before .before .before .before .before .before .before
-    .before .before .before .args .s .now)
-    (c .before .before .before .before .before .before .before .before .before .before .before .before .before
-    .before .before .args .depth - 1)
-    (c .before .before .before .before .before .before .before .before .n .given .0 .1 .1 .0)
-    (c .before .before .before .before .before .before .before .before .n .given .0 .0)
-    (c .before .before .before .skip-group .ensures) ∙ c .before .q .given .1))
-    (λ c. sym (ap length (take-length
-    (c .before .before .before .before .before .before .before .before .before .before .before .args .s .now))))
-    (λ c κs. tt)
-    (λ c. search needs)
-    (λ c. search needs)
-    (λ c. value-bad (c .before .before .before .before .before .before .before .before .before .before .before .loop
-    .inv) (c .before .before .before .before .before .before .before .before .before .before .loop-test .taken)
-    (sym (c .before .before .before .before .before .before .before .before .before .read-tag .ensures)
-    ∙ c .before .before .before .before .before .before .before .n .given .1)
-    (c .before .before .before .before .before .if2 .left) (c .before .before .before .before .if4 .left)
-    (value-lent (c .before .before .before .before .before .before .before .before .before .before .before .before
-    .before .before .args .s .now) (c .before .before .before .before .before .before .before .n .given .0 .1 .0)
-    (c .before .before .before .before .before .before .before .n .given .0 .1 .1 .0)
-    (c .before .before .skip-value .ensures) ∙ c .enum-told3 .given .1))
-    (λ c. omega (
+    (group-lent r (c .before .before .before .skip-group .ensures) ∙ c .before .q .given .1))
+    (λ c. sym (ap length (take-length (given t (c .before .before .before .before .before .before) .args .s .now))))
+    (λ c κs. tt) (λ c. search needs) (λ c. search needs)
+    (λ c. let r = turn t (c .before .before .before .before .before .before .before) in
+    value-bad r (c .before .before .before .before .before .if2 .left) (c .before .before .before .before .if4 .left)
+    (value-lent r (c .before .before .skip-value .ensures) ∙ c .enum-told3 .given .1))
+    (λ c. let r = turn t (c .before .before .before .before .before .before .before .before) in
+    omega (
       arith,
-      c .before .before .before .before .before .before .before .before .before .before .before .loop-test .taken,
-      value-past (c .before .before .before .before .before .before .before .before .before .before .before .before
-          .loop .inv) (c .before .before .before .before .before .before .before .before .before .before .before
-          .loop-test .taken)
-          (sym (c .before .before .before .before .before .before .before .before .before .before .read-tag .ensures)
-          ∙ c .before .before .before .before .before .before .before .before .n .given .1)
-          (value-lent (c .before .before .before .before .before .before .before .before .before .before .before
-          .before .before .before .before .args .s .now)
-          (c .before .before .before .before .before .before .before .before .n .given .0 .1 .0)
-          (c .before .before .before .before .before .before .before .before .n .given .0 .1 .1 .0)
-          (c .before .before .before .skip-value .ensures) ∙ c .before .q2 .given .1),
+      r .inside,
+      value-past r
+          (value-lent r (c .before .before .before .skip-value .ensures) ∙ c .before .q2 .given .1),
     ))
-    (λ c. value-on (c .before .before .before .before .before .before .before .before .before .before .before .before
-    .loop .inv) (c .before .before .before .before .before .before .before .before .before .before .before .loop-test
-    .taken)
-    (sym (c .before .before .before .before .before .before .before .before .before .before .read-tag .ensures)
-    ∙ c .before .before .before .before .before .before .before .before .n .given .1)
-    (c .before .before .before .before .before .before .if2 .left)
+    (λ c. let r = turn t (c .before .before .before .before .before .before .before .before) in
+    value-on r (c .before .before .before .before .before .before .if2 .left)
     (c .before .before .before .before .before .if4 .left)
-    (value-lent (c .before .before .before .before .before .before .before .before .before .before .before .before
-    .before .before .before .args .s .now)
-    (c .before .before .before .before .before .before .before .before .n .given .0 .1 .0)
-    (c .before .before .before .before .before .before .before .before .n .given .0 .1 .1 .0)
-    (c .before .before .before .skip-value .ensures) ∙ c .before .q2 .given .1))
+    (value-lent r (c .before .before .before .skip-value .ensures) ∙ c .before .q2 .given .1))
     (λ c. unended (c .before .loop .inv) (c .loop-test .left))
