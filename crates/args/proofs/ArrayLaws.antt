@@ -16,12 +16,16 @@ use Rattle.args.specs.Value.{argumentIn}
 use Rattle.args.proofs.ValueLaws.{bytes-bad, scalar-bad, any-bad}
 
 -- a value that is present by its array
-pub present-seen : (seen : List Bool) (k : ℕ) (a : Argument) →
+present-seen : (seen : List Bool) (k : ℕ) (a : Argument) →
     cond (getD seen k false) a bad ≡ present (getD (map once seen) k 0) a
 present-seen [] k a = refl
 present-seen (true ∷ l) zero a = refl
 present-seen (false ∷ l) zero a = refl
 present-seen (b ∷ l) (suc k) a = present-seen l k a
+
+pub seen-needed : (seen : List Bool) (k : ℕ) {r v a : Argument} → r ≡ cond (getD seen k false) v bad → v ≡ a →
+    r ≡ present (getD (map once seen) k 0) a
+seen-needed seen k {a = a} p e = p ∙ ap (λ (v : Argument). cond (getD seen k false) v bad) e ∙ present-seen seen k a
 
 -- arrays that hold a good message
 pub arrays-good : {x : Slots} {g : Bool} {v : List Bool} {w u : List ℕ} → Holds x g v w u → g ≡ true →
