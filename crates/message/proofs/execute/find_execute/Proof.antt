@@ -1,5 +1,5 @@
 -- Two short fields are read by their bytes alone, to the slots that the rows give; anything else goes the long way.
-use Prim.Native.Nat.{ℕ}
+use Prim.Native.Nat.{ℕ, _+_, _*_, _^_, _<_}
 use native.Mathlib.Omega.{arith}
 use mathlib.Core.Path.{refl, sym, ap, subst}
 use mathlib.Core.List.{List}
@@ -15,6 +15,11 @@ use borrow.Author.Needs.{needs}
 use Rattle.message.proofs.execute.find_execute.Statement.{statement}
 use Rattle.message.proofs.execute.find_execute.Tie as tie
 
+-- the type and the tag in one number
+fits : (f : tie.After-first) → f .first .given .0 .0 * 256 + f .first .given .0 .1 .0 < 2 ^ 16
+fits f = let r = f .before .before in let a = r .before .before .args in
+    named-short (a .s .now) (a .at) (a .n) (f .first .given .1) (r .read-pair .ensures)
+
 returns : tie.Need-returns
 unfolding rowsOf rowFor hasRequired
 returns c id rows =
@@ -26,11 +31,7 @@ returns c id rows =
 
 pub find-execute-spec : {M : Type 1} → statement M
 find-execute-spec = tie.close (tie.spec (λ c κs. search needs) (λ c. search needs)
-    (λ c. let r = c .before .before .before in let a = r .before .before .args in omega
-    (arith, named-short (a .s .now) (a .at) (a .n) (c .before .first .given .1) (r .read-pair .ensures)))
-    (λ c. let r = c .before .before .before in let a = r .before .before .args in omega
-    (arith, named-short (a .s .now) (a .at) (a .n) (c .before .first .given .1) (r .read-pair .ensures))) returns
-    (λ c. search needs) (λ c. sym (ap length (take-length (c .before .before .before .before .args .s .now))))
-    (λ c κs. search needs)
+    (λ c. omega (arith, fits (c .before))) (λ c. omega (arith, fits (c .before))) returns (λ c. search needs)
+    (λ c. sym (ap length (take-length (c .before .before .before .before .args .s .now)))) (λ c κs. search needs)
     (λ c. let a = c .before .before .before .before .before .args in subst
     (λ (l : List ℕ). Runs l (a .at) (a .n) (c .long-inner .result)) (take-length (a .s .now)) (c .long-inner .ensures)))

@@ -9,17 +9,10 @@ use borrow.Author.Needs.{needs}
 use Rattle.message.proofs.simple.read_reset.Statement.{statement}
 use Rattle.message.proofs.simple.read_reset.Tie as tie
 
-returns : tie.Need-returns
-unfolding resetFrame
-returns c =
-    payload-bad (c .before .before .before .args .s .now) Client.reset Request.Reset
-    (sym (c .before .is-plain .ensures) ∙ not-true _ (c .if1 .taken))
-
-returns-2 : tie.Need-returns-2
-unfolding resetFrame
-returns-2 c =
-    payload-good (c .before .before .before .args .s .now) Client.reset Request.Reset
-    (sym (c .before .is-plain .ensures) ∙ not-false _ (c .if1 .left))
-
 pub read-reset-spec : {M : Type 1} → statement M
-read-reset-spec = tie.close (tie.spec (λ c κs. search needs) returns returns-2)
+unfolding resetFrame
+read-reset-spec = tie.close (tie.spec (λ c κs. search needs)
+    (λ c. payload-bad (c .before .before .before .args .s .now) Client.reset Request.Reset
+    (sym (c .before .is-plain .ensures) ∙ not-true _ (c .if1 .taken)))
+    (λ c. payload-good (c .before .before .before .args .s .now) Client.reset Request.Reset
+    (sym (c .before .is-plain .ensures) ∙ not-false _ (c .if1 .left))))

@@ -9,17 +9,10 @@ use borrow.Author.Needs.{needs}
 use Rattle.message.proofs.simple.read_session_close.Statement.{statement}
 use Rattle.message.proofs.simple.read_session_close.Tie as tie
 
-returns : tie.Need-returns
-unfolding sessionCloseFrame
-returns c =
-    payload-bad (c .before .before .before .args .s .now) Client.sessionClose Request.SessionClose
-    (sym (c .before .is-plain .ensures) ∙ not-true _ (c .if1 .taken))
-
-returns-2 : tie.Need-returns-2
-unfolding sessionCloseFrame
-returns-2 c =
-    payload-good (c .before .before .before .args .s .now) Client.sessionClose Request.SessionClose
-    (sym (c .before .is-plain .ensures) ∙ not-false _ (c .if1 .left))
-
 pub read-session-close-spec : {M : Type 1} → statement M
-read-session-close-spec = tie.close (tie.spec (λ c κs. search needs) returns returns-2)
+unfolding sessionCloseFrame
+read-session-close-spec = tie.close (tie.spec (λ c κs. search needs)
+    (λ c. payload-bad (c .before .before .before .args .s .now) Client.sessionClose Request.SessionClose
+    (sym (c .before .is-plain .ensures) ∙ not-true _ (c .if1 .taken)))
+    (λ c. payload-good (c .before .before .before .args .s .now) Client.sessionClose Request.SessionClose
+    (sym (c .before .is-plain .ensures) ∙ not-false _ (c .if1 .left))))
