@@ -132,7 +132,7 @@ fn seek_place(s: &[u8], at: usize) -> ArgPlace
             start,
             len,
             next,
-        } = wire::field::read_field(s, p)
+        } = wire::field::long_field(s, p)
         else {
             return ArgPlace::Bad;
         };
@@ -181,7 +181,7 @@ pub fn next_argument(s: &[u8], at: usize) -> NextArgument
 {
     match next_place(s, at) {
         ArgPlace::At { start, len, next } => NextArgument::Found {
-            value: crate::value::quick_argument(s, start, len),
+            value: crate::value::read_argument(s, start, len),
             next,
         },
         ArgPlace::End => NextArgument::End,

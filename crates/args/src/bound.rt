@@ -28,6 +28,20 @@ pub struct Bound {
     pub hasthree: bool,
 }
 
+// The message in `n` bytes of s from `at` on.
+pub fn read_bound(s: &[u8], at: usize, n: usize, text: bool) -> Bound
+    ensures { λ r. ⌜ r ≡ boundIn text (now (s .entry)) at n ⌝ }
+{
+    if s.len() < at {
+        return bad_bound();
+    }
+    if s.len() - at < n {
+        return bad_bound();
+    }
+    let end = at + n;
+    bound_at(&s[..end], at, text)
+}
+
 // A message that is not good, and so has no field 1, which is required.
 fn bad_bound() -> Bound
     ensures { λ r. ⌜ r ≡ badBound ⌝ }
@@ -78,7 +92,7 @@ fn field_at(s: &[u8], at: usize) -> Field
             return wire::field::valued(ARGS, BYTES, wire::value::length_value(s, at + 1));
         }
     }
-    wire::field::read_field(&s[..n], at)
+    wire::field::long_field(&s[..n], at)
 }
 
 impl Own {
@@ -155,20 +169,6 @@ fn bound_at(s: &[u8], from: usize, text: bool) -> Bound
         }
     }
     bound_of(k, x)
-}
-
-// The message in `n` bytes of s from `at` on.
-pub fn read_bound(s: &[u8], at: usize, n: usize, text: bool) -> Bound
-    ensures { λ r. ⌜ r ≡ boundIn text (now (s .entry)) at n ⌝ }
-{
-    if s.len() < at {
-        return bad_bound();
-    }
-    if s.len() - at < n {
-        return bad_bound();
-    }
-    let end = at + n;
-    bound_at(&s[..end], at, text)
 }
 
 impl Bound {

@@ -1,21 +1,38 @@
 // For the short ways: the type of an Any or a Scalar and the tag of its value in one number.
 use protocol::anys;
 use protocol::scalars;
+use protocol::wire_type;
 
 // A Scalar's type times 256, and the tag of the value that the type names.
-pub(crate) const SINT_KEY: u64 = scalars::SINT * 256 + 0x10;
+pub(crate) const SINT_KEY: u64 = scalars::SINT * 256
+    + scalars::SINT_FIELD as u64 * 8
+    + wire_type::VARINT;
 
-pub(crate) const UINT_KEY: u64 = scalars::UINT * 256 + 0x18;
+pub(crate) const UINT_KEY: u64 = scalars::UINT * 256
+    + scalars::UINT_FIELD as u64 * 8
+    + wire_type::VARINT;
 
-pub(crate) const OCTETS_KEY: u64 = scalars::OCTETS * 256 + 0x2a;
+pub(crate) const OCTETS_KEY: u64 = scalars::OCTETS * 256
+    + scalars::OCTETS_FIELD as u64 * 8
+    + wire_type::LEN;
 
-pub(crate) const DOUBLE_KEY: u64 = scalars::DOUBLE * 256 + 0x31;
+pub(crate) const DOUBLE_KEY: u64 = scalars::DOUBLE * 256
+    + scalars::DOUBLE_FIELD as u64 * 8
+    + wire_type::I64;
 
-pub(crate) const FLOAT_KEY: u64 = scalars::FLOAT * 256 + 0x3d;
+pub(crate) const FLOAT_KEY: u64 = scalars::FLOAT * 256
+    + scalars::FLOAT_FIELD as u64 * 8
+    + wire_type::I32;
 
-pub(crate) const BOOL_KEY: u64 = scalars::BOOL * 256 + 0x40;
+pub(crate) const BOOL_KEY: u64 = scalars::BOOL * 256
+    + scalars::BOOL_FIELD as u64 * 8
+    + wire_type::VARINT;
 
-pub(crate) const STRING_KEY: u64 = scalars::STRING * 256 + 0x4a;
+pub(crate) const STRING_KEY: u64 = scalars::STRING * 256
+    + scalars::STRING_FIELD as u64 * 8
+    + wire_type::LEN;
 
 // The same for an Any with its scalar.
-pub(crate) const SCALAR_KEY: u64 = anys::SCALAR * 256 + 0x12;
+pub(crate) const SCALAR_KEY: u64 = anys::SCALAR * 256
+    + anys::SCALAR_FIELD as u64 * 8
+    + wire_type::LEN;

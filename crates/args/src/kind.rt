@@ -9,6 +9,31 @@ use crate::pair::Pair;
 use protocol::anys;
 use protocol::scalars;
 
+// The Any type of the argument whose Any stands in `n` bytes of s from `at` on; 0 for a bad one.
+pub fn argument_type(s: &[u8], at: usize, n: usize) -> u64
+    ensures { λ r. ⌜ r ≡ anyTypeOf (argumentIn (now (s .entry)) at n) ⌝ }
+{
+    let all = s.len();
+    let alone = crate::pair::read_lone(s, at, n);
+    if alone == anys::OBJECT {
+        return anys::OBJECT;
+    }
+    if alone == anys::ARRAY {
+        return anys::ARRAY;
+    }
+    if let Pair::Two {
+        first,
+        tag,
+        value,
+        start,
+    } = crate::pair::read_pair(s, at, n) {
+        if first * 256 + tag == keys::SCALAR_KEY {
+            return scalar_type(s, start, value as usize);
+        }
+    }
+    any_type(crate::value::long_argument(&s[..all], at, n))
+}
+
 // The Any type of the Scalar in `n` bytes of s from `at` on: 1, or 0 for a bad one. As read_scalar reads it, but its
 // value is not put together.
 fn scalar_type(s: &[u8], at: usize, n: usize) -> u64
@@ -47,29 +72,4 @@ fn scalar_type(s: &[u8], at: usize, n: usize) -> u64
         }
     }
     any_type(crate::value::long_scalar(&s[..all], at, n))
-}
-
-// The Any type of the argument whose Any stands in `n` bytes of s from `at` on; 0 for a bad one.
-pub fn argument_type(s: &[u8], at: usize, n: usize) -> u64
-    ensures { λ r. ⌜ r ≡ anyTypeOf (argumentIn (now (s .entry)) at n) ⌝ }
-{
-    let all = s.len();
-    let alone = crate::pair::read_lone(s, at, n);
-    if alone == anys::OBJECT {
-        return anys::OBJECT;
-    }
-    if alone == anys::ARRAY {
-        return anys::ARRAY;
-    }
-    if let Pair::Two {
-        first,
-        tag,
-        value,
-        start,
-    } = crate::pair::read_pair(s, at, n) {
-        if first * 256 + tag == keys::SCALAR_KEY {
-            return scalar_type(s, start, value as usize);
-        }
-    }
-    any_type(crate::value::read_argument(&s[..all], at, n))
 }

@@ -6,6 +6,7 @@ ghost use mathlib.Core.Path.{_≡_};
 ghost use Rattle.wire.specs.Value.{valueAt};
 ghost use Rattle.args.specs.private.Pair.{loneIn, pairAt, pairIn, pairOf, textAt, textIn, textOf};
 use protocol::wire_type;
+use varint::wide;
 use wire::value::Value;
 
 // Two fields that fill the message: number 1, a varint of one byte with the value `first`; and one whose tag is the
@@ -28,13 +29,6 @@ const LONE_BYTES: usize = 2;
 
 // What is answered where there is no such field alone. No message's type is 0.
 const NOT_ALONE: u64 = 0;
-
-// A cast of a byte that asks nothing.
-fn wide(b: u8) -> u64
-    ensures { λ r. ⌜ r ≡ b ⌝ }
-{
-    b as u64
-}
 
 // A value, with a short way for a number or a length of one byte.
 fn value_at(s: &[u8], wire: u64, at: usize) -> Value

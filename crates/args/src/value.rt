@@ -11,6 +11,46 @@ use protocol::reason;
 use protocol::scalars;
 use scalar::argument::Argument;
 
+// The argument whose Any stands in `n` bytes of s from `at` on, with the short ways for an Any of one field, its type,
+// and of two, its type and its scalar. For its one caller, into which it is inlined; others go the long way.
+pub fn read_argument(s: &[u8], at: usize, n: usize) -> Argument
+    ensures { λ r. ⌜ r ≡ argumentIn (now (s .entry)) at n ⌝ }
+{
+    let all = s.len();
+    let alone = crate::pair::read_lone(s, at, n);
+    if alone == anys::OBJECT {
+        return Argument::Object;
+    }
+    if alone == anys::ARRAY {
+        return Argument::Array;
+    }
+    if let Pair::Two {
+        first,
+        tag,
+        value,
+        start,
+    } = crate::pair::read_pair(s, at, n) {
+        if first * 256 + tag == keys::SCALAR_KEY {
+            return read_scalar(s, start, value as usize);
+        }
+    }
+    long_argument(&s[..all], at, n)
+}
+
+// The long way, by the rows.
+pub fn long_argument(s: &[u8], at: usize, n: usize) -> Argument
+    ensures { λ r. ⌜ r ≡ argumentIn (now (s .entry)) at n ⌝ }
+{
+    let rows = layout::rows::any_rows();
+    let mut seen = [false; 10];
+    let mut values = [0; 10];
+    let mut starts = [0; 10];
+    if !crate::part::fill_part(&rows, s, at, n, &mut seen, &mut values, &mut starts) {
+        return Argument::Refused(reason::BAD_PAYLOAD);
+    }
+    any_value(s, &seen, &values, &starts)
+}
+
 // The named value must be present.
 fn needed(has: bool, a: Argument) -> Argument
     ensures { λ r. ⌜ r ≡ cond has a bad ⌝ }
@@ -108,20 +148,6 @@ fn any_value(s: &[u8], seen: &[bool; 10], values: &[u64; 10], starts: &[usize; 1
     }
 }
 
-// The argument whose Any stands in `n` bytes of s from `at` on.
-pub fn read_argument(s: &[u8], at: usize, n: usize) -> Argument
-    ensures { λ r. ⌜ r ≡ argumentIn (now (s .entry)) at n ⌝ }
-{
-    let rows = layout::rows::any_rows();
-    let mut seen = [false; 10];
-    let mut values = [0; 10];
-    let mut starts = [0; 10];
-    if !crate::part::fill_part(&rows, s, at, n, &mut seen, &mut values, &mut starts) {
-        return Argument::Refused(reason::BAD_PAYLOAD);
-    }
-    any_value(s, &seen, &values, &starts)
-}
-
 // The Scalar, with the short ways for a Scalar of one field and of two. The slice is lent anew to what is
 // not inlined, so that the short ways keep it in registers.
 fn read_scalar(s: &[u8], at: usize, n: usize) -> Argument
@@ -152,30 +178,4 @@ fn read_scalar(s: &[u8], at: usize, n: usize) -> Argument
         }
     }
     long_scalar(&s[..all], at, n)
-}
-
-// The same as read_argument, with the short ways for an Any of one field, its type, and of two, its type and its
-// scalar.
-pub fn quick_argument(s: &[u8], at: usize, n: usize) -> Argument
-    ensures { λ r. ⌜ r ≡ argumentIn (now (s .entry)) at n ⌝ }
-{
-    let all = s.len();
-    let alone = crate::pair::read_lone(s, at, n);
-    if alone == anys::OBJECT {
-        return Argument::Object;
-    }
-    if alone == anys::ARRAY {
-        return Argument::Array;
-    }
-    if let Pair::Two {
-        first,
-        tag,
-        value,
-        start,
-    } = crate::pair::read_pair(s, at, n) {
-        if first * 256 + tag == keys::SCALAR_KEY {
-            return read_scalar(s, start, value as usize);
-        }
-    }
-    read_argument(&s[..all], at, n)
 }

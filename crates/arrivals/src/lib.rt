@@ -15,6 +15,7 @@ use streams::NextFrame;
 use streams::Pushed;
 use streams::Reader;
 use streams::STORE;
+use varint::wide;
 
 mod room;
 
@@ -41,13 +42,6 @@ pub fn next_frame(reader: Reader, store: &[u8; STORE]) -> NextFrame
     ensures size { λ r. ⌜ length (now (store .entry)) ≡ storeSize ⌝ }
 {
     next_in(reader, store)
-}
-
-// A cast of a byte that asks nothing.
-fn wide(b: u8) -> u64
-    ensures { λ r. ⌜ r ≡ b ⌝ }
-{
-    b as u64
 }
 
 // What stands first, by its reason: a whole frame, neither, a bad length.

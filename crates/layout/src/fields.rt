@@ -75,7 +75,7 @@ fn list_fields(
             start,
             len: _,
             next,
-        } = wire::field::quick_field(s, p)
+        } = wire::field::read_field(s, p)
         else {
             return false;
         };

@@ -9,13 +9,7 @@ use args::part::Part;
 use protocol::client;
 use protocol::reason;
 use scalar::argument::Argument;
-
-// A cast that asks nothing.
-fn wide(b: u8) -> u64
-    ensures { λ r. ⌜ r ≡ b ⌝ }
-{
-    b as u64
-}
+use varint::wide;
 
 // The frame s, whole and with nothing behind it, by its message type.
 fn read_kind(s: &[u8], kind: u64) -> Frame

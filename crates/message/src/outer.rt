@@ -4,6 +4,7 @@ ghost use mathlib.Core.Path.{_≡_};
 ghost use Rattle.message.specs.declared.outer.Outer.the-variants.{Fields};
 ghost use Rattle.message.specs.private.Outer.{Begins, Says};
 use crate::payload::PAYLOAD;
+use varint::wide;
 use wire::value::Value;
 
 // The cursor id, where the statement stands, and whether fetch_rows is there and what it is. Other: the long way reads
@@ -25,13 +26,6 @@ const CURSOR_TAG: u8 = 8;
 const STMT_TAG: u8 = 34;
 
 const ROWS_TAG: u8 = 40;
-
-// A cast of a byte that asks nothing.
-fn wide(b: u8) -> u64
-    ensures { λ r. ⌜ r ≡ b ⌝ }
-{
-    b as u64
-}
 
 // What no cursor id of one byte is.
 const NO_ID: u64 = 128;

@@ -71,7 +71,7 @@ fn prepare_from(s: &[u8], id: u64, operation: u64, start: usize, len: usize) -> 
         (bodyIn (now (s .entry)) operation start len)
         ⌝ }
 {
-    let args = quick_body(s, operation, start, len);
+    let args = read_body(s, operation, start, len);
     if !args.good {
         return Frame::BadPayload {
             used: s.len(),
@@ -193,8 +193,8 @@ fn find_body(s: &[u8], at: usize, n: usize) -> Chosen
     long_chosen(&s[..all], at, n)
 }
 
-// The arguments of a body of this type in `n` bytes of s from `at` on; bad ones where the body is.
-pub fn read_body(s: &[u8], operation: u64, at: usize, n: usize) -> Arguments
+// The long way, in one pass or by the rows.
+pub fn long_body(s: &[u8], operation: u64, at: usize, n: usize) -> Arguments
     ensures { λ r. ⌜ r ≡ bodyIn (now (s .entry)) operation at n ⌝ }
 {
     if operation == operation::STMT_EXECUTE {
@@ -215,8 +215,9 @@ pub fn read_body(s: &[u8], operation: u64, at: usize, n: usize) -> Arguments
     Arguments::none(0, 0)
 }
 
-// With a short way for a StmtExecute of its text alone, as most are.
-fn quick_body(s: &[u8], operation: u64, at: usize, n: usize) -> Arguments
+// The arguments of a body of this type in `n` bytes of s from `at` on, bad ones where the body is; with a short way for a
+// StmtExecute of its text alone, as most are.
+fn read_body(s: &[u8], operation: u64, at: usize, n: usize) -> Arguments
     ensures { λ r. ⌜ r ≡ bodyIn (now (s .entry)) operation at n ⌝ }
 {
     let all = s.len();
@@ -225,6 +226,6 @@ fn quick_body(s: &[u8], operation: u64, at: usize, n: usize) -> Arguments
             return Arguments::none(at, at + n);
         }
     }
-    let args = read_body(&s[..all], operation, at, n);
+    let args = long_body(&s[..all], operation, at, n);
     args.same()
 }

@@ -6,3 +6,6 @@ pub const SCALAR: u64 = 1;
 pub const OBJECT: u64 = 2;
 
 pub const ARRAY: u64 = 3;
+
+// The field of an Any that holds its scalar.
+pub const SCALAR_FIELD: u32 = 2;

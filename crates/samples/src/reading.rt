@@ -44,7 +44,7 @@ fn print_fields(s: &[u8]) {
     let mut left = s.len();
     while left > 0 {
         left -= 1;
-        match wire::field::read_field(s, p) {
+        match wire::field::long_field(s, p) {
             Field::Good {
                 number,
                 wire,

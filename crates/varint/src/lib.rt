@@ -9,8 +9,8 @@ pub enum Varint {
     Bad,
 }
 
-// A cast of a byte that asks nothing.
-fn wide(b: u8) -> u64
+// A byte as a number; a cast in a place of its own asks nothing of its caller.
+pub fn wide(b: u8) -> u64
     ensures { λ r. ⌜ r ≡ b ⌝ }
 {
     b as u64

@@ -5,6 +5,7 @@ use crate::group::Skip;
 use crate::tag::Tag;
 use crate::value::Value;
 use protocol::wire_type;
+use varint::wide;
 
 // How many groups may stand one in another.
 const MAX_DEPTH: u64 = 32;
@@ -20,6 +21,51 @@ pub enum Field {
         next: usize,
     },
     Bad,
+}
+
+// The field at a place, with a short way for a tag of one byte and a varint or bytes behind it, as most fields have. For
+// its one caller, into which it is inlined; others go the long way.
+pub fn read_field(s: &[u8], at: usize) -> Field
+    ensures { λ r. ⌜ r ≡ fieldAt (now (s .entry)) at ⌝ }
+{
+    let n = s.len();
+    if n <= at {
+        return Field::Bad;
+    }
+    let tag = wide(s[at]);
+    if tag < 8 {
+        return Field::Bad;
+    }
+    if tag < 128 {
+        let wire = tag % 8;
+        if wire == wire_type::VARINT {
+            return valued(
+                tag / 8,
+                wire_type::VARINT,
+                crate::value::number_value(s, at + 1),
+            );
+        }
+        if wire == wire_type::LEN {
+            return valued(
+                tag / 8,
+                wire_type::LEN,
+                crate::value::length_value(s, at + 1),
+            );
+        }
+    }
+    long_field(&s[..n], at)
+}
+
+// The long way, of any tag. Each call is lent the slice anew: one that is handed on whole is copied right after it was
+// written in two parts, for which a processor waits.
+pub fn long_field(s: &[u8], at: usize) -> Field
+    ensures { λ r. ⌜ r ≡ fieldAt (now (s .entry)) at ⌝ }
+{
+    let n = s.len();
+    match crate::tag::read_tag(&s[..n], at) {
+        Tag::Field { number, wire, next } => tagged(&s[..n], number, wire, next),
+        Tag::Bad => Field::Bad,
+    }
 }
 
 // The field of a value that was read.
@@ -64,55 +110,4 @@ fn tagged(s: &[u8], n: u64, wire: u64, at: usize) -> Field
         return valued(n, wire_type::VARINT, crate::value::number_value(s, at));
     }
     valued(n, wire, crate::value::read_value(s, wire, at))
-}
-
-// Each call is lent the slice anew: one that is handed on whole is copied right after it was written in two parts, for
-// which a processor waits.
-pub fn read_field(s: &[u8], at: usize) -> Field
-    ensures { λ r. ⌜ r ≡ fieldAt (now (s .entry)) at ⌝ }
-{
-    let n = s.len();
-    match crate::tag::read_tag(&s[..n], at) {
-        Tag::Field { number, wire, next } => tagged(&s[..n], number, wire, next),
-        Tag::Bad => Field::Bad,
-    }
-}
-
-// A cast of a byte that asks nothing.
-fn wide(b: u8) -> u64
-    ensures { λ r. ⌜ r ≡ b ⌝ }
-{
-    b as u64
-}
-
-// The same, with a short way for a tag of one byte and wire type 0 or 2, as most fields have.
-pub fn quick_field(s: &[u8], at: usize) -> Field
-    ensures { λ r. ⌜ r ≡ fieldAt (now (s .entry)) at ⌝ }
-{
-    let n = s.len();
-    if n <= at {
-        return Field::Bad;
-    }
-    let tag = wide(s[at]);
-    if tag < 8 {
-        return Field::Bad;
-    }
-    if tag < 128 {
-        let wire = tag % 8;
-        if wire == wire_type::VARINT {
-            return valued(
-                tag / 8,
-                wire_type::VARINT,
-                crate::value::number_value(s, at + 1),
-            );
-        }
-        if wire == wire_type::LEN {
-            return valued(
-                tag / 8,
-                wire_type::LEN,
-                crate::value::length_value(s, at + 1),
-            );
-        }
-    }
-    read_field(&s[..n], at)
 }

@@ -2,6 +2,7 @@
 ghost use mathlib.Core.Path.{_≡_};
 ghost use Rattle.wire.specs.Tag.{tagAt};
 use varint::Varint;
+use varint::wide;
 
 // What stands at a place: a field number, a wire type and the place behind the tag, or no tag.
 pub enum Tag {
@@ -32,13 +33,6 @@ fn long_tag(s: &[u8], at: usize) -> Tag
             }
         }
     }
-}
-
-// A cast of a byte that asks nothing.
-fn wide(b: u8) -> u64
-    ensures { λ r. ⌜ r ≡ b ⌝ }
-{
-    b as u64
 }
 
 // With a short way for a tag of one byte. The slice is lent anew to the long way, so that the short one keeps its place

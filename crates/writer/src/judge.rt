@@ -20,7 +20,7 @@ fn is_stretch(s: &[u8]) -> bool
             start,
             len,
             next,
-        } = wire::field::read_field(s, p)
+        } = wire::field::long_field(s, p)
         else {
             return false;
         };
@@ -30,7 +30,7 @@ fn is_stretch(s: &[u8]) -> bool
         if wire != wire_type::LEN {
             return false;
         }
-        let a = args::value::read_argument(s, start, len);
+        let a = args::value::long_argument(s, start, len);
         if args::arguments::any_type(a) == 0 {
             return false;
         }
@@ -60,7 +60,7 @@ fn is_prepare(operation: u64, body: &[u8]) -> bool
     if !is_type(operation) {
         return false;
     }
-    let b = message::prepare::read_body(body, operation, 0, body.len());
+    let b = message::prepare::long_body(body, operation, 0, body.len());
     b.good
 }
 

@@ -10,7 +10,7 @@ use Rattle.args.proofs.arguments.next_argument.Tie as tie
 returns : tie.Need-returns
 returns c =
     let a = c .before .before .before .before .before .before .args in
-    ap (λ x. NextArgument.Found x (c .before .before .start .given .0 .1 .1 .0)) (c .quick-argument .ensures)
+    ap (λ x. NextArgument.Found x (c .before .before .start .given .0 .1 .1 .0)) (c .read-argument .ensures)
     ∙ next-placed (a .s .now) (a .at) _ (sym (c .before .before .start .given .1)
     ∙ c .before .before .before .before .next-place .ensures)
 

@@ -21,5 +21,5 @@ pub field-at-spec : {M : Type 1} → statement M
 field-at-spec = tie.close (tie.spec (λ c. search needs) (λ c. search needs) (λ c κs. search needs)
     (λ c κs. search needs) returns (λ c. sym (ap length (take-length (c .before .before .before .args .s .now))))
     (λ c κs. search needs)
-    (λ c. let a = c .before .before .before .before .args in c .read-field .ensures ∙ ap
+    (λ c. let a = c .before .before .before .before .args in c .long-field .ensures ∙ ap
     (λ (l : List ℕ). fieldAt l (a .at)) (take-length (a .s .now))))

@@ -32,4 +32,4 @@ argument-type-spec = tie.close (tie.spec (λ c κs. search needs)
     (λ c κs. search needs) (λ c κs. search needs)
     (λ c. let a = c .before .before .before .before .before .before .before .before .before .args in
     c .any-type .ensures ∙ ap anyTypeOf
-    (long-argument-read (a .s .now) (a .at) (a .n) (c .before .read-argument .ensures))))
+    (long-argument-read (a .s .now) (a .at) (a .n) (c .before .long-argument .ensures))))

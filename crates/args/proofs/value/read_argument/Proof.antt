@@ -1,27 +1,33 @@
--- `args::value::read_argument` meets its contract: the arrays hold the fields of the Any. Assumes nothing.
-use mathlib.Core.Path.{_∙_}
-use borrow.Author.Tests.{not-true, not-false}
-use Rattle.args.proofs.ArrayLaws.{any-held, any-refused}
+-- By the laws on one field and on two, a short way answers what the rows do; the rest goes the long way.
+use native.Mathlib.Omega.{arith}
+use mathlib.Core.Path.{sym, ap, _∙_}
+use lib.ListN.{length}
+use lib.Seq.{take-length}
+use Rattle.args.proofs.ScalarLaws.{Held, named-fits, object-read, array-read, scalar-read, long-argument-read}
 use borrow.Author.Needs.{needs}
 use Rattle.args.proofs.value.read_argument.Statement.{statement}
 use Rattle.args.proofs.value.read_argument.Tie as tie
 
-returns : tie.Need-returns
-returns c =
-    let r = c .before .before .before .before .before .before in
-    let a = r .before .before .args in
-    any-refused (a .s .now) (a .at) (a .n) (rw (r .any-rows .ensures) at (c .before .fill-part .ensures))
-    (not-true _ (c .if1 .taken))
+-- where a pair is read, the bytes hold it
+module _ (f : tie.After-first) where
+  abbrev start : tie.Start
+  start = f .before .before .before .before .before .before .before
 
-returns-2 : tie.Need-returns-2
-returns-2 c =
-    let e = c .before .before .before .before in
-    let r = e .before .before .before .before .before .before in
-    let a = r .before .before .args in
-    c .any-value .ensures
-    ∙ any-held (a .s .now) (a .at) (a .n) (rw (r .any-rows .ensures) at (e .before .fill-part .ensures))
-    (not-false _ (e .if1 .left))
+  held : Held (start .args .s .now) (start .args .at) (start .args .n) (f .first .given .0 .0)
+      (f .first .given .0 .1 .0) (f .first .given .0 .1 .1 .0) (f .first .given .0 .1 .1 .1 .0)
+  held = record { is = sym (f .before .before .read-pair .ensures) ∙ f .first .given .1 }
 
 pub read-argument-spec : {M : Type 1} → statement M
-read-argument-spec = tie.close (tie.spec (λ c κs. search needs) (λ c. search needs) (λ c κs. search needs) returns
-    (λ c κs. search needs) returns-2)
+read-argument-spec = tie.close (tie.spec (λ c κs. search needs)
+    (λ c. let a = c .before .before .before .args in object-read (a .s .now) (a .at) (a .n)
+    (c .before .read-lone .ensures) (c .if1 .taken))
+    (λ c. let a = c .before .before .before .before .args in array-read (a .s .now) (a .at) (a .n)
+    (c .before .before .read-lone .ensures) (c .if2 .taken)) (λ c κs. search needs) (λ c. search needs)
+    (λ c. omega (arith, named-fits (held (c .before)))) (λ c. omega (arith, named-fits (held (c .before))))
+    (λ c κs. search needs)
+    (λ c. c .read-scalar .ensures ∙ scalar-read (held (c .before .before .before)) (c .before .if3 .taken))
+    (λ c. search needs)
+    (λ c. sym (ap length (take-length (c .before .before .before .before .before .before .before .args .s .now))))
+    (λ c κs. search needs)
+    (λ c. let a = c .before .before .before .before .before .before .before .before .args in long-argument-read
+    (a .s .now) (a .at) (a .n) (c .long-argument .ensures)))

@@ -37,7 +37,7 @@ onward : (f : tie.After-number Inv-loop μ-loop) →
     < length (f .before .before .before .before .before .before .args .s .now))
 onward f =
     let t = f .before .before .before in (
-      ahead (t .before .loop .inv) (t .loop-test .taken) (sym (f .before .before .quick-field .ensures)
+      ahead (t .before .loop .inv) (t .loop-test .taken) (sym (f .before .before .read-field .ensures)
           ∙ f .number .given .1),
       t .loop-test .taken,
     )
@@ -47,21 +47,21 @@ list-fields-spec = tie.close (tie.spec Inv-loop μ-loop
     (λ c. let a = c .before .args in filling (a .rows .now) (a .s .now) (a .from) (c .before .pre)) (λ c κs. tt)
     (λ c. search needs) (λ c. search needs)
     (λ c. spoiled (c .before .before .before .before .loop .inv) (c .before .before .before .loop-test .taken)
-    (sym (c .before .before .quick-field .ensures) ∙ c .enum-told .given .1))
+    (sym (c .before .before .read-field .ensures) ∙ c .enum-told .given .1))
     (λ c κs. field-number (c .before .before .before .before .before .before .before .args .s .now) _
-    (sym (c .before .before .before .quick-field .ensures) ∙ c .before .number .given .1)) (λ c. search needs)
+    (sym (c .before .before .before .read-field .ensures) ∙ c .before .number .given .1)) (λ c. search needs)
     (λ c. search needs) (λ c. counted-in c) (λ c. search needs) (λ c. kept-in c) (λ c. omega (arith, kept-in c))
     (λ c. kept-in c) (λ c. omega (arith, kept-in c)) (λ c. kept-in c)
     (λ c. let w = onward (c .before .before .before .before) in omega (arith, w .0, w .1))
     (λ c. let f = c .before .before .before .before in fills-unknown (f .before .before .before .before .loop .inv)
-    (f .before .before .before .loop-test .taken) (sym (f .before .before .quick-field .ensures) ∙ f .number .given .1)
+    (f .before .before .before .loop-test .taken) (sym (f .before .before .read-field .ensures) ∙ f .number .given .1)
     (sym (c .enum-told2 .given .1) ∙ c .before .before .use-of .ensures))
     (λ c. let w = onward (c .before .before .before .before) in omega (arith, w .0, w .1))
     (λ c. let f = c .before .before .before .before in fills-counted (f .before .before .before .before .loop .inv)
-    (f .before .before .before .loop-test .taken) (sym (f .before .before .quick-field .ensures) ∙ f .number .given .1)
+    (f .before .before .before .loop-test .taken) (sym (f .before .before .read-field .ensures) ∙ f .number .given .1)
     (sym (c .enum-told3 .given .1) ∙ c .before .before .use-of .ensures))
     (λ c. let w = onward (c .before .before .before .before) in omega (arith, w .0, w .1))
     (λ c. let f = c .before .before .before .before in fills-kept (f .before .before .before .before .loop .inv)
-    (f .before .before .before .loop-test .taken) (sym (f .before .before .quick-field .ensures) ∙ f .number .given .1)
+    (f .before .before .before .loop-test .taken) (sym (f .before .before .read-field .ensures) ∙ f .number .given .1)
     (sym (c .enum-told4 .given .1) ∙ c .before .before .use-of .ensures))
     (λ c. filled (c .before .loop .inv) (c .loop-test .left)))

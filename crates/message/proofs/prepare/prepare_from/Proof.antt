@@ -12,7 +12,7 @@ use Rattle.message.proofs.prepare.prepare_from.Tie as tie
 
 returns : tie.Need-returns
 returns c =
-    let b = c .before .before .quick-body in
+    let b = c .before .before .read-body in
     let a = c .before .before .before .before .args in
     payload-bad (a .s .now) Client.prepare
     (Request.Prepare
@@ -27,7 +27,7 @@ returns c =
 
 returns-2 : tie.Need-returns-2
 returns-2 c =
-    let b = c .before .before .before .before .quick-body in
+    let b = c .before .before .before .before .read-body in
     let a = c .before .before .before .before .before .before .args in
     rw (c .same .ensures)
     (rw (c .before .low .ensures)

@@ -1,62 +1,31 @@
--- A StmtExecute's arguments are found in one pass; of any other body the answer alone counts.
+-- A text alone is a body without arguments; anything else goes the long way.
+use Prim.Native.Nat.{ℕ}
 use native.Mathlib.Omega.{arith}
-use mathlib.Core.Bool.{true}
-use mathlib.Core.Path.{refl, _∙_}
-use mathlib.Core.List.{[]}
-use borrow.Author.Tests.{not-true, not-false}
-use Rattle.layout.proofs.ArrayLaws.{held-good}
-use Rattle.args.specs.Part.{embedded}
-use Rattle.args.proofs.BoundLaws.{bound-found}
-use Rattle.message.proofs.MessageLaws.{body-list-bad, body-list}
-use Rattle.message.proofs.BoundLaws.{body-lost, body-found}
+use mathlib.Core.Path.{sym, ap, _∙_}
+use mathlib.Core.List.{List}
+use lib.ListN.{length}
+use lib.Seq.{take-length}
+use Rattle.args.proofs.TextLaws.{told}
+use Rattle.message.specs.Prepare.{bodyIn}
+use Rattle.message.proofs.BoundLaws.{body-text}
 use borrow.Author.Needs.{needs}
 use Rattle.message.proofs.prepare.read_body.Statement.{statement}
 use Rattle.message.proofs.prepare.read_body.Tie as tie
 
 returns : tie.Need-returns
 returns c =
-    let b = c .before .before .before .read-bound in
-    let a = c .before .before .before .before .before .before .args in
-    c .bad .ensures
-    ∙ body-lost (a .s .now) (a .operation) (a .at) (a .n) (c .before .before .before .before .if1 .taken) (b .result)
-    (b .ensures)
-    (not-true _ (c .before .if2 .taken))
-
-add-arguments : tie.Need-add-arguments
-add-arguments c =
-    let b = c .before .before .read-bound in
-    let a = c .before .before .before .before .before .args in
-    let f = bound-found true (a .s .now) (a .at) (a .n) (b .result) (b .ensures) (not-false _ (c .if2 .left)) in
-    record { fits = omega (arith, f .inside) }
-
-returns-2 : tie.Need-returns-2
-returns-2 c =
-    let b = c .before .before .before .read-bound in
-    let a = c .before .before .before .before .before .before .args in
-    c .arguments .ensures
-    ∙ body-found (a .s .now) (a .operation) (a .at) (a .n) (c .before .before .before .before .if1 .taken)
-    (b .result) (b .ensures)
-    (not-false _ (c .before .if2 .left))
-
-returns-3 : tie.Need-returns-3
-returns-3 c =
-    let f = c .before .before in
-    let a = f .before .before .before .before .before .before .before .before .args in
-    c .bad2 .ensures
-    ∙ body-list-bad (a .s .now) (a .operation) (a .at) (a .n) (embedded [] (a .s .now) (a .at) (a .n))
-    (f .before .before .before .before .before .before .if1 .left) refl
-    (held-good (f .fill-part .ensures) (not-true _ (c .before .if3 .taken)))
-
-returns-4 : tie.Need-returns-4
-returns-4 c =
-    let f = c .before .before in
-    let a = f .before .before .before .before .before .before .before .before .args in
+    let t = c .before .before .before in
+    let a = t .before .before .before .args in
     c .none .ensures
-    ∙ body-list (a .s .now) (a .operation) (a .at) (a .n) (embedded [] (a .s .now) (a .at) (a .n))
-    (f .before .before .before .before .before .before .if1 .left) refl
-    (held-good (f .fill-part .ensures) (not-false _ (c .before .if3 .left)))
+    ∙ body-text (a .s .now) (a .operation) (a .at) (a .n) (t .before .if1 .taken) (c .before .enum-told .given .1)
+    (t .read-text .ensures)
 
 pub read-body-spec : {M : Type 1} → statement M
-read-body-spec = tie.close (tie.spec (λ c κs. search needs) (λ c κs. search needs) returns add-arguments
-    (λ c κs. search needs) returns-2 (λ c κs. search needs) (λ c. search needs) (λ c. search needs)
-    (λ c κs. search needs) (λ c κs. search needs) returns-3 (λ c κs. search needs) returns-4)
+read-body-spec = tie.close (tie.spec (λ c κs. search needs) (λ c. search needs)
+    (λ c. let t = c .before .before in let a = t .before .before .before .args in let x = told (a .s .now) (a .at)
+    (a .n) (c .enum-told .given .1) (t .read-text .ensures) in record { fits = omega (arith, x .0) })
+    (λ c κs. search needs) returns (λ c. search needs)
+    (λ c. sym (ap length (take-length (c .before .before .before .args .s .now)))) (λ c κs. search needs)
+    (λ c κs. search needs)
+    (λ c. let a = c .before .before .before .before .before .args in c .same .ensures ∙ c .before .long-body .ensures ∙
+    ap (λ (l : List ℕ). bodyIn l (a .operation) (a .at) (a .n)) (take-length (a .s .now))))

@@ -12,7 +12,7 @@ use Rattle.writer.proofs.judge.is_prepare.Tie as tie
 returns-2 : tie.Need-returns-2
 returns-2 c =
     let a = c .before .before .before .before .args in
-    ap (λ (x : Arguments). x .good) (c .read-body .ensures)
+    ap (λ (x : Arguments). x .good) (c .long-body .ensures)
     ∙ yes (goodBody (a .operation) (a .body .now)) false
     (sym (c .before .before .is-type .ensures) ∙ not-false _ (c .before .if1 .left))
 
