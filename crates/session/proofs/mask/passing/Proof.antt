@@ -1,4 +1,5 @@
--- The bits of the places from here on; a turn puts the one before in front. Assumes nothing.
+-- The bits of the places from here on; a turn puts the one before in front. A table of 64 places fits a
+-- number of 64 bits. Assumes nothing.
 use native.Mathlib.Omega.{arith}
 use mathlib.Core.Bool.{cond}
 use mathlib.Core.Path.{ap, _∙_}
@@ -25,12 +26,12 @@ sub-i c = omega arith
 mul-mask : tie.Need-mul-mask Inv-loop μ-loop
 mul-mask c =
     let l = c .before .loop .inv in
-    omega (arith, few-bits l 15 (omega (arith, c .loop-test .taken)))
+    omega (arith, few-bits l 63 (omega (arith, c .loop-test .taken)))
 
 add-mask : tie.Need-add-mask Inv-loop μ-loop
 add-mask c =
     let t = c .before .before in
-    omega (arith, c .bit .ensures .1, few-bits (t .before .loop .inv) 15 (omega (arith, t .loop-test .taken)))
+    omega (arith, c .bit .ensures .1, few-bits (t .before .loop .inv) 63 (omega (arith, t .loop-test .taken)))
 
 loop-again : tie.Need-loop-again Inv-loop μ-loop
 loop-again c =
