@@ -21,8 +21,9 @@
  * to (a session, a reply, a buffer, a store) must not overlap anything else that is handed in.
  *
  * A session is memory of yours, which a step changes in place. Every bit pattern is a session: no function
- * trusts what it finds there. But what FetchDone stands for is promised only of a session that came from
- * karramotx_fresh and was changed by karramotx_step alone.
+ * trusts what it finds there. But what FetchDone stands for, and that the cursors which an inspection tells as
+ * ended are gone after the step, is promised only of a session that came from karramotx_fresh and was changed by
+ * karramotx_step alone.
  *
  * Sizes are those of x86-64.
  */
@@ -435,7 +436,7 @@ struct karramotx_value karramotx_next_argument(const uint8_t *frame, size_t end,
 
 /*
  * Look and message from one reading, and what the frame touches in the tables, so that a host reads a frame twice
- * in all: here and in the step. Keep what is yours of a statement or a cursor, as a plan or a result, in arrays of
+ * in all, here and in the step; walking its arguments goes over their bytes once more. Keep what is yours of a statement or a cursor, as a plan or a result, in arrays of
  * KARRAMOTX_MAX_STMTS and KARRAMOTX_MAX_CURSORS places, each at the entry's own place. After a step that answers
  * reason 0:
  *

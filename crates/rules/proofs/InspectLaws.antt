@@ -121,6 +121,31 @@ module _ {A : Type 0} (d : A) where
       go (Place.At i) f g = ap p (set-there xs i x (room i (taken p free d xs i f))) ∙ e
       go Place.Nothing f g = absurd (true≢false g)
 
+  -- where an entry is put, what was live has its id: it stands at the id's own place, or at a free one
+  over-own : (p live free : A → Bool) → ((x : A) → p x ≡ true → live x ≡ p x) →
+      ((x : A) → free x ≡ true → live x ≡ p x) → (xs : List A) (n : ℕ) →
+      noPlace (orPlace (first p xs 0) (first free xs 0)) ≡ false →
+      let x = getD xs (indexOf n (orPlace (first p xs 0) (first free xs 0))) d in live x ≡ p x
+  over-own p live free f g xs n h = go (orPlace (first p xs 0) (first free xs 0)) refl h
+    where
+      there : (i : ℕ) → Taken p free d xs i → live (getD xs i d) ≡ p (getD xs i d)
+      there i (own l) = f (getD xs i d) (l .passing)
+      there i (new l none) = g (getD xs i d) (l .passing)
+
+      go : (at : Place) → orPlace (first p xs 0) (first free xs 0) ≡ at → noPlace at ≡ false →
+          live (getD xs (indexOf n at) d) ≡ p (getD xs (indexOf n at) d)
+      go (Place.At i) e k = there i (taken p free d xs i e)
+      go Place.Nothing e k = absurd (true≢false k)
+
+-- an entry that passes is live, a free one is not and does not pass
+both-hold : (b q : Bool) → b && q ≡ true → b ≡ b && q
+both-hold true q e = sym e
+both-hold false q e = refl
+
+neither : (b q : Bool) → not b ≡ true → b ≡ b && q
+neither true q e = absurd (false≢true e)
+neither false q e = refl
+
 -- ---- the bits
 
 no-bit : (i : ℕ) → bit 0 i ≡ false
@@ -267,6 +292,8 @@ standing s Reset r l =
       cursor = λ e. absurd (false≢true e);
       prepared = λ e. absurd (false≢true e);
       opened = λ e. absurd (false≢true e);
+      overStmt = λ e. absurd (false≢true e);
+      overCursor = λ e. absurd (false≢true e);
     }
 standing s SessionClose r l =
     record {
@@ -274,6 +301,8 @@ standing s SessionClose r l =
       cursor = λ e. absurd (false≢true e);
       prepared = λ e. absurd (false≢true e);
       opened = λ e. absurd (false≢true e);
+      overStmt = λ e. absurd (false≢true e);
+      overCursor = λ e. absurd (false≢true e);
     }
 standing s (Prepare p) r l =
     record {
@@ -284,6 +313,11 @@ standing s (Prepare p) r l =
           (eq-eqb (p .stmt) (p .stmt) refl)
           (s .stmts) noStmtPlace (l .stmtPlaced);
       opened = λ e. absurd (false≢true e);
+      overStmt = λ _.
+          over-own noStmt (isStmt (p .stmt)) isLiveStmt freeStmt
+          (λ t. both-hold (isLiveStmt t) (eqb (t .id) (p .stmt)))
+          (λ t. neither (isLiveStmt t) (eqb (t .id) (p .stmt))) (s .stmts) noStmtPlace (l .stmtPlaced);
+      overCursor = λ e. absurd (false≢true e);
     }
 standing s (Execute x) r l =
     record {
@@ -291,6 +325,8 @@ standing s (Execute x) r l =
       cursor = λ e. absurd (false≢true e);
       prepared = λ e. absurd (false≢true e);
       opened = λ e. absurd (false≢true e);
+      overStmt = λ e. absurd (false≢true e);
+      overCursor = λ e. absurd (false≢true e);
     }
 standing s (Deallocate stmt) r l =
     record {
@@ -298,6 +334,8 @@ standing s (Deallocate stmt) r l =
       cursor = λ e. absurd (false≢true e);
       prepared = λ e. absurd (false≢true e);
       opened = λ e. absurd (false≢true e);
+      overStmt = λ e. absurd (false≢true e);
+      overCursor = λ e. absurd (false≢true e);
     }
 standing s (Open o) r l =
     record {
@@ -308,6 +346,11 @@ standing s (Open o) r l =
           put-stands noCursor (isCursor (o .cursor)) freeCursor
           (newCursor (o .cursor) (o .execute .stmt) (r .rows) (rowCount s (Open o) r))
           (eq-eqb (o .cursor) (o .cursor) refl) (s .cursors) noCursorPlace (l .cursorPlaced);
+      overStmt = λ e. absurd (false≢true e);
+      overCursor = λ _.
+          over-own noCursor (isCursor (o .cursor)) isLiveCursor freeCursor
+          (λ c. both-hold (isLiveCursor c) (eqb (c .id) (o .cursor)))
+          (λ c. neither (isLiveCursor c) (eqb (c .id) (o .cursor))) (s .cursors) noCursorPlace (l .cursorPlaced);
     }
 standing s (Close cursor) r l =
     record {
@@ -315,6 +358,8 @@ standing s (Close cursor) r l =
       cursor = λ _. cursor-stands s (cursor) noCursorPlace (l .cursorLive);
       prepared = λ e. absurd (false≢true e);
       opened = λ e. absurd (false≢true e);
+      overStmt = λ e. absurd (false≢true e);
+      overCursor = λ e. absurd (false≢true e);
     }
 standing s (Fetch f) r l =
     record {
@@ -322,6 +367,8 @@ standing s (Fetch f) r l =
       cursor = λ _. cursor-stands s (f .cursor) noCursorPlace (l .cursorLive);
       prepared = λ e. absurd (false≢true e);
       opened = λ e. absurd (false≢true e);
+      overStmt = λ e. absurd (false≢true e);
+      overCursor = λ e. absurd (false≢true e);
     }
 
 pub places-told : PlacesTold

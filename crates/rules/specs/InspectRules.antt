@@ -15,7 +15,7 @@ use Rattle.session.specs.declared.Stmt.{Stmt}
 use Rattle.session.specs.declared.Cursor.{Cursor}
 use Rattle.session.specs.declared.Place.{Place}
 use Rattle.session.specs.Session.{Session}
-use Rattle.session.specs.Entry.{noStmt, noCursor, isStmt, isCursor}
+use Rattle.session.specs.Entry.{noStmt, noCursor, isLiveStmt, isLiveCursor, isStmt, isCursor}
 use Rattle.session.specs.Sound.{Sound}
 use Rattle.rules.specs.declared.Report.{Report}
 use Rattle.rules.specs.Kind.{isA, oneOf, oneOf3}
@@ -66,12 +66,16 @@ EndsTold =
     (i : ℕ) → EndsAndKeeps s q (stepOf s frame r buffer .session) i
 
 -- an accepted step, of every session: at the told place stood the request's statement or cursor, live and of its id;
--- what a Prepare or an Open put stands there after it (K15)
+-- what a Prepare or an Open put stands there after it, and no entry of another id was live there before (K15)
 pub record Stands (s : Session) (q : Request) (after : Session) : Type 0 where
   pub stmt : oneOf3 execute deallocate open' q ≡ true → isStmt (stmtOf q) (stmtThere s (touchesOf s q .stmt)) ≡ true
   pub cursor : oneOf close fetch q ≡ true → isCursor (cursorOf q) (cursorThere s (touchesOf s q .cursor)) ≡ true
   pub prepared : isA prepare q ≡ true → isStmt (stmtOf q) (stmtThere after (touchesOf s q .stmt)) ≡ true
   pub opened : isA open' q ≡ true → isCursor (cursorOf q) (cursorThere after (touchesOf s q .cursor)) ≡ true
+  pub overStmt :
+      isA prepare q ≡ true → let t = stmtThere s (touchesOf s q .stmt) in isLiveStmt t ≡ isStmt (stmtOf q) t
+  pub overCursor :
+      isA open' q ≡ true → let c = cursorThere s (touchesOf s q .cursor) in isLiveCursor c ≡ isCursor (cursorOf q) c
 
 abbrev pub PlacesTold : Type 0
 PlacesTold =
