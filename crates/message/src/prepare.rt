@@ -215,8 +215,8 @@ pub fn long_body(s: &[u8], operation: u64, at: usize, n: usize) -> Arguments
     Arguments::none(0, 0)
 }
 
-// The arguments of a body of this type in `n` bytes of s from `at` on, bad ones where the body is; with a short way for a
-// StmtExecute of its text alone, as most are.
+// The arguments of a body of this type in `n` bytes of s from `at` on, bad ones where the body is; with a short way for
+// a StmtExecute of its text alone, as most are.
 fn read_body(s: &[u8], operation: u64, at: usize, n: usize) -> Arguments
     ensures { λ r. ⌜ r ≡ bodyIn (now (s .entry)) operation at n ⌝ }
 {

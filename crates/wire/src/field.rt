@@ -23,8 +23,8 @@ pub enum Field {
     Bad,
 }
 
-// The field at a place, with a short way for a tag of one byte and a varint or bytes behind it, as most fields have. For
-// its one caller, into which it is inlined; others go the long way.
+// The field at a place, with a short way for a tag of one byte and a varint or bytes behind it, as most fields have.
+// For its one caller, into which it is inlined; others go the long way.
 pub fn read_field(s: &[u8], at: usize) -> Field
     ensures { λ r. ⌜ r ≡ fieldAt (now (s .entry)) at ⌝ }
 {
