@@ -7,8 +7,10 @@
 #include "odd_frames.h"
 
 /* The session of every line: all places are taken, and what a line asks for stands in the middle of its table. Its
- * ids do not depend on the limits, so that the frames are the same at any; all other ids count from OTHERS on. */
+ * ids do not depend on the limits, so that the frames are the same at any; all other ids count from OTHERS on. An id
+ * is one byte long in a frame, or as many as the number at the end of its name says. */
 enum { CURSOR = 8, OPENED = 32, EXECUTED, REPLACED, NOT_LIVE = 99, OTHERS = 1000 };
+enum { CURSOR_2 = 208, OPENED_2 = 232, REPLACED_2 = 234, NOT_LIVE_2 = 299, CURSOR_5 = 0x10000008 };
 enum { NULLS = 8190, OBJECTS = 16377, EMPTY_STRINGS = 5460 };
 
 static const Report none = {.kind = REPORT_NONE}, done = {.kind = REPORT_DONE}, prepared = {.kind = REPORT_PREPARED},
@@ -104,6 +106,21 @@ static void add_small_steps(void)
     fetch_padded_tags(stepping("step Fetch, padded tags", done), CURSOR);
 }
 
+/* The same frames with longer ids, as a server has them that counts its ids up. */
+static void add_longer_ids(void)
+{
+    fetch_frame(reading("read Fetch, id of 2 bytes", true), CURSOR_2, 300);
+    fetch_frame(looking("look Fetch, id of 2 bytes"), CURSOR_2, 300);
+    open_frame(looking("look Open, ids of 2 bytes"), CURSOR_2, OPENED_2, 1, 300);
+    fetch_frame(inspecting("inspect Fetch, id of 2 bytes"), CURSOR_2, 300);
+    open_frame(inspecting("inspect Open, ids of 2 bytes"), CURSOR_2, OPENED_2, 1, 300);
+    fetch_frame(stepping("step Fetch, id of 2 bytes", done), CURSOR_2, 1);
+    fetch_frame(stepping("step Fetch, id of 5 bytes", done), CURSOR_5, 1);
+    fetch_frame(stepping("step Fetch, refused 10, id of 2 bytes", done), NOT_LIVE_2, 1);
+    prepare_frame(stepping("step Prepare, id of 2 bytes", prepared), REPLACED_2, 120, 0, NULL);
+    open_frame(stepping("step Open, ids of 2 bytes", result), CURSOR_2, OPENED_2, 1, 300);
+}
+
 static void add_long_steps(void)
 {
     execute_frame(stepping("step Execute, 2000 arguments", result), EXECUTED, 2000);
@@ -172,14 +189,17 @@ static void fill_step(Line *line, const Frame *f, Report report)
 
 static unsigned stmt_id(unsigned place)
 {
-    unsigned id = OPENED + place - (MAX_STMTS / 2 - 1);
-    return id == OPENED || id == EXECUTED || id == REPLACED ? id : OTHERS + place;
+    static const unsigned middle[] = {OPENED, EXECUTED, REPLACED, REPLACED_2, OPENED_2};
+    unsigned i = place - (MAX_STMTS / 2 - 1);
+    return i < sizeof middle / sizeof *middle ? middle[i] : OTHERS + place;
 }
 
-/* There is a cursor on every fourth statement, OPENED among them. */
+/* There is a cursor on every fourth statement, OPENED and OPENED_2 among them. */
 static unsigned cursor_id(unsigned place)
 {
-    return place == MAX_CURSORS / 2 - 1 ? CURSOR : OTHERS + place;
+    static const unsigned middle[] = {CURSOR, CURSOR_2, CURSOR_5};
+    unsigned i = place - (MAX_CURSORS / 2 - 1);
+    return i < sizeof middle / sizeof *middle ? middle[i] : OTHERS + place;
 }
 
 static void fill_session(Line *line)
@@ -191,7 +211,7 @@ static void fill_session(Line *line)
     for (unsigned place = 0; place < MAX_STMTS; place++) {
         unsigned id = stmt_id(place);
         prepare_frame(&f, id, 20, 0, NULL);
-        holes.placeholders = id == OPENED ? 1 : id == EXECUTED ? 4 : 0;
+        holes.placeholders = id == OPENED || id == OPENED_2 ? 1 : id == EXECUTED ? 4 : 0;
         fill_step(line, &f, holes);
     }
     for (unsigned place = 0; place < MAX_CURSORS; place++) {
@@ -205,6 +225,7 @@ void make_lines(void)
     add_reading();
     add_looking();
     add_small_steps();
+    add_longer_ids();
     add_long_steps();
     small_frames(add("arrive frames of 11 bytes, per frame", plain_arrives, library_arrives, done));
     long_frames(add("arrive frames of 60 KB, per frame", plain_arrives, library_arrives, prepared));
