@@ -3,7 +3,7 @@ pub mod MessageLaws
 pub mod WithinLaws
 pub mod ArrayLaws
 pub mod UsedLaws
-pub mod PairedLaws
+pub mod FirstLaws
 pub mod BoundLaws
 pub mod BehindLaws
 pub mod UnchosenLaws

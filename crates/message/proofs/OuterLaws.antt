@@ -12,50 +12,34 @@ use Rattle.wire.specs.Field.{ofValue, fieldAt}
 use Rattle.wire.specs.declared.value.Value.{Value}
 use Rattle.wire.specs.declared.field.Field.{Field}
 use Rattle.wire.proofs.FieldLaws.{quick-wire}
-use Rattle.wire.proofs.LongLaws.{LongField, field-long}
 use Rattle.layout.specs.Row.{rowFor}
 use Rattle.layout.specs.Table.{rowsOf}
 use Rattle.layout.specs.Slots.{noSlots}
 use Rattle.layout.specs.Fields.{noted, hasRequired, checked, fieldsAt}
 use Rattle.layout.specs.declared.slots.Slots.{Slots}
 use Rattle.layout.specs.declared.fields.Use.{Use}
-use Rattle.layout.proofs.FieldsLaws.{Listing, starts, goes-on, ends}
+use Rattle.layout.proofs.FieldsLaws.{Listing, goes-on, ends}
 use Rattle.args.specs.Part.{valueOf, startOf, lenOf}
-use Rattle.args.proofs.PairLaws.{FieldOne, field-one}
 use Rattle.message.specs.Payload.{payload, optionalBy, optionalOf}
 use Rattle.message.specs.Execute.{openInside, openFrame}
+use Rattle.message.specs.private.First.{Starts}
 use Rattle.message.specs.private.Outer.{Opens}
 use Rattle.message.specs.declared.request.Optional.{Optional}
 use Rattle.message.specs.declared.request.Frame.{Frame}
+use Rattle.message.proofs.FirstLaws.{bytes-behind, two-listed}
 
 abbrev rows-of : List (List ℕ)
 rows-of = rowsOf Client.open'
 
--- cursor_id in a byte, and the statement
-module _ (s : List ℕ) (id : ℕ) (one : FieldOne s payload id) (inside : 7 < length s) (is : getD s 7 0 ≡ 34)
-    {v start len next : ℕ} (e : asLength s 8 ≡ Value.Good v start len next) where
-  stmt-read : fieldAt s 7 ≡ Field.Good 4 2 v start len next
-  stmt-read = sym (quick-wire s 7 34 inside (sym is) (omega arith) 2 (omega arith) refl (omega arith)) ∙ ap
-      (ofValue 4 2) e
-
-  stmt-long : v ≡ len
-  stmt-long = go (field-long s 7) refl
-    where
-      go : LongField (fieldAt s 7) → _≡_ {A = ℕ} 2 2 → v ≡ len
-      go = rw stmt-read (λ f. f)
-
-  stmt-field : fieldAt s 7 ≡ Field.Good 4 2 len start len next
-  stmt-field = stmt-read ∙ ap (λ (k : ℕ). Field.Good 4 2 k start len next) stmt-long
-
+-- cursor_id and the statement
+module _ {s : List ℕ} {id behind : ℕ} (b : Starts s 34 id behind) {v start len next : ℕ}
+    (e : asLength s behind ≡ Value.Good v start len next) where
   abbrev two : Slots
-  two = noted Use.Kept (noted Use.Kept noSlots 1 id 6 1) 4 len start len
+  two = noted Use.Kept (noted Use.Kept noSlots 1 id (payload + 1) (b .len)) 4 len start len
 
   listed : Listing rows-of s payload next two
   unfolding rowsOf rowFor
-  listed =
-      goes-on (goes-on (starts rows-of s payload) (omega (arith, inside))
-      (field-one one) Use.Kept refl) inside stmt-field
-      Use.Kept refl
+  listed = two-listed b rows-of (bytes-behind b (omega arith) (omega arith) refl e) refl refl
 
   opens : (x : Slots) (has : Bool) (rows : ℕ) → x ≡ fieldsAt rows-of s payload → Opens x id start len has rows →
       Opens (fieldsAt rows-of s payload) id start len has rows

@@ -2,9 +2,8 @@
 // where it is there. Like args `Pair` it fills no arrays and looks up no rows.
 ghost use mathlib.Core.Path.{_≡_};
 ghost use Rattle.message.specs.declared.outer.Outer.the-variants.{Fields};
-ghost use Rattle.message.specs.private.Outer.{Begins, Says};
-use crate::payload::PAYLOAD;
-use varint::wide;
+ghost use Rattle.message.specs.private.Outer.{Says};
+use crate::first::First;
 use wire::value::Value;
 
 // The cursor id, where the statement stands, and whether fetch_rows is there and what it is. Other: the long way reads
@@ -20,31 +19,10 @@ pub enum Outer {
     Other,
 }
 
-// The tags: field 1 a varint, field 4 with bytes, field 5 a varint.
-const CURSOR_TAG: u8 = 8;
-
+// The tags: field 4 with bytes, field 5 a varint.
 const STMT_TAG: u8 = 34;
 
 const ROWS_TAG: u8 = 40;
-
-// What no cursor id of one byte is.
-const NO_ID: u64 = 128;
-
-// The cursor id, where a varint of one byte and the statement's tag stand first; NO_ID or more where not.
-fn cursor_id(s: &[u8]) -> u64
-    ensures { λ r. ⌜ Begins (now (s .entry)) r ⌝ }
-{
-    if s.len() < PAYLOAD + 3 {
-        return NO_ID;
-    }
-    if s[PAYLOAD] != CURSOR_TAG {
-        return NO_ID;
-    }
-    if s[PAYLOAD + 2] != STMT_TAG {
-        return NO_ID;
-    }
-    wide(s[PAYLOAD + 1])
-}
 
 // The fields that were found.
 fn fields(id: u64, start: usize, len: usize, has: bool, rows: u64) -> Outer
@@ -62,16 +40,15 @@ fn fields(id: u64, start: usize, len: usize, has: bool, rows: u64) -> Outer
 pub fn read_outer(s: &[u8]) -> Outer
     ensures { λ r. ⌜ Says (now (s .entry)) r ⌝ }
 {
-    let id = cursor_id(s);
-    if NO_ID <= id {
+    let First::At { id, next: behind } = crate::first::read_first(s, STMT_TAG) else {
         return Outer::Other;
-    }
+    };
     let Value::Good {
         number: _,
         start,
         len,
         next,
-    } = wire::value::length_value(s, PAYLOAD + 3)
+    } = wire::value::length_value(s, behind)
     else {
         return Outer::Other;
     };

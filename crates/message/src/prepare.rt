@@ -4,6 +4,7 @@
 ghost use mathlib.Core.Path.{_≡_};
 ghost use Rattle.message.specs.Prepare.{bodyIn, prepareFrame, prepareFrom, prepareInside};
 ghost use Rattle.message.specs.private.Parts.{Chooses, ofStmt};
+use crate::first::First;
 use crate::operation;
 use crate::payload::PAYLOAD;
 use crate::payload::low;
@@ -17,6 +18,7 @@ use args::part::Part;
 use args::part::fill_part;
 use layout::fields::fill_fields;
 use protocol::client;
+use wire::value::Value;
 
 // A Prepare's id, and where its statement stands; or the message is bad.
 pub enum Stmt {
@@ -118,26 +120,22 @@ fn long_stmt(s: &[u8]) -> Stmt
 }
 
 // The tag of the statement, field 2 with bytes.
-const STMT_TAG: u64 = 18;
+const STMT_TAG: u8 = 18;
 
 // With a short way for a Prepare of its two fields alone, as most are.
 fn find_stmt(s: &[u8]) -> Stmt
     ensures { λ r. ⌜ ofStmt (now (s .entry)) r ≡ prepareFrame (now (s .entry)) ⌝ }
 {
     let n = s.len();
-    if PAYLOAD <= n {
-        if let Pair::Two {
-            first,
-            tag,
-            value,
+    if let First::At { id, next } = crate::first::read_first(s, STMT_TAG) {
+        if let Value::Good {
+            number: _,
             start,
-        } = args::pair::read_pair(s, PAYLOAD, n - PAYLOAD) {
-            if tag == STMT_TAG {
-                return Stmt::At {
-                    id: first,
-                    start,
-                    len: value as usize,
-                };
+            len,
+            next: end,
+        } = wire::value::length_value(s, next) {
+            if end == s.len() {
+                return Stmt::At { id, start, len };
             }
         }
     }

@@ -4,14 +4,17 @@ ghost use mathlib.Core.List.{[]};
 ghost use Rattle.layout.specs.Fields.{fieldsAt};
 ghost use Rattle.message.specs.Payload.{payload};
 ghost use Rattle.message.specs.Simple.{closeFrame, deallocateFrame, fetchFrame, resetFrame, sessionCloseFrame};
+ghost use Rattle.message.specs.private.Parts.{fetchOf};
+use crate::first::First;
 use crate::payload::PAYLOAD;
 use crate::payload::low;
+use crate::payload::read_optional;
 use crate::request::Fetch;
 use crate::request::Frame;
 use crate::request::Request;
-use args::pair::Pair;
 use layout::fields::fill_fields;
 use protocol::client;
+use wire::value::Value;
 
 // A payload of no fields of its own is good.
 fn is_plain(s: &[u8]) -> bool
@@ -116,6 +119,20 @@ pub fn read_close(s: &[u8]) -> Frame
     }
 }
 
+// A Fetch in `n` bytes.
+fn fetch_of(n: usize, id: u64, has: bool, asked: u64) -> Frame
+    ensures { λ r. ⌜ r ≡ fetchOf n id has asked ⌝ }
+{
+    let fetch = Fetch {
+        cursor: low(id),
+        rows: read_optional(has, asked),
+    };
+    Frame::Good {
+        used: n,
+        request: Request::Fetch(fetch),
+    }
+}
+
 // The long way, by the rows.
 fn long_fetch(s: &[u8]) -> Frame
     ensures { λ r. ⌜ r ≡ fetchFrame (now (s .entry)) ⌝ }
@@ -138,42 +155,27 @@ fn long_fetch(s: &[u8]) -> Frame
             kind: client::FETCH,
         };
     }
-    let rows_asked = crate::payload::read_optional(seen[2], values[2]);
-    let fetch = Fetch {
-        cursor: low(values[1]),
-        rows: rows_asked,
-    };
-    Frame::Good {
-        used: s.len(),
-        request: Request::Fetch(fetch),
-    }
+    // Field 1 is cursor_id, 2 fetch_rows.
+    fetch_of(s.len(), values[1], seen[2], values[2])
 }
 
 // The tag of fetch_rows, field 2 as a varint.
-const ROWS_TAG: u64 = 16;
+const ROWS_TAG: u8 = 16;
 
 // With a short way for a Fetch of its two fields alone, as most are.
 pub fn read_fetch(s: &[u8]) -> Frame
     ensures { λ r. ⌜ r ≡ fetchFrame (now (s .entry)) ⌝ }
 {
     let n = s.len();
-    if PAYLOAD <= n {
-        if let Pair::Two {
-            first,
-            tag,
-            value,
+    if let First::At { id, next } = crate::first::read_first(s, ROWS_TAG) {
+        if let Value::Good {
+            number,
             start: _,
-        } = args::pair::read_pair(s, PAYLOAD, n - PAYLOAD) {
-            if tag == ROWS_TAG {
-                let rows_asked = crate::payload::read_optional(true, value);
-                let fetch = Fetch {
-                    cursor: low(first),
-                    rows: rows_asked,
-                };
-                return Frame::Good {
-                    used: n,
-                    request: Request::Fetch(fetch),
-                };
+            len: _,
+            next: end,
+        } = wire::value::number_value(s, next) {
+            if end == s.len() {
+                return fetch_of(s.len(), id, true, number);
             }
         }
     }

@@ -1,9 +1,8 @@
 -- What the short way for an Open's own fields says of a frame, where it answers: the rows hold the same (L1, L11).
-use Prim.Native.Nat.{ℕ, _+_, _<_}
+use Prim.Native.Nat.{ℕ}
 use mathlib.Core.Bool.{Bool, true}
 use mathlib.Core.Path.{_≡_}
 use mathlib.Core.List.{List}
-use lib.ListN.{length, getD}
 use Rattle.protocol.specs.Client as Client
 use Rattle.layout.specs.Table.{rowsOf}
 use Rattle.layout.specs.Fields.{fieldsAt}
@@ -11,16 +10,6 @@ use Rattle.layout.specs.declared.slots.Slots.{Slots}
 use Rattle.args.specs.Part.{valueOf, startOf, lenOf}
 use Rattle.message.specs.Payload.{payload, optionalBy, optionalOf}
 use Rattle.message.specs.declared.outer.Outer.{Outer}
-
--- an id below 128 is field 1 in two bytes, and the statement's tag stands behind it
-pub record Starts (s : List ℕ) (id : ℕ) : Type 0 where
-  pub inside : payload + 2 < length s
-  pub one-is : getD s payload 0 ≡ 8
-  pub id-is : id ≡ getD s (payload + 1) 0
-  pub stmt-is : getD s (payload + 2) 0 ≡ 34
-
-abbrev pub Begins : List ℕ → ℕ → Type 0
-Begins s id = id < 128 → Starts s id
 
 -- the slots of an Open with this cursor id, statement and fetch_rows
 pub record Opens (x : Slots) (id start len : ℕ) (has : Bool) (rows : ℕ) : Type 0 where

@@ -1,5 +1,6 @@
--- The frames that the parts found of a Prepare or an Open come to. For contracts inside the library.
+-- The frames that the parts found of a Fetch, a Prepare or an Open come to. For contracts inside the library.
 use Prim.Native.Nat.{ℕ}
+use mathlib.Core.Bool.{Bool}
 use mathlib.Core.Path.{_≡_}
 use mathlib.Core.List.{List}
 use lib.ListN.{length}
@@ -16,7 +17,12 @@ use Rattle.message.specs.declared.execute.Opening.{Opening}
 use Rattle.message.specs.declared.execute.Inner.{Inner}
 use Rattle.message.specs.declared.request.Optional.{Optional}
 use Rattle.message.specs.declared.request.Execute.{Execute}
+use Rattle.message.specs.declared.request.Request.{Request}
 use Rattle.message.specs.declared.request.Frame.{Frame}
+
+-- a Fetch in n bytes
+abbrev pub fetchOf : ℕ → ℕ → Bool → ℕ → Frame
+fetchOf n id has rows = Frame.Good n (Request.Fetch (record { cursor = low32 id; rows = optionalBy has rows }))
 
 abbrev pub ofStmt : List ℕ → Stmt → Frame
 ofStmt s (Stmt.At id start len) = prepareInside s id start len

@@ -1,4 +1,5 @@
 -- The arrays hold the message's fields.
+use mathlib.Core.Path.{_∙_}
 use borrow.Author.Tests.{not-true, not-false}
 use Rattle.layout.proofs.ArrayLaws.{holds-lent}
 use Rattle.message.specs.Payload.{payload}
@@ -20,14 +21,13 @@ returns c =
 returns-2 : tie.Need-returns-2
 unfolding fetchFrame
 returns-2 c =
-    let f = c .before .before .before in
+    let f = c .before .before in
     let r = f .before .before .before .before .before in
     let s = r .before .before .args .s .now in
-    rw (c .low .ensures)
-    (rw (c .before .read-optional .ensures)
-    (fetch-held s (holds-lent (r .fetch-rows .ensures) s payload (f .fill-fields .ensures))
-    (not-false _ (c .before .before .if1 .left))))
+    c .fetch-of .ensures
+    ∙ fetch-held s (holds-lent (r .fetch-rows .ensures) s payload (f .fill-fields .ensures))
+    (not-false _ (c .before .if1 .left))
 
 pub long-fetch-spec : {M : Type 1} → statement M
 long-fetch-spec = tie.close (tie.spec (λ c κs. search needs) (λ c. search needs) (λ c κs. search needs) returns
-    (λ c. search needs) (λ c. search needs) (λ c κs. search needs) (λ c. search needs) (λ c κs. search needs) returns-2)
+    (λ c. search needs) (λ c. search needs) (λ c. search needs) (λ c κs. search needs) returns-2)

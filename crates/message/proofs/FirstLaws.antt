@@ -1,0 +1,113 @@
+-- The id that stands first, with a field behind it: what a message's rows make of them, and a Fetch and a Prepare of
+-- them. Assumes nothing.
+use Prim.Native.Nat.{ℕ, _+_, _-_, _/_, _%_, _≤_, _<_}
+use native.Mathlib.Omega.{arith}
+use mathlib.Core.Bool.{true}
+use mathlib.Core.Path.{_≡_, refl, sym, ap, _∙_}
+use mathlib.Core.List.{List}
+use lib.ListN.{length, getD}
+use Rattle.protocol.specs.Client as Client
+use Rattle.varint.specs.Varint.{varintAt}
+use Rattle.varint.specs.declared.Varint.{Varint}
+use Rattle.wire.specs.Value.{ofVarint, asNumber, asLength}
+use Rattle.wire.specs.Field.{ofValue, fieldOf, fieldAt}
+use Rattle.wire.specs.Past.{PastField}
+use Rattle.wire.specs.declared.value.Value.{Value}
+use Rattle.wire.specs.declared.field.Field.{Field}
+use Rattle.wire.proofs.FieldLaws.{one-byte, quick-wire}
+use Rattle.wire.proofs.PastLaws.{field-past}
+use Rattle.wire.proofs.LongLaws.{LongField, field-long}
+use Rattle.layout.specs.Table.{rowsOf}
+use Rattle.layout.specs.Row.{rowFor}
+use Rattle.layout.specs.Slots.{noSlots}
+use Rattle.layout.specs.Fields.{useOf, noted, checked, hasRequired}
+use Rattle.layout.specs.declared.slots.Slots.{Slots}
+use Rattle.layout.specs.declared.fields.Use.{Use}
+use Rattle.layout.proofs.FieldsLaws.{Listing, starts, goes-on, ends}
+use Rattle.message.specs.Payload.{payload}
+use Rattle.message.specs.Simple.{fetchIn, fetchFrame}
+use Rattle.message.specs.Prepare.{prepareInside, prepareOf, prepareFrame}
+use Rattle.message.specs.private.First.{idTag, Starts}
+use Rattle.message.specs.private.Parts.{fetchOf}
+
+-- ---- the id
+
+module _ (s : List ℕ) (there : payload < length s) (is : getD s payload 0 ≡ idTag) {tag : ℕ} where
+  -- of any length
+  pub starts-long : {id end : ℕ} → varintAt s (payload + 1) ≡ Varint.Number id end → end < length s →
+      getD s end 0 ≡ tag → Starts s tag id (end + 1)
+  starts-long {id} {end} e inside t =
+      record {
+        len = end - (payload + 1);
+        end = end;
+        one =
+            sym (quick-wire s payload idTag there (sym is) (omega arith) 0 (omega arith) refl (omega arith))
+            ∙ ap (λ (v : Varint). ofValue 1 0 (ofVarint (payload + 1) v)) e;
+        inside = inside;
+        tag-is = t;
+        next-is = refl;
+      }
+
+  -- of one byte
+  pub starts-short : (id : ℕ) → payload + 2 < length s → id ≡ getD s (payload + 1) 0 → id < 128 →
+      getD s (payload + 2) 0 ≡ tag → Starts s tag id (payload + 3)
+  starts-short id inside i short t =
+      starts-long (sym (one-byte s (payload + 1) id (omega (arith, inside)) i short)) inside t
+
+-- ---- the field behind it
+
+module _ {s : List ℕ} {tag id next : ℕ} (b : Starts s tag id next) (some : 8 ≤ tag) (short : tag < 128) where
+  tagged : (wire : ℕ) → tag % 8 ≡ wire → wire < 6 → fieldAt s (b .end) ≡ fieldOf s (tag / 8) wire next
+  tagged wire e w =
+      sym
+      (ap (fieldOf s (tag / 8) wire) (b .next-is)
+      ∙ quick-wire s (b .end) tag (b .inside) (sym (b .tag-is)) short wire some e w)
+
+  module _ {v start len end : ℕ} where
+    pub number-behind : tag % 8 ≡ 0 → asNumber s next ≡ Value.Good v start len end →
+        fieldAt s (b .end) ≡ Field.Good (tag / 8) 0 v start len end
+    number-behind e f = tagged 0 e (omega arith) ∙ ap (ofValue (tag / 8) 0) f
+
+    -- of a field with bytes the value is their length
+    pub bytes-behind : tag % 8 ≡ 2 → asLength s next ≡ Value.Good v start len end →
+        fieldAt s (b .end) ≡ Field.Good (tag / 8) 2 len start len end
+    bytes-behind e f = read ∙ ap (λ (k : ℕ). Field.Good (tag / 8) 2 k start len end) (go (field-long s (b .end)) refl)
+      where
+        read : fieldAt s (b .end) ≡ Field.Good (tag / 8) 2 v start len end
+        read = tagged 2 e (omega arith) ∙ ap (ofValue (tag / 8) 2) f
+
+        go : LongField (fieldAt s (b .end)) → _≡_ {A = ℕ} 2 2 → v ≡ len
+        go = rw read (λ h. h)
+
+-- any rows that keep both fields hold them
+module _ {s : List ℕ} {tag id next : ℕ} (b : Starts s tag id next) (rows : List (List ℕ)) where
+  before : payload < b .end
+  before = go (field-past s payload)
+    where
+      go : PastField payload (length s) (fieldAt s payload) → payload < b .end
+      go = rw (b .one) (λ h. h .2)
+
+  pub two-listed : {number wire v start len end : ℕ} → fieldAt s (b .end) ≡ Field.Good number wire v start len end →
+      Use.Kept ≡ useOf rows 1 0 id → Use.Kept ≡ useOf rows number wire v →
+      Listing rows s payload end
+      (noted Use.Kept (noted Use.Kept noSlots 1 id (payload + 1) (b .len)) number v start len)
+  two-listed f one two =
+      goes-on (goes-on (starts rows s payload) (omega (arith, before, b .inside)) (b .one) Use.Kept one) (b .inside) f
+      Use.Kept two
+
+-- ---- the messages of both and no more
+
+module _ {s : List ℕ} {id next : ℕ} {v start len end : ℕ} (past : length s ≤ end) where
+  pub fetch-found : Starts s 16 id next → asNumber s next ≡ Value.Good v start len end →
+      fetchOf (length s) id true v ≡ fetchFrame s
+  unfolding fetchFrame rowsOf rowFor hasRequired
+  fetch-found b f =
+      ap (λ (x : Slots). fetchIn s (checked (rowsOf Client.fetch) x))
+      (ends (two-listed b (rowsOf Client.fetch) (number-behind b (omega arith) (omega arith) refl f) refl refl) past)
+
+  pub prepare-found : Starts s 18 id next → asLength s next ≡ Value.Good v start len end →
+      prepareInside s id start len ≡ prepareFrame s
+  unfolding prepareFrame rowsOf rowFor hasRequired
+  prepare-found b f =
+      ap (λ (x : Slots). prepareOf s (checked (rowsOf Client.prepare) x))
+      (ends (two-listed b (rowsOf Client.prepare) (bytes-behind b (omega arith) (omega arith) refl f) refl refl) past)
