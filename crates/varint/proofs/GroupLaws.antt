@@ -3,7 +3,7 @@ use Prim.Native.Nat.{ℕ, zero, suc, _+_, _-_, _*_, _%_, _^_, _≤_, _<_}
 use native.Mathlib.Nat.{mul-add, mul-assoc, mul-comm, mul-le-mul-right, pow-le-pow-right, pow-suc, mod-eq-of-lt}
 use native.Mathlib.Numerals.{add-one}
 use native.Mathlib.Omega.{arith}
-use mathlib.Core.Path.{_≡_, refl, sym, ap, _∙_}
+use mathlib.Core.Path.{_≡_, refl, sym, ap, ap₂, _∙_}
 use mathlib.Core.List.{List}
 use lib.ListN.{length, getD}
 use borrow.Author.Tests.{lt-ltb, le-ltb}
@@ -127,3 +127,21 @@ varint-one s at h b =
 
 pub varint-none : (s : List ℕ) (at : ℕ) → length s ≤ at → Bad ≡ varintAt s at
 varint-none s at h = ap low64 (sym (groups-end 10 s at h))
+
+-- a first byte that has another behind it
+module _ (s : List ℕ) (at low : ℕ) (inside : at < length s) (is : low ≡ getD s at 0) (more : 128 ≤ low) where
+  pub varint-cut : length s - at < 2 → Bad ≡ varintAt s at
+  varint-cut h =
+      ap low64
+      (sym (groups-more 9 s at inside (omega arith)
+      ∙ ap (onto (getD s at 0 % 128) 128) (groups-end 9 s (at + 1) (omega arith))))
+
+  pub varint-two : (high : ℕ) → high ≡ getD s (at + 1) 0 → 2 ≤ length s - at → high < 128 →
+      Number (low % 128 + high * 128) (at + 2) ≡ varintAt s at
+  varint-two high e h b =
+      let value : low % 128 + high * 128 ≡ (getD s at 0 % 128 + 128 * getD s (at + 1) 0) % 2 ^ 64 = omega arith in
+      let next : at + 2 ≡ at + 1 + 1 = omega arith in
+      ap₂ Number value next
+      ∙ ap low64
+      (sym (groups-more 9 s at inside (omega arith)
+      ∙ ap (onto (getD s at 0 % 128) 128) (groups-last 8 s (at + 1) (omega arith) (omega arith))))

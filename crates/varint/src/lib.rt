@@ -78,3 +78,31 @@ pub fn read_small(s: &[u8], at: usize) -> Varint
     }
     read_varint(&s[..n], at)
 }
+
+// The same, with short ways for one byte and for two, which ids and counts of rows mostly have.
+pub fn read_short(s: &[u8], at: usize) -> Varint
+    ensures { λ r. ⌜ r ≡ varintAt (now (s .entry)) at ⌝ }
+{
+    let n = s.len();
+    if n <= at {
+        return Varint::Bad;
+    }
+    let low = wide(s[at]);
+    if low < 128 {
+        return Varint::Number {
+            value: low,
+            next: at + 1,
+        };
+    }
+    if n - at < 2 {
+        return Varint::Bad;
+    }
+    let high = wide(s[at + 1]);
+    if high < 128 {
+        return Varint::Number {
+            value: low % 128 + high * 128,
+            next: at + 2,
+        };
+    }
+    read_varint(&s[..n], at)
+}
