@@ -38,15 +38,16 @@ pub enum NextArgument {
 }
 
 // The arguments in the bytes from `start` to `end`: how many there are, and the first object (kind 2) or
-// array (kind 3) among them with its index (kind 0: none). `good` says that each one is.
-#[repr(C)]
+// array (kind 3) among them with its index (kind 0: none). `good` says that each one is. No two of the numbers stand side
+// by side as in what hosts are told: such two are copied at once, right after they were written one by one, for which a
+// processor waits.
 pub struct Arguments {
     pub good: bool,
-    pub count: usize,
     pub kind: u64,
-    pub index: usize,
     pub start: usize,
+    pub count: usize,
     pub end: usize,
+    pub index: usize,
 }
 
 impl Arguments {

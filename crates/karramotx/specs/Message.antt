@@ -2,11 +2,25 @@
 use Prim.Native.Nat.{ℕ}
 use Rattle.protocol.specs.Reason as Reason
 use Rattle.args.specs.Arguments.{noArguments}
+use Rattle.args.specs.declared.arguments.Arguments.{Arguments}
 use Rattle.message.specs.Request.{noOptional, noPart, kindOf, stmtOf, cursorOf, rowsOf, compactOf, operationOf, bodyOf}
 use Rattle.message.specs.Request.{argsOf}
 use Rattle.message.specs.declared.request.Frame.{Frame}
 use Rattle.message.specs.declared.request.Frame.the-variants.{NotAllThere, BadLength, UnknownType, BadPayload, Good}
+use Rattle.karramotx.specs.declared.told.Args.{Args}
 use Rattle.karramotx.specs.declared.told.Message.{Message}
+
+-- the arguments, as hosts are told of them
+abbrev pub argsTold : Arguments → Args
+argsTold a =
+    record {
+      good = a .good;
+      count = a .count;
+      kind = a .kind;
+      index = a .index;
+      start = a .start;
+      end = a .end;
+    }
 
 -- a message of this type with nothing in it
 abbrev pub bare : ℕ → ℕ → ℕ → Message
@@ -21,7 +35,7 @@ bare reason used kind =
       compact = noOptional;
       operation = 0;
       body = noPart;
-      args = noArguments 0 0;
+      args = argsTold (noArguments 0 0);
     }
 
 abbrev pub blank : ℕ → ℕ → Message
@@ -47,5 +61,5 @@ messageOf (Good used q) =
       compact = compactOf q;
       operation = operationOf q;
       body = bodyOf q;
-      args = argsOf q;
+      args = argsTold (argsOf q);
     }

@@ -2,7 +2,7 @@
 ghost use mathlib.Core.Path.{_≡_};
 ghost use Rattle.message.specs.declared.request.Frame.{Frame};
 ghost use Rattle.message.specs.declared.request.Request.{Request};
-ghost use Rattle.karramotx.specs.Message.{blank, messageOf, refused};
+ghost use Rattle.karramotx.specs.Message.{argsTold, blank, messageOf, refused};
 use args::arguments::Arguments;
 use args::part::Part;
 use message::request::Execute;
@@ -31,7 +31,18 @@ pub struct Message {
     // The type of a Prepare's statement, and the chosen body.
     pub operation: u64,
     pub body: Part,
-    pub args: Arguments,
+    pub args: Args,
+}
+
+// The arguments, as `Arguments` has them.
+#[repr(C)]
+pub struct Args {
+    pub good: bool,
+    pub count: usize,
+    pub kind: u64,
+    pub index: usize,
+    pub start: usize,
+    pub end: usize,
 }
 
 pub fn message_of(frame: Frame) -> Message
@@ -43,6 +54,19 @@ pub fn message_of(frame: Frame) -> Message
         Frame::UnknownType { used } => refused(reason::UNKNOWN_TYPE, used),
         Frame::BadPayload { used, kind: _ } => refused(reason::BAD_PAYLOAD, used),
         Frame::Good { used, request } => told(used, request),
+    }
+}
+
+fn args_told(args: Arguments) -> Args
+    ensures { λ r. ⌜ r ≡ argsTold args ⌝ }
+{
+    Args {
+        good: args.good,
+        count: args.count,
+        kind: args.kind,
+        index: args.index,
+        start: args.start,
+        end: args.end,
     }
 }
 
@@ -65,7 +89,7 @@ fn refused(reason: u64, used: usize) -> Message
         },
         operation: 0,
         body: Part { start: 0, len: 0 },
-        args: Arguments::none(0, 0),
+        args: args_told(Arguments::none(0, 0)),
     }
 }
 
@@ -105,7 +129,7 @@ fn prepare_told(used: usize, p: Prepare) -> Message
     m.stmt = p.stmt as u64;
     m.operation = p.operation;
     m.body = body;
-    m.args = args.same();
+    m.args = args_told(args);
     m
 }
 
@@ -117,7 +141,7 @@ fn execute_told(used: usize, x: Execute) -> Message
     let mut m = blank(used, client::EXECUTE);
     m.stmt = x.stmt as u64;
     m.compact = compact.same();
-    m.args = args.same();
+    m.args = args_told(args);
     m
 }
 

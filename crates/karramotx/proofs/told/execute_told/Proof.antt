@@ -4,7 +4,7 @@ use Rattle.karramotx.proofs.told.execute_told.Statement.{statement}
 use Rattle.karramotx.proofs.told.execute_told.Tie as tie
 
 returns : tie.Need-returns
-returns c = rw (c .same2 .ensures) (rw (c .before .same .ensures) (rw (c .before .before .before .blank .ensures)))
+returns c = rw (c .args-told .ensures) (rw (c .before .same .ensures) (rw (c .before .before .before .blank .ensures)))
 
 pub execute-told-spec : {M : Type 1} → statement M
 execute-told-spec =

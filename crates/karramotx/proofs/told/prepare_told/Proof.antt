@@ -4,7 +4,7 @@ use Rattle.karramotx.proofs.told.prepare_told.Statement.{statement}
 use Rattle.karramotx.proofs.told.prepare_told.Tie as tie
 
 returns : tie.Need-returns
-returns c = rw (c .same .ensures) (rw (c .before .before .blank .ensures))
+returns c = rw (c .args-told .ensures) (rw (c .before .before .blank .ensures))
 
 pub prepare-told-spec : {M : Type 1} → statement M
 prepare-told-spec =
