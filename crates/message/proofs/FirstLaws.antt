@@ -14,7 +14,7 @@ use Rattle.wire.specs.Field.{ofValue, fieldOf, fieldAt}
 use Rattle.wire.specs.Past.{PastField}
 use Rattle.wire.specs.declared.value.Value.{Value}
 use Rattle.wire.specs.declared.field.Field.{Field}
-use Rattle.wire.proofs.FieldLaws.{one-byte, quick-wire}
+use Rattle.wire.proofs.FieldLaws.{quick-wire}
 use Rattle.wire.proofs.PastLaws.{field-past}
 use Rattle.wire.proofs.LongLaws.{LongField, field-long}
 use Rattle.layout.specs.Table.{rowsOf}
@@ -32,27 +32,19 @@ use Rattle.message.specs.private.Parts.{fetchOf}
 
 -- ---- the id
 
-module _ (s : List ℕ) (there : payload < length s) (is : getD s payload 0 ≡ idTag) {tag : ℕ} where
-  -- of any length
-  pub starts-long : {id end : ℕ} → varintAt s (payload + 1) ≡ Varint.Number id end → end < length s →
-      getD s end 0 ≡ tag → Starts s tag id (end + 1)
-  starts-long {id} {end} e inside t =
-      record {
-        len = end - (payload + 1);
-        end = end;
-        one =
-            sym (quick-wire s payload idTag there (sym is) (omega arith) 0 (omega arith) refl (omega arith))
-            ∙ ap (λ (v : Varint). ofValue 1 0 (ofVarint (payload + 1) v)) e;
-        inside = inside;
-        tag-is = t;
-        next-is = refl;
-      }
-
-  -- of one byte
-  pub starts-short : (id : ℕ) → payload + 2 < length s → id ≡ getD s (payload + 1) 0 → id < 128 →
-      getD s (payload + 2) 0 ≡ tag → Starts s tag id (payload + 3)
-  starts-short id inside i short t =
-      starts-long (sym (one-byte s (payload + 1) id (omega (arith, inside)) i short)) inside t
+pub starts-at : (s : List ℕ) → payload < length s → getD s payload 0 ≡ idTag → {tag id end : ℕ} →
+    varintAt s (payload + 1) ≡ Varint.Number id end → end < length s → getD s end 0 ≡ tag → Starts s tag id (end + 1)
+starts-at s there is {tag} {id} {end} e inside t =
+    record {
+      len = end - (payload + 1);
+      end = end;
+      one =
+          sym (quick-wire s payload idTag there (sym is) (omega arith) 0 (omega arith) refl (omega arith))
+          ∙ ap (λ (v : Varint). ofValue 1 0 (ofVarint (payload + 1) v)) e;
+      inside = inside;
+      tag-is = t;
+      next-is = refl;
+    }
 
 -- ---- the field behind it
 
@@ -97,15 +89,18 @@ module _ {s : List ℕ} {tag id next : ℕ} (b : Starts s tag id next) (rows : L
 
 -- ---- the messages of both and no more
 
-module _ {s : List ℕ} {id next : ℕ} {v start len end : ℕ} (past : length s ≤ end) where
-  pub fetch-found : Starts s 16 id next → asNumber s next ≡ Value.Good v start len end →
+module _ {s : List ℕ} {id next v end : ℕ} (past : length s ≤ end) where
+  pub fetch-found : Starts s 16 id next → varintAt s next ≡ Varint.Number v end →
       fetchOf (length s) id true v ≡ fetchFrame s
   unfolding fetchFrame rowsOf rowFor hasRequired
   fetch-found b f =
       ap (λ (x : Slots). fetchIn s (checked (rowsOf Client.fetch) x))
-      (ends (two-listed b (rowsOf Client.fetch) (number-behind b (omega arith) (omega arith) refl f) refl refl) past)
+      (ends
+      (two-listed b (rowsOf Client.fetch)
+      (number-behind b (omega arith) (omega arith) refl (ap (ofVarint next) f)) refl refl)
+      past)
 
-  pub prepare-found : Starts s 18 id next → asLength s next ≡ Value.Good v start len end →
+  pub prepare-found : {start len : ℕ} → Starts s 18 id next → asLength s next ≡ Value.Good v start len end →
       prepareInside s id start len ≡ prepareFrame s
   unfolding prepareFrame rowsOf rowFor hasRequired
   prepare-found b f =

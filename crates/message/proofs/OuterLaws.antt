@@ -1,5 +1,5 @@
 -- An Open's own fields in their order: what its rows make of them. Assumes nothing.
-use Prim.Native.Nat.{ℕ, _+_, _≤_, _<_}
+use Prim.Native.Nat.{ℕ, _+_, _-_, _≤_, _<_}
 use native.Mathlib.Omega.{arith}
 use mathlib.Core.Bool.{Bool, true, false}
 use mathlib.Core.Path.{_≡_, refl, sym, ap, _∙_}
@@ -7,7 +7,9 @@ use mathlib.Core.List.{List}
 use lib.ListN.{length, getD}
 use Rattle.prelude.proofs.Cases.{yes}
 use Rattle.protocol.specs.Client as Client
-use Rattle.wire.specs.Value.{asNumber, asLength}
+use Rattle.varint.specs.Varint.{varintAt}
+use Rattle.varint.specs.declared.Varint.{Varint}
+use Rattle.wire.specs.Value.{ofVarint, asLength}
 use Rattle.wire.specs.Field.{ofValue, fieldAt}
 use Rattle.wire.specs.declared.value.Value.{Value}
 use Rattle.wire.specs.declared.field.Field.{Field}
@@ -53,14 +55,15 @@ module _ {s : List ℕ} {id behind : ℕ} (b : Starts s 34 id behind) {v start l
       (record { good = refl; id-is = refl; start-is = refl; len-is = refl; rows-is = refl })
 
   -- and fetch_rows
-  module _ (more : next < length s) (at : getD s next 0 ≡ 40) {rows start' len' end : ℕ}
-      (f : asNumber s (next + 1) ≡ Value.Good rows start' len' end) where
-    rows-field : fieldAt s next ≡ Field.Good 5 0 rows start' len' end
+  module _ (more : next < length s) (at : getD s next 0 ≡ 40) {rows end : ℕ}
+      (f : varintAt s (next + 1) ≡ Varint.Number rows end) where
+    rows-field : fieldAt s next ≡ Field.Good 5 0 rows (next + 1) (end - (next + 1)) end
     rows-field =
-        sym (quick-wire s next 40 more (sym at) (omega arith) 0 (omega arith) refl (omega arith)) ∙ ap (ofValue 5 0) f
+        sym (quick-wire s next 40 more (sym at) (omega arith) 0 (omega arith) refl (omega arith))
+        ∙ ap (λ (x : Varint). ofValue 5 0 (ofVarint (next + 1) x)) f
 
     abbrev three : Slots
-    three = noted Use.Kept two 5 rows start' len'
+    three = noted Use.Kept two 5 rows (next + 1) (end - (next + 1))
 
     all : Listing rows-of s payload end three
     unfolding rowsOf rowFor

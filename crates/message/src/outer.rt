@@ -4,6 +4,7 @@ ghost use mathlib.Core.Path.{_≡_};
 ghost use Rattle.message.specs.declared.outer.Outer.the-variants.{Fields};
 ghost use Rattle.message.specs.private.Outer.{Says};
 use crate::first::First;
+use varint::Varint;
 use wire::value::Value;
 
 // The cursor id, where the statement stands, and whether fetch_rows is there and what it is. Other: the long way reads
@@ -58,12 +59,11 @@ pub fn read_outer(s: &[u8]) -> Outer
     if s[next] != ROWS_TAG {
         return Outer::Other;
     }
-    let Value::Good {
-        number: rows,
-        start: _,
-        len: _,
+    let n = s.len();
+    let Varint::Number {
+        value: rows,
         next: end,
-    } = wire::value::number_value(s, next + 1)
+    } = varint::read_varint(&s[..n], next + 1)
     else {
         return Outer::Other;
     };

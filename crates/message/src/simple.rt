@@ -14,7 +14,7 @@ use crate::request::Frame;
 use crate::request::Request;
 use layout::fields::fill_fields;
 use protocol::client;
-use wire::value::Value;
+use varint::Varint;
 
 // A payload of no fields of its own is good.
 fn is_plain(s: &[u8]) -> bool
@@ -168,14 +168,9 @@ pub fn read_fetch(s: &[u8]) -> Frame
 {
     let n = s.len();
     if let First::At { id, next } = crate::first::read_first(s, ROWS_TAG) {
-        if let Value::Good {
-            number,
-            start: _,
-            len: _,
-            next: end,
-        } = wire::value::number_value(s, next) {
-            if end == s.len() {
-                return fetch_of(s.len(), id, true, number);
+        if let Varint::Number { value, next: end } = varint::read_short(s, next) {
+            if end == n {
+                return fetch_of(n, id, true, value);
             }
         }
     }

@@ -18,7 +18,7 @@ returns c =
     c .fetch-of .ensures
     ∙ fetch-found (omega (arith, c .before .if1 .taken))
     (subst (Begins s 16) (v .before .before .id .given .1) (f .read-first .ensures))
-    (sym (v .number-value .ensures) ∙ c .before .before .before .number .given .1)
+    (sym (v .read-short .ensures) ∙ c .before .before .before .value .given .1)
 
 pub read-fetch-spec : {M : Type 1} → statement M
 read-fetch-spec = tie.close (tie.spec (λ c κs. search needs) (λ c. search needs) (λ c κs. search needs)
