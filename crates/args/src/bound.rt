@@ -5,6 +5,7 @@ ghost use Rattle.wire.specs.Field.{fieldAt};
 ghost use Rattle.args.specs.private.Bound.{argsOf, badBound, boundAt, boundIn, found, testsArgs, wireBy};
 ghost use Rattle.args.specs.private.Bound.{withField};
 use crate::arguments::Arguments;
+use protocol::fields;
 use protocol::wire_type;
 use wire::field::Field;
 
@@ -57,7 +58,12 @@ fn bad_bound() -> Bound
     }
 }
 
-// The wire types of fields 1 and 3: of a StmtExecute bytes, of an Execute numbers.
+// Fields 1 and 3: stmt_id and compact_metadata of an Execute, the text and the namespace of a StmtExecute.
+const SUBJECT: u64 = fields::ID as u64;
+
+const OPTION: u64 = fields::COMPACT as u64;
+
+// Their wire types: of a StmtExecute bytes, of an Execute numbers.
 const BYTES: u64 = wire_type::LEN;
 
 const NUMBER: u64 = wire_type::VARINT;
@@ -69,9 +75,9 @@ fn wire_by(text: bool) -> u64
 }
 
 // The number and wire type of an args field, and both in the one byte of its tag.
-const ARGS: u64 = 2;
+const ARGS: u64 = fields::ARGS as u64;
 
-const ARGS_TAG: u8 = 18;
+const ARGS_TAG: u8 = (ARGS * 8 + BYTES) as u8;
 
 fn is_args(number: u64, wire: u64) -> bool
     ensures { λ r. ⌜ r ≡ testsArgs number wire ⌝ }
@@ -104,12 +110,12 @@ impl Own {
         if wire != own {
             return k;
         }
-        if number == 1 {
+        if number == SUBJECT {
             k.hasone = true;
             k.one = value;
             return k;
         }
-        if number == 3 {
+        if number == OPTION {
             k.hasthree = true;
             k.three = value;
             return k;

@@ -2,6 +2,8 @@
 ghost use mathlib.Core.Path.{_≡_};
 ghost use Rattle.layout.specs.private.Arrays.{Holds};
 ghost use Rattle.args.specs.Part.{embedded};
+use layout::row::COLUMNS;
+use layout::slots::SLOTS;
 
 // The place and length of some bytes of a frame.
 #[repr(C)]
@@ -12,13 +14,13 @@ pub struct Part {
 
 // The message with these rows in `len` bytes of s from `start` on, in arrays as fill_fields has them.
 pub fn fill_part(
-    rows: &[[u16; 6]],
+    rows: &[[u16; COLUMNS]],
     s: &[u8],
     start: usize,
     len: usize,
-    seen: &mut [bool; 10],
-    values: &mut [u64; 10],
-    starts: &mut [usize; 10],
+    seen: &mut [bool; SLOTS],
+    values: &mut [u64; SLOTS],
+    starts: &mut [usize; SLOTS],
 ) -> bool
     ensures { λ r. ⌜
         Holds (embedded (now (rows .entry)) (now (s .entry)) start len) r (now (seen .exit)) (now (values .exit))

@@ -6,10 +6,25 @@ ghost use Rattle.args.specs.Value.{anyOf, argumentIn, bad, bytesIn, scal
 use crate::keys;
 use crate::pair::Pair;
 use crate::pair::Text;
+use layout::slots::SLOTS;
 use protocol::anys;
+use protocol::anys::SCALAR_FIELD;
+use protocol::fields::BYTES;
+use protocol::fields::TYPE;
 use protocol::reason;
 use protocol::scalars;
+use protocol::scalars::BOOL_FIELD;
+use protocol::scalars::DOUBLE_FIELD;
+use protocol::scalars::FLOAT_FIELD;
+use protocol::scalars::OCTETS_FIELD;
+use protocol::scalars::SINT_FIELD;
+use protocol::scalars::STRING_FIELD;
+use protocol::scalars::UINT_FIELD;
+use protocol::uint32;
 use scalar::argument::Argument;
+use scalar::argument::double_argument;
+use scalar::argument::float_argument;
+use scalar::argument::signed_argument;
 
 // The argument whose Any stands in `n` bytes of s from `at` on, with the short ways for an Any of one field, its type,
 // and of two, its type and its scalar. For its one caller, into which it is inlined; others go the long way.
@@ -42,9 +57,9 @@ pub fn long_argument(s: &[u8], at: usize, n: usize) -> Argument
     ensures { λ r. ⌜ r ≡ argumentIn (now (s .entry)) at n ⌝ }
 {
     let rows = layout::rows::any_rows();
-    let mut seen = [false; 10];
-    let mut values = [0; 10];
-    let mut starts = [0; 10];
+    let mut seen = [false; SLOTS];
+    let mut values = [0; SLOTS];
+    let mut starts = [0; SLOTS];
     if !crate::part::fill_part(&rows, s, at, n, &mut seen, &mut values, &mut starts) {
         return Argument::Refused(reason::BAD_PAYLOAD);
     }
@@ -67,14 +82,14 @@ fn long_bytes(s: &[u8], at: usize, n: usize, octets: bool) -> Argument
     ensures { λ r. ⌜ r ≡ bytesIn octets (now (s .entry)) at n ⌝ }
 {
     let rows = layout::rows::bytes_rows();
-    let mut seen = [false; 10];
-    let mut values = [0; 10];
-    let mut starts = [0; 10];
+    let mut seen = [false; SLOTS];
+    let mut values = [0; SLOTS];
+    let mut starts = [0; SLOTS];
     if !crate::part::fill_part(&rows, s, at, n, &mut seen, &mut values, &mut starts) {
         return Argument::Refused(reason::BAD_PAYLOAD);
     }
-    let start = starts[1];
-    let len = values[1] as usize;
+    let start = starts[BYTES];
+    let len = values[BYTES] as usize;
     if octets {
         return Argument::Octets { start, len };
     }
@@ -96,25 +111,41 @@ pub(crate) fn read_bytes(s: &[u8], at: usize, n: usize, octets: bool) -> Argumen
 }
 
 // The value that a Scalar's type names.
-fn scalar_value(s: &[u8], seen: &[bool; 10], values: &[u64; 10], starts: &[usize; 10]) -> Argument
+fn scalar_value(
+    s: &[u8],
+    seen: &[bool; SLOTS],
+    values: &[u64; SLOTS],
+    starts: &[usize; SLOTS],
+) -> Argument
     ensures { λ r. ⌜
         r
         ≡ scalarOf (now (s .entry)) (fromArrays true (now (seen .entry)) (now (values .entry)) (now (starts .entry)))
         ⌝ }
 {
-    let t = values[1] % 0x1_0000_0000;
+    let t = values[TYPE] % uint32::COUNT;
     match t {
-        scalars::SINT => needed(seen[2], scalar::argument::signed_argument(values[2])),
-        scalars::UINT => needed(seen[3], Argument::Unsigned(values[3])),
+        scalars::SINT => needed(seen[SINT_FIELD], signed_argument(values[SINT_FIELD])),
+        scalars::UINT => needed(seen[UINT_FIELD], Argument::Unsigned(values[UINT_FIELD])),
         scalars::NULL => Argument::Null,
-        scalars::OCTETS => needed(seen[5], long_bytes(s, starts[5], values[5] as usize, true)),
-        scalars::DOUBLE => needed(seen[6], scalar::argument::double_argument(values[6])),
-        scalars::FLOAT => needed(
-            seen[7],
-            scalar::argument::float_argument((values[7] % 0x1_0000_0000) as u32),
+        scalars::OCTETS => needed(
+            seen[OCTETS_FIELD],
+            long_bytes(s, starts[OCTETS_FIELD], values[OCTETS_FIELD] as usize, true),
         ),
-        scalars::BOOL => needed(seen[8], Argument::Bool(values[8] != 0)),
-        scalars::STRING => needed(seen[9], long_bytes(s, starts[9], values[9] as usize, false)),
+        scalars::DOUBLE => needed(seen[DOUBLE_FIELD], double_argument(values[DOUBLE_FIELD])),
+        scalars::FLOAT => needed(
+            seen[FLOAT_FIELD],
+            float_argument((values[FLOAT_FIELD] % uint32::COUNT) as u32),
+        ),
+        scalars::BOOL => needed(seen[BOOL_FIELD], Argument::Bool(values[BOOL_FIELD] != 0)),
+        scalars::STRING => needed(
+            seen[STRING_FIELD],
+            long_bytes(
+                s,
+                starts[STRING_FIELD],
+                values[STRING_FIELD] as usize,
+                false,
+            ),
+        ),
         _ => Argument::Refused(reason::BAD_PAYLOAD),
     }
 }
@@ -124,9 +155,9 @@ pub(crate) fn long_scalar(s: &[u8], at: usize, n: usize) -> Argument
     ensures { λ r. ⌜ r ≡ scalarIn (now (s .entry)) at n ⌝ }
 {
     let rows = layout::rows::scalar_rows();
-    let mut seen = [false; 10];
-    let mut values = [0; 10];
-    let mut starts = [0; 10];
+    let mut seen = [false; SLOTS];
+    let mut values = [0; SLOTS];
+    let mut starts = [0; SLOTS];
     if !crate::part::fill_part(&rows, s, at, n, &mut seen, &mut values, &mut starts) {
         return Argument::Refused(reason::BAD_PAYLOAD);
     }
@@ -134,14 +165,22 @@ pub(crate) fn long_scalar(s: &[u8], at: usize, n: usize) -> Argument
 }
 
 // The value of an Any: a scalar, an object or an array.
-fn any_value(s: &[u8], seen: &[bool; 10], values: &[u64; 10], starts: &[usize; 10]) -> Argument
+fn any_value(
+    s: &[u8],
+    seen: &[bool; SLOTS],
+    values: &[u64; SLOTS],
+    starts: &[usize; SLOTS],
+) -> Argument
     ensures { λ r. ⌜
         r ≡ anyOf (now (s .entry)) (fromArrays true (now (seen .entry)) (now (values .entry)) (now (starts .entry)))
         ⌝ }
 {
-    let t = values[1] % 0x1_0000_0000;
+    let t = values[TYPE] % uint32::COUNT;
     match t {
-        anys::SCALAR => needed(seen[2], long_scalar(s, starts[2], values[2] as usize)),
+        anys::SCALAR => needed(
+            seen[SCALAR_FIELD],
+            long_scalar(s, starts[SCALAR_FIELD], values[SCALAR_FIELD] as usize),
+        ),
         anys::OBJECT => Argument::Object,
         anys::ARRAY => Argument::Array,
         _ => Argument::Refused(reason::BAD_PAYLOAD),
@@ -165,13 +204,11 @@ fn read_scalar(s: &[u8], at: usize, n: usize) -> Argument
     } = crate::pair::read_pair(s, at, n) {
         let named = first * 256 + tag;
         match named {
-            keys::SINT_KEY => return scalar::argument::signed_argument(value),
+            keys::SINT_KEY => return signed_argument(value),
             keys::UINT_KEY => return Argument::Unsigned(value),
             keys::OCTETS_KEY => return read_bytes(&s[..all], start, value as usize, true),
-            keys::DOUBLE_KEY => return scalar::argument::double_argument(value),
-            keys::FLOAT_KEY => return scalar::argument::float_argument(
-                (value % 0x1_0000_0000) as u32,
-            ),
+            keys::DOUBLE_KEY => return double_argument(value),
+            keys::FLOAT_KEY => return float_argument((value % uint32::COUNT) as u32),
             keys::BOOL_KEY => return Argument::Bool(value != 0),
             keys::STRING_KEY => return read_bytes(&s[..all], start, value as usize, false),
             _ => {}

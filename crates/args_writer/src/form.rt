@@ -97,7 +97,7 @@ fn double_form(x: f64) -> Form
     }
     value_form(
         scalars::DOUBLE,
-        scalars::DOUBLE_FIELD,
+        scalars::DOUBLE_FIELD as u32,
         wire_type::I64,
         f64::to_bits(x),
     )
@@ -111,7 +111,7 @@ fn float_form(x: f32) -> Form
     }
     value_form(
         scalars::FLOAT,
-        scalars::FLOAT_FIELD,
+        scalars::FLOAT_FIELD as u32,
         wire_type::I32,
         wide(f32::to_bits(x)),
     )
@@ -124,7 +124,12 @@ fn double_nan_form(bits: u64) -> Form
     if bits % 0x8000_0000_0000_0000 <= 0x7ff0_0000_0000_0000 {
         return no_form();
     }
-    value_form(scalars::DOUBLE, scalars::DOUBLE_FIELD, wire_type::I64, bits)
+    value_form(
+        scalars::DOUBLE,
+        scalars::DOUBLE_FIELD as u32,
+        wire_type::I64,
+        bits,
+    )
 }
 
 fn float_nan_form(bits: u32) -> Form
@@ -135,7 +140,7 @@ fn float_nan_form(bits: u32) -> Form
     }
     value_form(
         scalars::FLOAT,
-        scalars::FLOAT_FIELD,
+        scalars::FLOAT_FIELD as u32,
         wire_type::I32,
         bits as u64,
     )
@@ -145,9 +150,19 @@ fn bool_form(b: bool) -> Form
     ensures { λ r. ⌜ r ≡ valueForm Scalars.bool Scalars.boolField 0 (cond b 1 0) ⌝ }
 {
     if b {
-        value_form(scalars::BOOL, scalars::BOOL_FIELD, wire_type::VARINT, 1)
+        value_form(
+            scalars::BOOL,
+            scalars::BOOL_FIELD as u32,
+            wire_type::VARINT,
+            1,
+        )
     } else {
-        value_form(scalars::BOOL, scalars::BOOL_FIELD, wire_type::VARINT, 0)
+        value_form(
+            scalars::BOOL,
+            scalars::BOOL_FIELD as u32,
+            wire_type::VARINT,
+            0,
+        )
     }
 }
 
@@ -158,20 +173,20 @@ pub(crate) fn form_of(a: Argument, n: usize) -> Form
     match a {
         Argument::Signed(v) => value_form(
             scalars::SINT,
-            scalars::SINT_FIELD,
+            scalars::SINT_FIELD as u32,
             wire_type::VARINT,
             zigzag_encode(v),
         ),
         Argument::Unsigned(v) => value_form(
             scalars::UINT,
-            scalars::UINT_FIELD,
+            scalars::UINT_FIELD as u32,
             wire_type::VARINT,
             v,
         ),
         Argument::Null => value_form(scalars::NULL, 0, NO_FIELD, 0),
         Argument::Octets { start, len } => bytes_form(
             scalars::OCTETS,
-            scalars::OCTETS_FIELD,
+            scalars::OCTETS_FIELD as u32,
             start,
             len,
             n,
@@ -183,7 +198,7 @@ pub(crate) fn form_of(a: Argument, n: usize) -> Form
         Argument::Bool(b) => bool_form(b),
         Argument::String { start, len } => bytes_form(
             scalars::STRING,
-            scalars::STRING_FIELD,
+            scalars::STRING_FIELD as u32,
             start,
             len,
             n,

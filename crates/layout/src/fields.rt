@@ -4,6 +4,11 @@ ghost use Prim.Native.Nat.{_<_};
 ghost use Rattle.layout.specs.Slots.{badSlots, noSlots};
 ghost use Rattle.layout.specs.Fields.{fieldList, fieldsTo, useBy, useOf};
 ghost use Rattle.layout.specs.private.Arrays.{Holds, Listed, Noted, hasSeen, metBy};
+use crate::row::COLUMNS;
+use crate::row::NUMBER;
+use crate::row::REPEATED;
+use crate::row::REQUIRED;
+use crate::slots::SLOTS;
 use wire::field::Field;
 
 // What a message makes of a field: it is skipped, only counted (a repeated field, whose occurrences are
@@ -15,26 +20,26 @@ pub enum Use {
 }
 
 // By the row of the field's number.
-fn use_by(row: [u16; 6], number: u64, wire: u64, value: u64) -> Use
+fn use_by(row: [u16; COLUMNS], number: u64, wire: u64, value: u64) -> Use
     ensures { λ r. ⌜ r ≡ useBy row number wire value ⌝ }
 {
     if !crate::row::row_takes(row, number, wire, value) {
         return Use::Unknown;
     }
-    if row[4] == 1 {
+    if row[REPEATED] == 1 {
         return Use::Counted;
     }
     Use::Kept
 }
 
 // By the message's rows; a number that no row has, and no field has the number 0, is unknown at once.
-fn use_of(rows: &[[u16; 6]], number: u64, wire: u64, value: u64) -> Use
+fn use_of(rows: &[[u16; COLUMNS]], number: u64, wire: u64, value: u64) -> Use
     requires { ⌜ 0 < number ⌝ }
     ensures { λ r. ⌜ r ≡ useOf (now (rows .entry)) number wire value ⌝ }
 {
     let mut i = 0;
     while i < rows.len() {
-        if crate::row::wide(rows[i][1]) == number {
+        if crate::row::wide(rows[i][NUMBER]) == number {
             return use_by(rows[i], number, wire, value);
         }
         i += 1;
@@ -43,22 +48,22 @@ fn use_of(rows: &[[u16; 6]], number: u64, wire: u64, value: u64) -> Use
 }
 
 // Arrays that hold nothing.
-pub fn clear(seen: &mut [bool; 10], values: &mut [u64; 10], starts: &mut [usize; 10])
+pub fn clear(seen: &mut [bool; SLOTS], values: &mut [u64; SLOTS], starts: &mut [usize; SLOTS])
     ensures { λ r. ⌜ Noted badSlots (now (seen .exit)) (now (values .exit)) (now (starts .exit)) ⌝ }
 {
-    *seen = [false; 10];
-    *values = [0; 10];
-    *starts = [0; 10];
+    *seen = [false; SLOTS];
+    *values = [0; SLOTS];
+    *starts = [0; SLOTS];
 }
 
 // The fields of s from `from` on, noted in arrays that hold nothing yet; answers whether all are good.
 fn list_fields(
-    rows: &[[u16; 6]],
+    rows: &[[u16; COLUMNS]],
     s: &[u8],
     from: usize,
-    seen: &mut [bool; 10],
-    values: &mut [u64; 10],
-    starts: &mut [usize; 10],
+    seen: &mut [bool; SLOTS],
+    values: &mut [u64; SLOTS],
+    starts: &mut [usize; SLOTS],
 ) -> bool
     requires { ⌜ Noted noSlots (now seen) (now values) (now starts) ⌝ }
     ensures { λ r. ⌜
@@ -97,13 +102,13 @@ fn list_fields(
 }
 
 // Whether a row's field occurs, if it is required.
-fn row_met(row: [u16; 6], seen: &[bool]) -> bool
+fn row_met(row: [u16; COLUMNS], seen: &[bool]) -> bool
     ensures { λ r. ⌜ r ≡ metBy row (now (seen .entry)) ⌝ }
 {
-    if row[3] != 1 {
+    if row[REQUIRED] != 1 {
         return true;
     }
-    let k = crate::row::wide(row[1]) as usize;
+    let k = crate::row::wide(row[NUMBER]) as usize;
     if seen.len() <= k {
         return false;
     }
@@ -111,7 +116,7 @@ fn row_met(row: [u16; 6], seen: &[bool]) -> bool
 }
 
 // Whether each required field of the message occurs.
-fn has_required(rows: &[[u16; 6]], seen: &[bool]) -> bool
+fn has_required(rows: &[[u16; COLUMNS]], seen: &[bool]) -> bool
     ensures { λ r. ⌜ r ≡ hasSeen (now (rows .entry)) (now (seen .entry)) ⌝ }
 {
     let mut i = 0;
@@ -127,13 +132,13 @@ fn has_required(rows: &[[u16; 6]], seen: &[bool]) -> bool
 // The message with these rows whose bytes go from `from` to `end`. Answers whether it is good; the
 // arrays then hold, by field number, whether it occurs, its value and its place.
 pub fn fill_fields(
-    rows: &[[u16; 6]],
+    rows: &[[u16; COLUMNS]],
     s: &[u8],
     from: usize,
     end: usize,
-    seen: &mut [bool; 10],
-    values: &mut [u64; 10],
-    starts: &mut [usize; 10],
+    seen: &mut [bool; SLOTS],
+    values: &mut [u64; SLOTS],
+    starts: &mut [usize; SLOTS],
 ) -> bool
     ensures { λ r. ⌜
         Holds (fieldsTo (now (rows .entry)) (now (s .entry)) from end) r (now (seen .exit)) (now (values .exit))

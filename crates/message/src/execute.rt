@@ -19,7 +19,10 @@ use args::pair::Pair;
 use args::part::Part;
 use args::part::fill_part;
 use layout::fields::fill_fields;
+use layout::slots::SLOTS;
 use protocol::client;
+use protocol::fields;
+use protocol::wire_type;
 
 // An Open's cursor id, where its statement stands, and whether fetch_rows is there and what it is; or the message is
 // bad.
@@ -148,9 +151,9 @@ fn long_opening(s: &[u8]) -> Opening
     ensures { λ r. ⌜ ofOpening (now (s .entry)) r ≡ openFrame (now (s .entry)) ⌝ }
 {
     let rows = layout::rows::open_rows();
-    let mut seen = [false; 10];
-    let mut values = [0; 10];
-    let mut starts = [0; 10];
+    let mut seen = [false; SLOTS];
+    let mut values = [0; SLOTS];
+    let mut starts = [0; SLOTS];
     if !fill_fields(
         &rows,
         s,
@@ -162,13 +165,12 @@ fn long_opening(s: &[u8]) -> Opening
     ) {
         return Opening::Bad;
     }
-    // Field 1 is cursor_id, 4 the statement, 5 fetch_rows.
     Opening::Of {
-        id: values[1],
-        start: starts[4],
-        len: values[4] as usize,
-        has: seen[5],
-        rows: values[5],
+        id: values[fields::ID],
+        start: starts[fields::OPEN_STMT],
+        len: values[fields::OPEN_STMT] as usize,
+        has: seen[fields::OPEN_ROWS],
+        rows: values[fields::OPEN_ROWS],
     }
 }
 
@@ -200,24 +202,23 @@ fn long_inner(s: &[u8], at: usize, n: usize) -> Inner
     ensures { λ r. ⌜ Runs (now (s .entry)) at n r ⌝ }
 {
     let rows = layout::rows::open_stmt_rows();
-    let mut seen = [false; 10];
-    let mut values = [0; 10];
-    let mut starts = [0; 10];
+    let mut seen = [false; SLOTS];
+    let mut values = [0; SLOTS];
+    let mut starts = [0; SLOTS];
     if !fill_part(&rows, s, at, n, &mut seen, &mut values, &mut starts) {
         return Inner::Bad;
     }
-    // Field 2 is the Execute.
-    if !seen[2] {
+    if !seen[fields::OPEN_EXECUTE] {
         return Inner::Bad;
     }
     Inner::At {
-        start: starts[2],
-        len: values[2] as usize,
+        start: starts[fields::OPEN_EXECUTE],
+        len: values[fields::OPEN_EXECUTE] as usize,
     }
 }
 
 // The type and the tag of an Open's statement of two fields, in one number: type 0, and its Execute in field 2.
-const CHOSEN_EXECUTE: u64 = 18;
+const CHOSEN_EXECUTE: u64 = fields::OPEN_EXECUTE as u64 * 8 + wire_type::LEN;
 
 // The statement in `n` bytes of s from `at` on, with a short way for one of two fields, its type and its Execute.
 fn find_execute(s: &[u8], at: usize, n: usize) -> Inner

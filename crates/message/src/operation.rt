@@ -1,6 +1,7 @@
 // The types of a Prepare's statement.
 ghost use mathlib.Core.Path.{_≡_};
 ghost use Prim.Native.Nat.{_<_};
+ghost use Rattle.layout.specs.Row.{slotCount};
 ghost use Rattle.message.specs.Operation.{fieldOf};
 
 pub const FIND: u64 = 0;
@@ -22,11 +23,11 @@ const UPDATE_FIELD: usize = 4;
 
 const DELETE_FIELD: usize = 5;
 
-const STMT_EXECUTE_FIELD: usize = 6;
+pub(crate) const STMT_EXECUTE_FIELD: usize = 6;
 
 // The field that a type chooses as the body.
 pub fn field_of(t: u64) -> usize
-    ensures { λ r. ⌜ (r ≡ fieldOf t) × (r < 10) ⌝ }
+    ensures { λ r. ⌜ (r ≡ fieldOf t) × (r < slotCount) ⌝ }
 {
     if t == FIND {
         return FIND_FIELD;

@@ -3,6 +3,7 @@ ghost use mathlib.Core.Path.{_≡_};
 ghost use Rattle.args.specs.Part.{low32};
 ghost use Rattle.message.specs.Payload.{optionalBy, truthOf};
 use crate::request::Optional;
+use protocol::uint32;
 
 // Where a payload begins, behind the length and the type.
 pub const PAYLOAD: usize = 5;
@@ -11,7 +12,7 @@ pub const PAYLOAD: usize = 5;
 pub(crate) fn low(v: u64) -> u32
     ensures { λ r. ⌜ r ≡ low32 v ⌝ }
 {
-    (v % 0x1_0000_0000) as u32
+    (v % uint32::COUNT) as u32
 }
 
 // An optional field: whether it occurs, and its value.

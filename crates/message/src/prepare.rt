@@ -17,7 +17,11 @@ use args::pair::Text;
 use args::part::Part;
 use args::part::fill_part;
 use layout::fields::fill_fields;
+use layout::slots::SLOTS;
 use protocol::client;
+use protocol::fields;
+use protocol::uint32;
+use protocol::wire_type;
 use wire::value::Value;
 
 // A Prepare's id, and where its statement stands; or the message is bad.
@@ -147,13 +151,13 @@ fn long_chosen(s: &[u8], at: usize, n: usize) -> Chosen
     ensures { λ r. ⌜ Chooses (now (s .entry)) at n r ⌝ }
 {
     let rows = layout::rows::prepare_stmt_rows();
-    let mut seen = [false; 10];
-    let mut values = [0; 10];
-    let mut starts = [0; 10];
+    let mut seen = [false; SLOTS];
+    let mut values = [0; SLOTS];
+    let mut starts = [0; SLOTS];
     if !fill_part(&rows, s, at, n, &mut seen, &mut values, &mut starts) {
         return Chosen::Bad;
     }
-    let operation = values[1] % 0x1_0000_0000;
+    let operation = values[fields::TYPE] % uint32::COUNT;
     let k = operation::field_of(operation);
     if !seen[k] {
         return Chosen::Bad;
@@ -166,7 +170,9 @@ fn long_chosen(s: &[u8], at: usize, n: usize) -> Chosen
 }
 
 // A statement's type StmtExecute, and the tag of the body that it chooses (field 6, wire type 2), in one number.
-const CHOSEN_EXECUTE: u64 = operation::STMT_EXECUTE * 256 + 50;
+const CHOSEN_EXECUTE: u64 = operation::STMT_EXECUTE * 256
+    + operation::STMT_EXECUTE_FIELD as u64 * 8
+    + wire_type::LEN;
 
 // The statement in `n` bytes of s from `at` on, with a short way for one of two fields, its type and its body, a
 // StmtExecute.
@@ -204,9 +210,9 @@ pub fn long_body(s: &[u8], operation: u64, at: usize, n: usize) -> Arguments
         return b.arguments(at, at + n);
     }
     let rows = layout::rows::stmt_execute_rows();
-    let mut seen = [false; 10];
-    let mut values = [0; 10];
-    let mut starts = [0; 10];
+    let mut seen = [false; SLOTS];
+    let mut values = [0; SLOTS];
+    let mut starts = [0; SLOTS];
     if !fill_part(&rows[..0], s, at, n, &mut seen, &mut values, &mut starts) {
         return Arguments::bad();
     }

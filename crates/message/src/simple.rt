@@ -13,7 +13,9 @@ use crate::request::Fetch;
 use crate::request::Frame;
 use crate::request::Request;
 use layout::fields::fill_fields;
+use layout::slots::SLOTS;
 use protocol::client;
+use protocol::fields;
 use varint::Varint;
 
 // A payload of no fields of its own is good.
@@ -21,9 +23,9 @@ fn is_plain(s: &[u8]) -> bool
     ensures { λ r. ⌜ r ≡ fieldsAt [] (now (s .entry)) payload .good ⌝ }
 {
     let rows = layout::rows::close_rows();
-    let mut seen = [false; 10];
-    let mut values = [0; 10];
-    let mut starts = [0; 10];
+    let mut seen = [false; SLOTS];
+    let mut values = [0; SLOTS];
+    let mut starts = [0; SLOTS];
     fill_fields(
         &rows[..0],
         s,
@@ -69,9 +71,9 @@ pub fn read_deallocate(s: &[u8]) -> Frame
     ensures { λ r. ⌜ r ≡ deallocateFrame (now (s .entry)) ⌝ }
 {
     let rows = layout::rows::deallocate_rows();
-    let mut seen = [false; 10];
-    let mut values = [0; 10];
-    let mut starts = [0; 10];
+    let mut seen = [false; SLOTS];
+    let mut values = [0; SLOTS];
+    let mut starts = [0; SLOTS];
     if !fill_fields(
         &rows,
         s,
@@ -88,7 +90,7 @@ pub fn read_deallocate(s: &[u8]) -> Frame
     }
     Frame::Good {
         used: s.len(),
-        request: Request::Deallocate(low(values[1])),
+        request: Request::Deallocate(low(values[fields::ID])),
     }
 }
 
@@ -96,9 +98,9 @@ pub fn read_close(s: &[u8]) -> Frame
     ensures { λ r. ⌜ r ≡ closeFrame (now (s .entry)) ⌝ }
 {
     let rows = layout::rows::close_rows();
-    let mut seen = [false; 10];
-    let mut values = [0; 10];
-    let mut starts = [0; 10];
+    let mut seen = [false; SLOTS];
+    let mut values = [0; SLOTS];
+    let mut starts = [0; SLOTS];
     if !fill_fields(
         &rows,
         s,
@@ -115,7 +117,7 @@ pub fn read_close(s: &[u8]) -> Frame
     }
     Frame::Good {
         used: s.len(),
-        request: Request::Close(low(values[1])),
+        request: Request::Close(low(values[fields::ID])),
     }
 }
 

@@ -8,4 +8,4 @@ pub const OBJECT: u64 = 2;
 pub const ARRAY: u64 = 3;
 
 // The field of an Any that holds its scalar.
-pub const SCALAR_FIELD: u32 = 2;
+pub const SCALAR_FIELD: usize = 2;

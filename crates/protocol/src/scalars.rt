@@ -16,16 +16,16 @@ pub const BOOL: u64 = 7;
 pub const STRING: u64 = 8;
 
 // The fields of a Scalar that hold the values.
-pub const SINT_FIELD: u32 = 2;
+pub const SINT_FIELD: usize = 2;
 
-pub const UINT_FIELD: u32 = 3;
+pub const UINT_FIELD: usize = 3;
 
-pub const OCTETS_FIELD: u32 = 5;
+pub const OCTETS_FIELD: usize = 5;
 
-pub const DOUBLE_FIELD: u32 = 6;
+pub const DOUBLE_FIELD: usize = 6;
 
-pub const FLOAT_FIELD: u32 = 7;
+pub const FLOAT_FIELD: usize = 7;
 
-pub const BOOL_FIELD: u32 = 8;
+pub const BOOL_FIELD: usize = 8;
 
-pub const STRING_FIELD: u32 = 9;
+pub const STRING_FIELD: usize = 9;

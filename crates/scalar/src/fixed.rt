@@ -3,6 +3,7 @@ ghost use mathlib.Core.Path.{_≡_};
 ghost use Prim.Native.Nat.{_+_, _≤_, _<_, _^_};
 ghost use lib.ListN.{length};
 ghost use Rattle.scalar.specs.Fixed.{little, fixedAt};
+use protocol::uint32;
 
 // What stands at a place: a number and the place behind it, or no whole value.
 pub enum Fixed {
@@ -54,7 +55,7 @@ pub fn read_fixed64(s: &[u8], at: usize) -> Fixed
         return Fixed::Bad;
     }
     Fixed::Number {
-        value: four(s, at) + 0x1_0000_0000 * four(s, at + 4),
+        value: four(s, at) + uint32::COUNT * four(s, at + 4),
         next: at + 8,
     }
 }

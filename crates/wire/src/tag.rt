@@ -1,6 +1,7 @@
 // A field's tag: its number and wire type.
 ghost use mathlib.Core.Path.{_≡_};
 ghost use Rattle.wire.specs.Tag.{tagAt};
+use protocol::uint32;
 use varint::Varint;
 use varint::wide;
 
@@ -17,7 +18,7 @@ fn long_tag(s: &[u8], at: usize) -> Tag
     match varint::read_varint(s, at) {
         Varint::Bad => Tag::Bad,
         Varint::Number { value, next } => {
-            if 0x1_0000_0000 <= value {
+            if uint32::COUNT <= value {
                 return Tag::Bad;
             }
             if value < 8 {

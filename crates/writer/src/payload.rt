@@ -17,23 +17,24 @@ use encode::field::put_prefix;
 use encode::put::put_slice;
 use message::operation::field_of;
 use protocol::client;
+use protocol::fields;
 
-// Field numbers (L1). The id comes first in every message, the type in every statement.
-const ID: u32 = 1;
+// Field numbers as they are put.
+const ID: u32 = fields::ID as u32;
 
-const TYPE: u32 = 1;
+const TYPE: u32 = fields::TYPE as u32;
 
-const PREPARE_STMT: u32 = 2;
+const PREPARE_STMT: u32 = fields::PREPARE_STMT as u32;
 
-const COMPACT: u32 = 3;
+const COMPACT: u32 = fields::COMPACT as u32;
 
-const OPEN_EXECUTE: u32 = 2;
+const OPEN_EXECUTE: u32 = fields::OPEN_EXECUTE as u32;
 
-const OPEN_STMT: u32 = 4;
+const OPEN_STMT: u32 = fields::OPEN_STMT as u32;
 
-const OPEN_ROWS: u32 = 5;
+const OPEN_ROWS: u32 = fields::OPEN_ROWS as u32;
 
-const FETCH_ROWS: u32 = 2;
+const FETCH_ROWS: u32 = fields::FETCH_ROWS as u32;
 
 // The one type of an Open's statement.
 const OPENS_PREPARED: u64 = 0;
