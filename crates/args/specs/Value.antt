@@ -6,6 +6,7 @@ use mathlib.Core.Bool.{Bool, true, false, not, cond}
 use mathlib.Core.List.{List}
 use lib.Dec.{eqb}
 use Rattle.protocol.specs.Anys as Anys
+use Rattle.protocol.specs.Fields as Fields
 use Rattle.protocol.specs.Reason as Reason
 use Rattle.protocol.specs.Scalars as Scalars
 use Rattle.scalar.specs.Argument.{signedOf, doubleOf, floatOf}
@@ -23,10 +24,13 @@ bad = Va.Refused Reason.badPayload
 abbrev pub present : ℕ → Argument → Argument
 present count a = cond (eqb count 0) bad a
 
--- the bytes in field 1 of an octets or string message
+-- the bytes of an octets or string message
 abbrev pub bytesOf : Bool → Slots → Argument
 bytesOf octets x =
-    cond (x .good) (cond octets (Va.Octets (startOf x 1) (lenOf x 1)) (Va.String (startOf x 1) (lenOf x 1))) bad
+    cond (x .good)
+    (cond octets (Va.Octets (startOf x Fields.bytes) (lenOf x Fields.bytes))
+    (Va.String (startOf x Fields.bytes) (lenOf x Fields.bytes)))
+    bad
 
 abbrev pub bytesIn : Bool → List ℕ → ℕ → ℕ → Argument
 bytesIn octets s at n = bytesOf octets (embedded (rowsOf bytes) s at n)
@@ -50,7 +54,7 @@ ofType s x t =
     (cond (eqb t Scalars.string) (bytesBy false s x Scalars.stringField) bad)))))))
 
 unfoldable pub scalarOf : List ℕ → Slots → Argument
-scalarOf s x = cond (x .good) (ofType s x (low32 (valueOf x 1))) bad
+scalarOf s x = cond (x .good) (ofType s x (low32 (valueOf x Fields.type))) bad
 
 -- the Scalar in n bytes of s from the place `at` on
 abbrev pub scalarIn : List ℕ → ℕ → ℕ → Argument
@@ -64,7 +68,7 @@ ofAnyType s x t =
     (cond (eqb t Anys.object) Va.Object (cond (eqb t Anys.array) Va.Array bad))
 
 unfoldable pub anyOf : List ℕ → Slots → Argument
-anyOf s x = cond (x .good) (ofAnyType s x (low32 (valueOf x 1))) bad
+anyOf s x = cond (x .good) (ofAnyType s x (low32 (valueOf x Fields.type))) bad
 
 -- the argument whose Any stands in n bytes of s from the place `at` on
 abbrev pub argumentIn : List ℕ → ℕ → ℕ → Argument

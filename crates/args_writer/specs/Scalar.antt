@@ -9,6 +9,8 @@ use Rattle.scalar.specs.Zigzag.{zigzag}
 use Rattle.scalar.specs.Argument.{typeOf}
 use Rattle.scalar.specs.declared.argument.Argument.{Argument}
 use Rattle.scalar.specs.declared.argument.Argument.the-variants as Va
+use Rattle.protocol.specs.Anys as Anys
+use Rattle.protocol.specs.Fields as Fields
 use Rattle.protocol.specs.Scalars as Scalars
 use Rattle.encode.specs.Field.{numberField, bytesField}
 use Rattle.encode.specs.Field.{fixedField}
@@ -53,26 +55,28 @@ abbrev pub valueField : Argument → List ℕ → List ℕ
 valueField (Va.Signed z) src = numberField Scalars.sintField (zigzag z)
 valueField (Va.Unsigned n) src = numberField Scalars.uintField n
 valueField Va.Null src = []
-valueField (Va.Octets start len) src = bytesField Scalars.octetsField (bytesField 1 (take len (drop start src)))
+valueField (Va.Octets start len) src =
+    bytesField Scalars.octetsField (bytesField Fields.bytes (take len (drop start src)))
 valueField (Va.Double d) src = fixedField Scalars.doubleField 1 8 (toBits binary64 d)
 valueField (Va.DoubleNan n) src = fixedField Scalars.doubleField 1 8 n
 valueField (Va.Float d) src = fixedField Scalars.floatField 5 4 (toBits binary32 d)
 valueField (Va.FloatNan n) src = fixedField Scalars.floatField 5 4 n
 valueField (Va.Bool b) src = numberField Scalars.boolField (cond b 1 0)
-valueField (Va.String start len) src = bytesField Scalars.stringField (bytesField 1 (take len (drop start src)))
+valueField (Va.String start len) src =
+    bytesField Scalars.stringField (bytesField Fields.bytes (take len (drop start src)))
 valueField Va.Object src = []
 valueField Va.Array src = []
 valueField (Va.Refused n) src = []
 
 -- a Scalar of type t with the field of its value, in an Any of type 1, in an args field
 unfoldable pub scalarBytes : ℕ → List ℕ → List ℕ
-scalarBytes t value = numberField 1 t ++ value
+scalarBytes t value = numberField Fields.type t ++ value
 
 unfoldable pub anyBytes : ℕ → List ℕ → List ℕ
-anyBytes t value = numberField 1 1 ++ bytesField 2 (scalarBytes t value)
+anyBytes t value = numberField Fields.type Anys.scalar ++ bytesField Anys.scalarField (scalarBytes t value)
 
 abbrev pub argBytes : ℕ → List ℕ → List ℕ
-argBytes t value = bytesField 2 (anyBytes t value)
+argBytes t value = bytesField Fields.args (anyBytes t value)
 
 -- the args field of a scalar, whose bytes are those of src
 abbrev pub argField : Argument → List ℕ → List ℕ

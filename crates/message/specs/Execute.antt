@@ -5,6 +5,7 @@ use mathlib.Core.List.{List}
 use lib.ListN.{length, take}
 use lib.Dec.{leb}
 use Rattle.protocol.specs.Client as Client
+use Rattle.protocol.specs.Fields as Fields
 use Rattle.layout.specs.Table.{rowsOf, openStmt}
 use Rattle.layout.specs.Fields.{fieldsAt}
 use Rattle.layout.specs.declared.slots.Slots.{Slots}
@@ -31,7 +32,9 @@ argumentsWithin s at n = cond (leb (at + n) (length s)) (argumentsIn (take (at +
 abbrev pub executeOf : Slots → Arguments → Execute
 executeOf x a =
     cond (x .good)
-    (cond (a .good) (record { stmt = low32 (valueOf x 1); compact = truthOf (optionalOf x 3); args = a }) badExecute)
+    (cond (a .good)
+    (record { stmt = low32 (valueOf x Fields.id); compact = truthOf (optionalOf x Fields.compact); args = a })
+    badExecute)
     badExecute
 
 unfoldable pub executeIn : List ℕ → ℕ → ℕ → Execute
@@ -52,8 +55,9 @@ openFrom s id rows body x =
 -- its statement must be an Execute (type 0), which must be present
 abbrev pub openChosen : List ℕ → ℕ → Optional → Slots → Frame
 openChosen s id rows y =
-    cond (y .good && not (absent y 2))
-    (openFrom s id rows (record { start = startOf y 2; len = lenOf y 2 }) (executeIn s (startOf y 2) (lenOf y 2)))
+    cond (y .good && not (absent y Fields.openExecute))
+    (openFrom s id rows (record { start = startOf y Fields.openExecute; len = lenOf y Fields.openExecute })
+    (executeIn s (startOf y Fields.openExecute) (lenOf y Fields.openExecute)))
     (Frame.BadPayload (length s) Client.open')
 
 -- the statement stands in n bytes of s from the place `at` on
@@ -62,7 +66,9 @@ openInside s id rows at n = openChosen s id rows (embedded (rowsOf openStmt) s a
 
 abbrev pub openOf : List ℕ → Slots → Frame
 openOf s x =
-    cond (x .good) (openInside s (valueOf x 1) (optionalOf x 5) (startOf x 4) (lenOf x 4))
+    cond (x .good)
+    (openInside s (valueOf x Fields.id) (optionalOf x Fields.openRows) (startOf x Fields.openStmt)
+    (lenOf x Fields.openStmt))
     (Frame.BadPayload (length s) Client.open')
 
 unfoldable pub openFrame : List ℕ → Frame

@@ -6,6 +6,7 @@ use mathlib.Core.List.{List, []}
 use lib.ListN.{length}
 use lib.Dec.{eqb}
 use Rattle.protocol.specs.Client as Client
+use Rattle.protocol.specs.Fields as Fields
 use Rattle.layout.specs.Table.{rowsOf, prepareStmt, stmtExecute}
 use Rattle.layout.specs.Fields.{fieldsAt}
 use Rattle.layout.specs.declared.slots.Slots.{Slots}
@@ -44,7 +45,7 @@ prepareTyped s id y operation = prepareChosen s id y operation (Operation.fieldO
 
 -- by what the statement holds
 abbrev pub prepareRead : List ℕ → ℕ → Slots → Frame
-prepareRead s id y = prepareTyped s id y (low32 (valueOf y 1))
+prepareRead s id y = prepareTyped s id y (low32 (valueOf y Fields.type))
 
 -- the statement stands in n bytes of s from the place `at` on
 abbrev pub prepareInside : List ℕ → ℕ → ℕ → ℕ → Frame
@@ -52,7 +53,7 @@ prepareInside s id at n = prepareRead s id (embedded (rowsOf prepareStmt) s at n
 
 abbrev pub prepareOf : List ℕ → Slots → Frame
 prepareOf s x =
-    cond (x .good) (prepareInside s (valueOf x 1) (startOf x 2) (lenOf x 2))
+    cond (x .good) (prepareInside s (valueOf x Fields.id) (startOf x Fields.prepareStmt) (lenOf x Fields.prepareStmt))
     (Frame.BadPayload (length s) Client.prepare)
 
 unfoldable pub prepareFrame : List ℕ → Frame

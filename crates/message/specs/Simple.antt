@@ -2,6 +2,7 @@
 use Prim.Native.Nat.{ℕ}
 use mathlib.Core.List.{List, []}
 use Rattle.protocol.specs.Client as Client
+use Rattle.protocol.specs.Fields as Fields
 use Rattle.layout.specs.Table.{rowsOf}
 use Rattle.layout.specs.Fields.{fieldsAt}
 use Rattle.layout.specs.declared.slots.Slots.{Slots}
@@ -21,13 +22,13 @@ unfoldable pub sessionCloseFrame : List ℕ → Frame
 sessionCloseFrame s = plainIn s Client.sessionClose Request.SessionClose (fieldsAt [] s payload)
 
 abbrev pub deallocateIn : List ℕ → Slots → Frame
-deallocateIn s x = ifGood s Client.deallocate (x .good) (Request.Deallocate (low32 (valueOf x 1)))
+deallocateIn s x = ifGood s Client.deallocate (x .good) (Request.Deallocate (low32 (valueOf x Fields.id)))
 
 unfoldable pub deallocateFrame : List ℕ → Frame
 deallocateFrame s = deallocateIn s (fieldsAt (rowsOf Client.deallocate) s payload)
 
 abbrev pub closeIn : List ℕ → Slots → Frame
-closeIn s x = ifGood s Client.close (x .good) (Request.Close (low32 (valueOf x 1)))
+closeIn s x = ifGood s Client.close (x .good) (Request.Close (low32 (valueOf x Fields.id)))
 
 unfoldable pub closeFrame : List ℕ → Frame
 closeFrame s = closeIn s (fieldsAt (rowsOf Client.close) s payload)
@@ -35,7 +36,8 @@ closeFrame s = closeIn s (fieldsAt (rowsOf Client.close) s payload)
 -- a Fetch may name fetch_rows
 abbrev pub fetchIn : List ℕ → Slots → Frame
 fetchIn s x =
-    ifGood s Client.fetch (x .good) (Request.Fetch (record { cursor = low32 (valueOf x 1); rows = optionalOf x 2 }))
+    ifGood s Client.fetch (x .good)
+    (Request.Fetch (record { cursor = low32 (valueOf x Fields.id); rows = optionalOf x Fields.fetchRows }))
 
 unfoldable pub fetchFrame : List ℕ → Frame
 fetchFrame s = fetchIn s (fieldsAt (rowsOf Client.fetch) s payload)

@@ -1,4 +1,5 @@
 pub mod Client
+pub mod Fields
 pub mod Reason
 pub mod Server
 pub mod Scalars

@@ -1,7 +1,7 @@
 -- Skipping a group, one turn of the loop at a time. Assumes nothing.
 use Prim.Native.Nat.{ℕ, zero, suc, _+_, _-_, _≤_, _<_}
 use native.Mathlib.Omega.{arith}
-use mathlib.Core.Path.{_≡_, refl, sym, ap, _∙_}
+use mathlib.Core.Path.{_≡_, refl, sym, ap, subst, _∙_}
 use mathlib.Core.List.{List}
 use lib.ListN.{length, take}
 use lib.Seq.{take-length}
@@ -96,63 +96,56 @@ module _ {depth : ℕ} {s : List ℕ} {at number p n w next : ℕ} (r : Turn dep
   pub misended : w ≡ 4 → (n ≡ number → ⊥) → Skip.Bad ≡ groupEnd depth s at number
   misended h g = sym (simp (eq-eqb w 4 h, ne-eqb n number g)) ∙ answers r
 
-  into : (w ≡ 4 → ⊥) → w ≡ 3 → andThen (inner depth s n next) (more r) ≡ groupEnd depth s at number
-  into h g = sym (simp (ne-eqb w 4 h, eq-eqb w 3 g)) ∙ answers r
-
-  over : (w ≡ 4 → ⊥) → (w ≡ 3 → ⊥) → andThen (skipValue s w next) (more r) ≡ groupEnd depth s at number
-  over h g = sym (simp (ne-eqb w 4 h, ne-eqb w 3 g)) ∙ answers r
-
   next-past : p < next
   next-past = tag-inside (tag-past s p)
     where
       tag-inside : PastTag p (length s) (tagAt s p) → p < next
       tag-inside = rw (r .tag) (λ h. h .0)
 
-  -- a skip from the tag's end on that answers for the group: a bad one, or the loop's next place
-  stops : (x : Skip) → andThen x (more r) ≡ groupEnd depth s at number → x ≡ Skip.Bad →
-      Skip.Bad ≡ groupEnd depth s at number
-  stops x h b = ap (λ (y : Skip). andThen y (more r)) (sym b) ∙ h
+  -- what was skipped from the tag's end on, a group or a value, answers for the group
+  pub record Skipped (x : Skip) : Type 0 where
+    pub whole : andThen x (more r) ≡ groupEnd depth s at number
+    pub past : PastSkip next (length s) x
 
-  advances : (x : Skip) → PastSkip next (length s) x → {q : ℕ} → x ≡ Skip.At q → p < q
-  advances x h {q} b = go (rw b at h)
-    where
-      go : PastSkip next (length s) (Skip.At q) → p < q
-      go g = omega (arith, next-past)
-
-  goes-on : (x : Skip) → andThen x (more r) ≡ groupEnd depth s at number → PastSkip next (length s) x → {q : ℕ} →
-      x ≡ Skip.At q →
-      Skipping depth s at number q
-  goes-on x h g {q} b =
+  pub into : (w ≡ 4 → ⊥) → w ≡ 3 → Skipped (inner depth s n next)
+  into h g =
       record {
-        deep = r .state .deep;
-        most = r .state .most - 1;
-        enough = omega (arith, r .state .enough, advances x g b);
-        whole = ap (λ (y : Skip). andThen y (more r)) (sym b) ∙ h;
+        whole = sym (simp (ne-eqb w 4 h, eq-eqb w 3 g)) ∙ answers r;
+        past = group-past (depth - 1) s next n;
       }
 
-  -- the bytes lent anew are the same
-  pub group-lent : {x : Skip} → x ≡ inner depth (take (length s) s) n next → inner depth s n next ≡ x
-  group-lent e = sym (e ∙ ap (λ (l : List ℕ). inner depth l n next) (take-length s))
+  pub over : (w ≡ 4 → ⊥) → (w ≡ 3 → ⊥) → Skipped (skipValue s w next)
+  over h g = record { whole = sym (simp (ne-eqb w 4 h, ne-eqb w 3 g)) ∙ answers r; past = skip-past s w next }
 
-  pub value-lent : {x : Skip} → x ≡ skipValue (take (length s) s) w next → skipValue s w next ≡ x
-  value-lent e = sym (e ∙ ap (λ (l : List ℕ). skipValue l w next) (take-length s))
+  -- the bytes were lent anew, and are the same
+  lent : (f : List ℕ → Skip) {x : Skip} → Skipped (f s) → x ≡ f (take (length s) s) → Skipped x
+  lent f k e = subst Skipped (sym (e ∙ ap f (take-length s))) k
 
-  -- the field is an inner group
-  pub inner-bad : (w ≡ 4 → ⊥) → w ≡ 3 → inner depth s n next ≡ Skip.Bad → Skip.Bad ≡ groupEnd depth s at number
-  inner-bad h g = stops (inner depth s n next) (into h g)
+  pub group-lent : (w ≡ 4 → ⊥) → w ≡ 3 → {x : Skip} → x ≡ inner depth (take (length s) s) n next → Skipped x
+  group-lent h g = lent (λ (l : List ℕ). inner depth l n next) (into h g)
 
-  pub inner-past : {q : ℕ} → inner depth s n next ≡ Skip.At q → p < q
-  inner-past = advances (inner depth s n next) (group-past (depth - 1) s next n)
+  pub value-lent : (w ≡ 4 → ⊥) → (w ≡ 3 → ⊥) → {x : Skip} → x ≡ skipValue (take (length s) s) w next → Skipped x
+  value-lent h g = lent (λ (l : List ℕ). skipValue l w next) (over h g)
 
-  pub inner-on : (w ≡ 4 → ⊥) → w ≡ 3 → {q : ℕ} → inner depth s n next ≡ Skip.At q → Skipping depth s at number q
-  inner-on h g = goes-on (inner depth s n next) (into h g) (group-past (depth - 1) s next n)
+  -- a bad one, or the loop's next place
+  module _ {x : Skip} (k : Skipped x) where
+    onward : {y : Skip} → x ≡ y → andThen y (more r) ≡ groupEnd depth s at number
+    onward e = ap (λ (y : Skip). andThen y (more r)) (sym e) ∙ k .whole
 
-  -- the field has a value
-  pub value-bad : (w ≡ 4 → ⊥) → (w ≡ 3 → ⊥) → skipValue s w next ≡ Skip.Bad → Skip.Bad ≡ groupEnd depth s at number
-  value-bad h g = stops (skipValue s w next) (over h g)
+    pub stops : x ≡ Skip.Bad → Skip.Bad ≡ groupEnd depth s at number
+    stops e = onward e
 
-  pub value-past : {q : ℕ} → skipValue s w next ≡ Skip.At q → p < q
-  value-past = advances (skipValue s w next) (skip-past s w next)
+    pub advances : {q : ℕ} → x ≡ Skip.At q → p < q
+    advances {q} e = go (rw e at (k .past))
+      where
+        go : PastSkip next (length s) (Skip.At q) → p < q
+        go g = omega (arith, next-past)
 
-  pub value-on : (w ≡ 4 → ⊥) → (w ≡ 3 → ⊥) → {q : ℕ} → skipValue s w next ≡ Skip.At q → Skipping depth s at number q
-  value-on h g = goes-on (skipValue s w next) (over h g) (skip-past s w next)
+    pub goes-on : {q : ℕ} → x ≡ Skip.At q → Skipping depth s at number q
+    goes-on e =
+        record {
+          deep = r .state .deep;
+          most = r .state .most - 1;
+          enough = omega (arith, r .state .enough, advances e);
+          whole = onward e;
+        }

@@ -23,8 +23,8 @@ use Rattle.wire.specs.declared.value.Value.{Value}
 use Rattle.wire.specs.declared.group.Skip.{Skip}
 use Rattle.wire.specs.declared.field.Field.{Field}
 use Rattle.wire.proofs.FieldLaws.{field-tagged}
-use Rattle.wire.proofs.GroupLaws.{Skipping, Turn, starts, shut, unended, no-tag, ended, misended, inner-bad}
-use Rattle.wire.proofs.GroupLaws.{inner-past, inner-on, value-bad, value-past, value-on}
+use Rattle.wire.proofs.GroupLaws.{Skipping, Turn, Skipped, starts, shut, unended, no-tag, ended, misended}
+use Rattle.wire.proofs.GroupLaws.{into, over, stops, advances, goes-on}
 use Rattle.prelude.proofs.Cases.{less-or-not}
 pub use Rattle.varint.proofs.TailLaws.{Tail, tail-length, Stands, stands-length, stands-take}
 use Rattle.varint.proofs.TailLaws.{chosen-alike, leb-add, tail-byte}
@@ -168,25 +168,19 @@ module _ {s : List ℕ} {d : ℕ} {t : List ℕ} (k : Tail s d t) where
             let m = eqb-false n number b in
             sym (misended r′ h4 m) ∙ ap (movedSkip d) (misended r h4 m)
 
-        by-inner : (w ≡ 4 → ⊥) → w ≡ 3 → (y : Skip) → groupEnd (depth - 1) t next n ≡ y → Alike
-        by-inner h4 h3 (Skip.At q) b =
-            let b′ = inner next n ∙ ap (movedSkip d) b in
-            on q (inner-past r b) (inner-on r h4 h3 b) (inner-on r′ h4 h3 b′)
-        by-inner h4 h3 Skip.Bad b =
-            let b′ = inner next n ∙ ap (movedSkip d) b in
-            sym (inner-bad r′ h4 h3 b′) ∙ ap (movedSkip d) (inner-bad r h4 h3 b)
-
-        by-value : (w ≡ 4 → ⊥) → (w ≡ 3 → ⊥) → (y : Skip) → skipValue t w next ≡ y → Alike
-        by-value h4 h3 (Skip.At q) b =
-            let b′ = skip-moved w next ∙ ap (movedSkip d) b in
-            on q (value-past r b) (value-on r h4 h3 b) (value-on r′ h4 h3 b′)
-        by-value h4 h3 Skip.Bad b =
-            let b′ = skip-moved w next ∙ ap (movedSkip d) b in
-            sym (value-bad r′ h4 h3 b′) ∙ ap (movedSkip d) (value-bad r h4 h3 b)
+        by-skip : (y : Skip) {x x′ : Skip} → Skipped r x → Skipped r′ x′ → x′ ≡ movedSkip d x → x ≡ y → Alike
+        by-skip (Skip.At q) f f′ e b =
+            on q (advances r f b) (goes-on r f b) (goes-on r′ f′ (e ∙ ap (movedSkip d) b))
+        by-skip Skip.Bad f f′ e b =
+            sym (stops r′ f′ (e ∙ ap (movedSkip d) b)) ∙ ap (movedSkip d) (stops r f b)
 
         by-start : (w ≡ 4 → ⊥) → (b : Bool) → eqb w 3 ≡ b → Alike
-        by-start h4 true b = by-inner h4 (eqb-true w 3 b) (groupEnd (depth - 1) t next n) refl
-        by-start h4 false b = by-value h4 (eqb-false w 3 b) (skipValue t w next) refl
+        by-start h4 true b =
+            let h3 = eqb-true w 3 b in
+            by-skip (groupEnd (depth - 1) t next n) (into r h4 h3) (into r′ h4 h3) (inner next n) refl
+        by-start h4 false b =
+            let h3 = eqb-false w 3 b in
+            by-skip (skipValue t w next) (over r h4 h3) (over r′ h4 h3) (skip-moved w next) refl
 
         by-end : (b : Bool) → eqb w 4 ≡ b → Alike
         by-end true b = by-number (eqb-true w 4 b) (eqb n number) refl

@@ -7,6 +7,7 @@ use lib.ListN.{length, take}
 use lib.Dec.{leb, eqb}
 use Rattle.protocol.specs.WireType as WireType
 use Rattle.protocol.specs.Client as Client
+use Rattle.protocol.specs.Fields as Fields
 use Rattle.layout.specs.Table.{rowsOf, stmtExecute}
 use Rattle.layout.specs.Fields.{fieldList}
 use Rattle.layout.specs.declared.slots.Slots.{Slots}
@@ -26,7 +27,7 @@ wireBy text = cond text WireType.len WireType.varint
 
 -- the number of an args field
 abbrev pub argsField : ℕ
-argsField = 2
+argsField = Fields.args
 
 abbrev pub testsArgs : ℕ → ℕ → Bool
 testsArgs number wire = cond (eqb number argsField) (eqb wire WireType.len) false
@@ -38,13 +39,19 @@ nothing = record { hasone = false; one = 0; hasthree = false; three = 0 }
 abbrev pub withField : Own → ℕ → ℕ → ℕ → ℕ → Own
 withField k own number wire value =
     cond (eqb wire own)
-    (cond (eqb number 1) (record { hasone = true; one = value; hasthree = k .hasthree; three = k .three })
-    (cond (eqb number 3) (record { hasone = k .hasone; one = k .one; hasthree = true; three = value }) k))
+    (cond (eqb number Fields.id) (record { hasone = true; one = value; hasthree = k .hasthree; three = k .three })
+    (cond (eqb number Fields.compact) (record { hasone = k .hasone; one = k .one; hasthree = true; three = value }) k))
     k
 
 -- what the slots hold of it
 abbrev pub ownOf : Slots → Own
-ownOf x = record { hasone = not (absent x 1); one = valueOf x 1; hasthree = not (absent x 3); three = valueOf x 3 }
+ownOf x =
+    record {
+      hasone = not (absent x Fields.id);
+      one = valueOf x Fields.id;
+      hasthree = not (absent x Fields.compact);
+      three = valueOf x Fields.compact;
+    }
 
 abbrev pub found : Own → Arguments → Bound
 found k a =

@@ -8,8 +8,8 @@ use lib.Seq.{take-length}
 use Rattle.wire.specs.Group.{groupEnd}
 use native.Mathlib.Nat.{pos-of-ne-zero}
 use Rattle.wire.specs.declared.tag.Tag.{Tag}
-use Rattle.wire.proofs.GroupLaws.{Skipping, Turn, shut, starts, unended, no-tag, ended, misended, inner-bad}
-use Rattle.wire.proofs.GroupLaws.{inner-past, inner-on, value-bad, value-past, value-on, group-lent, value-lent}
+use Rattle.wire.proofs.GroupLaws.{Skipping, Turn, Skipped, shut, starts, unended, no-tag, ended, misended}
+use Rattle.wire.proofs.GroupLaws.{group-lent, value-lent, stops, advances, goes-on}
 use Prim.Native.Nat.{ℕ, _<_}
 use borrow.Fn.Kinds.{In}
 use borrow.Fn.PlainCycle.{Measures, is, falls, and}
@@ -77,6 +77,27 @@ module _ (t : ℕ) where
       (Tag.Field (f .n .given .0 .0) (f .n .given .0 .1 .0) (f .n .given .0 .1 .1 .0))
   turn f = read (f .before .before) (f .n .given .1)
 
+  -- what a call skipped in that turn
+  abbrev Inner : Type 0
+  Inner =
+      skip-group-lts.After-skip-group (claims t) (skip-group-at t) skip-group.Post skip-group-Inv-loop
+      skip-group-μ-loop
+
+  abbrev Valued : Type 0
+  Valued =
+      skip-group-lts.After-skip-value (claims t) (skip-group-at t) skip-group.Post skip-group-Inv-loop
+      skip-group-μ-loop
+
+  group : (k : Inner) → Skipped (turn (k .before .before .before .before .before)) (k .skip-group .result)
+  group k =
+      group-lent (turn (k .before .before .before .before .before)) (k .before .before .before .if2 .left)
+      (k .before .before .if4 .taken) (k .skip-group .ensures)
+
+  value : (k : Valued) → Skipped (turn (k .before .before .before .before .before)) (k .skip-value .result)
+  value k =
+      value-lent (turn (k .before .before .before .before .before)) (k .before .before .before .if2 .left)
+      (k .before .before .if4 .left) (k .skip-value .ensures)
+
 pub +skip-group-spec : {M : Type 1} → statement M
 +skip-group-spec = close μ-skip-group λ t. skip-group-lts.spec (claims t) (skip-group-at t) skip-group.Post
     skip-group-Inv-loop skip-group-μ-loop
@@ -99,34 +120,14 @@ pub +skip-group-spec : {M : Type 1} → statement M
     ))
     (λ c. search needs)
     (λ c. search needs)
-    (λ c. let r = turn t (c .before .before .before .before .before .before .before) in
-    inner-bad r (c .before .before .before .before .before .if2 .left) (c .before .before .before .before .if4 .taken)
-    (group-lent r (c .before .before .skip-group .ensures) ∙ c .enum-told2 .given .1))
-    (λ c. let r = turn t (c .before .before .before .before .before .before .before .before) in
-    omega (
-      arith,
-      r .inside,
-      inner-past r
-          (group-lent r (c .before .before .before .skip-group .ensures) ∙ c .before .q .given .1),
-    ))
-    (λ c. let r = turn t (c .before .before .before .before .before .before .before .before) in
-    inner-on r (c .before .before .before .before .before .before .if2 .left)
-    (c .before .before .before .before .before .if4 .taken)
-    (group-lent r (c .before .before .before .skip-group .ensures) ∙ c .before .q .given .1))
+    (λ c. stops _ (group t (c .before .before)) (c .enum-told2 .given .1))
+    (λ c. let k = c .before .before .before in let r = turn t (k .before .before .before .before .before) in
+    omega (arith, r .inside, advances r (group t k) (c .before .q .given .1)))
+    (λ c. goes-on _ (group t (c .before .before .before)) (c .before .q .given .1))
     (λ c. sym (ap length (take-length (given t (c .before .before .before .before .before .before) .args .s .now))))
     (λ c κs. tt) (λ c. search needs) (λ c. search needs)
-    (λ c. let r = turn t (c .before .before .before .before .before .before .before) in
-    value-bad r (c .before .before .before .before .before .if2 .left) (c .before .before .before .before .if4 .left)
-    (value-lent r (c .before .before .skip-value .ensures) ∙ c .enum-told3 .given .1))
-    (λ c. let r = turn t (c .before .before .before .before .before .before .before .before) in
-    omega (
-      arith,
-      r .inside,
-      value-past r
-          (value-lent r (c .before .before .before .skip-value .ensures) ∙ c .before .q2 .given .1),
-    ))
-    (λ c. let r = turn t (c .before .before .before .before .before .before .before .before) in
-    value-on r (c .before .before .before .before .before .before .if2 .left)
-    (c .before .before .before .before .before .if4 .left)
-    (value-lent r (c .before .before .before .skip-value .ensures) ∙ c .before .q2 .given .1))
+    (λ c. stops _ (value t (c .before .before)) (c .enum-told3 .given .1))
+    (λ c. let k = c .before .before .before in let r = turn t (k .before .before .before .before .before) in
+    omega (arith, r .inside, advances r (value t k) (c .before .q2 .given .1)))
+    (λ c. goes-on _ (value t (c .before .before .before)) (c .before .q2 .given .1))
     (λ c. unended (c .before .loop .inv) (c .loop-test .left))
