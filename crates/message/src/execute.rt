@@ -7,6 +7,7 @@ ghost use Rattle.message.specs.Payload.{optionalBy, payload};
 ghost use Rattle.message.specs.private.Parts.{Runs, executeBy, ofOpening};
 use crate::outer::Outer;
 use crate::payload::PAYLOAD;
+use crate::payload::fill_payload;
 use crate::payload::low;
 use crate::payload::read_optional;
 use crate::payload::read_truth;
@@ -18,7 +19,6 @@ use args::bound::Bound;
 use args::pair::Pair;
 use args::part::Part;
 use args::part::fill_part;
-use layout::fields::fill_fields;
 use layout::slots::SLOTS;
 use protocol::client;
 use protocol::fields;
@@ -154,15 +154,7 @@ fn long_opening(s: &[u8]) -> Opening
     let mut seen = [false; SLOTS];
     let mut values = [0; SLOTS];
     let mut starts = [0; SLOTS];
-    if !fill_fields(
-        &rows,
-        s,
-        PAYLOAD,
-        s.len(),
-        &mut seen,
-        &mut values,
-        &mut starts,
-    ) {
+    if !fill_payload(&rows, s, &mut seen, &mut values, &mut starts) {
         return Opening::Bad;
     }
     Opening::Of {

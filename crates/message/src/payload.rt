@@ -1,12 +1,32 @@
 // What every payload needs: its place, ids of 32 bits, optional fields.
 ghost use mathlib.Core.Path.{_≡_};
+ghost use Rattle.layout.specs.Fields.{fieldsAt};
+ghost use Rattle.layout.specs.private.Arrays.{Holds};
 ghost use Rattle.args.specs.Part.{low32};
-ghost use Rattle.message.specs.Payload.{optionalBy, truthOf};
+ghost use Rattle.message.specs.Payload.{optionalBy, payload, truthOf};
 use crate::request::Optional;
+use layout::row::COLUMNS;
+use layout::slots::SLOTS;
 use protocol::uint32;
 
 // Where a payload begins, behind the length and the type.
 pub const PAYLOAD: usize = 5;
+
+// The message with these rows that is the payload of the frame s, in arrays as fill_fields has them.
+pub(crate) fn fill_payload(
+    rows: &[[u16; COLUMNS]],
+    s: &[u8],
+    seen: &mut [bool; SLOTS],
+    values: &mut [u64; SLOTS],
+    starts: &mut [usize; SLOTS],
+) -> bool
+    ensures { λ r. ⌜
+        Holds (fieldsAt (now (rows .entry)) (now (s .entry)) payload) r (now (seen .exit)) (now (values .exit))
+        (now (starts .exit))
+        ⌝ }
+{
+    layout::fields::fill_fields(rows, s, PAYLOAD, s.len(), seen, values, starts)
+}
 
 // The lowest 32 bits.
 pub(crate) fn low(v: u64) -> u32

@@ -7,6 +7,7 @@ ghost use Rattle.message.specs.Simple.{closeFrame, deallocateFrame, fetc
 ghost use Rattle.message.specs.private.Parts.{fetchOf};
 use crate::first::First;
 use crate::payload::PAYLOAD;
+use crate::payload::fill_payload;
 use crate::payload::low;
 use crate::payload::read_optional;
 use crate::request::Fetch;
@@ -26,15 +27,7 @@ fn is_plain(s: &[u8]) -> bool
     let mut seen = [false; SLOTS];
     let mut values = [0; SLOTS];
     let mut starts = [0; SLOTS];
-    fill_fields(
-        &rows[..0],
-        s,
-        PAYLOAD,
-        s.len(),
-        &mut seen,
-        &mut values,
-        &mut starts,
-    )
+    fill_payload(&rows[..0], s, &mut seen, &mut values, &mut starts)
 }
 
 pub fn read_reset(s: &[u8]) -> Frame
@@ -74,15 +67,7 @@ pub fn read_deallocate(s: &[u8]) -> Frame
     let mut seen = [false; SLOTS];
     let mut values = [0; SLOTS];
     let mut starts = [0; SLOTS];
-    if !fill_fields(
-        &rows,
-        s,
-        PAYLOAD,
-        s.len(),
-        &mut seen,
-        &mut values,
-        &mut starts,
-    ) {
+    if !fill_payload(&rows, s, &mut seen, &mut values, &mut starts) {
         return Frame::BadPayload {
             used: s.len(),
             kind: client::DEALLOCATE,
@@ -101,15 +86,7 @@ pub fn read_close(s: &[u8]) -> Frame
     let mut seen = [false; SLOTS];
     let mut values = [0; SLOTS];
     let mut starts = [0; SLOTS];
-    if !fill_fields(
-        &rows,
-        s,
-        PAYLOAD,
-        s.len(),
-        &mut seen,
-        &mut values,
-        &mut starts,
-    ) {
+    if !fill_payload(&rows, s, &mut seen, &mut values, &mut starts) {
         return Frame::BadPayload {
             used: s.len(),
             kind: client::CLOSE,

@@ -1,8 +1,6 @@
 -- The arrays hold the message's fields.
 use borrow.Author.Tests.{not-true, not-false}
 use Rattle.protocol.specs.Client as Client
-use Rattle.layout.proofs.ArrayLaws.{holds-lent}
-use Rattle.message.specs.Payload.{payload}
 use Rattle.message.specs.Simple.{closeFrame}
 use Rattle.message.specs.declared.request.Request.{Request}
 use Rattle.message.proofs.ArrayLaws.{named-spoiled, named-held}
@@ -16,7 +14,7 @@ returns c =
     let f = c .before in
     let r = f .before .before .before .before .before in
     let s = r .before .before .args .s .now in
-    named-spoiled s Client.close Request.Close (holds-lent (r .close-rows .ensures) s payload (f .fill-fields .ensures))
+    named-spoiled s Client.close Request.Close (rw (r .close-rows .ensures) at (f .fill-payload .ensures))
     (not-true _ (c .if1 .taken))
 
 returns-2 : tie.Need-returns-2
@@ -26,7 +24,7 @@ returns-2 c =
     let r = f .before .before .before .before .before in
     let s = r .before .before .args .s .now in
     rw (c .low .ensures)
-    (named-held s Client.close Request.Close (holds-lent (r .close-rows .ensures) s payload (f .fill-fields .ensures))
+    (named-held s Client.close Request.Close (rw (r .close-rows .ensures) at (f .fill-payload .ensures))
     (not-false _ (c .before .if1 .left)))
 
 pub read-close-spec : {M : Type 1} → statement M

@@ -1,8 +1,6 @@
 -- The arrays hold the message's fields.
 use borrow.Author.Tests.{not-true, not-false}
 use Rattle.protocol.specs.Client as Client
-use Rattle.layout.proofs.ArrayLaws.{holds-lent}
-use Rattle.message.specs.Payload.{payload}
 use Rattle.message.specs.Simple.{deallocateFrame}
 use Rattle.message.specs.declared.request.Request.{Request}
 use Rattle.message.proofs.ArrayLaws.{named-spoiled, named-held}
@@ -17,7 +15,7 @@ returns c =
     let r = f .before .before .before .before .before in
     let s = r .before .before .args .s .now in
     named-spoiled s Client.deallocate Request.Deallocate
-    (holds-lent (r .deallocate-rows .ensures) s payload (f .fill-fields .ensures))
+    (rw (r .deallocate-rows .ensures) at (f .fill-payload .ensures))
     (not-true _ (c .if1 .taken))
 
 returns-2 : tie.Need-returns-2
@@ -28,7 +26,7 @@ returns-2 c =
     let s = r .before .before .args .s .now in
     rw (c .low .ensures)
     (named-held s Client.deallocate Request.Deallocate
-    (holds-lent (r .deallocate-rows .ensures) s payload (f .fill-fields .ensures))
+    (rw (r .deallocate-rows .ensures) at (f .fill-payload .ensures))
     (not-false _ (c .before .if1 .left)))
 
 pub read-deallocate-spec : {M : Type 1} → statement M

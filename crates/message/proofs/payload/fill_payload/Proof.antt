@@ -1,0 +1,10 @@
+-- The fields up to the frame's end are those from the payload on.
+use Rattle.layout.proofs.ArrayLaws.{holds-whole}
+use Rattle.message.specs.Payload.{payload}
+use borrow.Author.Needs.{needs}
+use Rattle.message.proofs.payload.fill_payload.Statement.{statement}
+use Rattle.message.proofs.payload.fill_payload.Tie as tie
+
+pub fill-payload-spec : {M : Type 1} → statement M
+fill-payload-spec = tie.close (tie.spec (λ c κs. search needs)
+    (λ c. let a = c .before .before .before .before .before .args in holds-whole (a .rows .now) (a .s .now) payload (c .fill-fields .ensures)))
