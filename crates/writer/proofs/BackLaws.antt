@@ -21,13 +21,12 @@ use Rattle.message.proofs.HeadLaws.{head-whole}
 use Rattle.layout.specs.Table.{rowsOf}
 use Rattle.layout.specs.Row.{rowFor}
 use Rattle.layout.specs.Slots.{noSlots}
-use Rattle.layout.specs.Fields.{useOf, fieldsFrom, hasRequired}
+use Rattle.layout.specs.Fields.{useOf, fieldsFrom, fieldsAt, hasRequired}
 use Rattle.layout.specs.declared.slots.Slots.{Slots}
 use Rattle.layout.specs.declared.fields.Use.{Use}
-use Rattle.args.specs.Part.{low32}
-use Rattle.message.specs.Payload.{payload}
-use Rattle.message.specs.Simple.{resetFrame, sessionCloseFrame, deallocateIn, deallocateFrame, closeIn, closeFrame}
-use Rattle.message.specs.Simple.{fetchIn, fetchFrame}
+use Rattle.args.specs.Part.{valueOf, low32}
+use Rattle.message.specs.Payload.{payload, ifGood}
+use Rattle.message.specs.Simple.{resetFrame, sessionCloseFrame, deallocateFrame, closeFrame, fetchIn, fetchFrame}
 use Rattle.encode.specs.Field.{optionalField}
 use Rattle.writer.specs.RoundTrip.{given}
 use Rattle.writer.proofs.FieldLaws.{withNumber, reads-number, reads-optional, reads-then, whole-good}
@@ -92,36 +91,44 @@ module _ (v : ℕ) where
   kept-fetch = (refl, refl)
 
 -- one required field, in slot 1
-one-there : (hasRequired (rowsOf Client.deallocate) (0 ∷ 1 ∷ 0 ∷ 0 ∷ 0 ∷ 0 ∷ 0 ∷ 0 ∷ 0 ∷ 0 ∷ []) ≡ true)
-    × (hasRequired (rowsOf Client.close) (0 ∷ 1 ∷ 0 ∷ 0 ∷ 0 ∷ 0 ∷ 0 ∷ 0 ∷ 0 ∷ 0 ∷ []) ≡ true)
-    × (hasRequired (rowsOf Client.fetch) (0 ∷ 1 ∷ 0 ∷ 0 ∷ 0 ∷ 0 ∷ 0 ∷ 0 ∷ 0 ∷ 0 ∷ []) ≡ true)
+abbrev oneCount : List ℕ
+oneCount = 0 ∷ 1 ∷ 0 ∷ 0 ∷ 0 ∷ 0 ∷ 0 ∷ 0 ∷ 0 ∷ 0 ∷ []
+
+one-there : (hasRequired (rowsOf Client.deallocate) oneCount ≡ true)
+    × (hasRequired (rowsOf Client.close) oneCount ≡ true)
+    × (hasRequired (rowsOf Client.fetch) oneCount ≡ true)
     × (hasRequired (rowsOf Client.fetch) (0 ∷ 1 ∷ 1 ∷ 0 ∷ 0 ∷ 0 ∷ 0 ∷ 0 ∷ 0 ∷ 0 ∷ []) ≡ true)
 unfolding rowsOf rowFor hasRequired
 one-there = (refl, refl, refl, refl)
+
+-- Deallocate and Close have an id alone
+module _ (kind : ℕ) (q : ℕ → Request) (id : ℕ) where
+  abbrev named : List ℕ
+  named = frame kind (numberField 1 id)
+
+  abbrev namedIn : Slots → Frame
+  namedIn x = ifGood named kind (x .good) (q (low32 (valueOf x 1)))
+
+  named-back : id < 2 ^ 32 → Use.Kept ≡ useOf (rowsOf kind) 1 0 id → hasRequired (rowsOf kind) oneCount ≡ true →
+      namedIn (fieldsAt (rowsOf kind) named payload) ≡ Frame.Good (length named) (q id)
+  named-back h kept needed =
+      ap namedIn
+      (whole-good (reads-number (rowsOf kind) 1 id kept (omega arith) (omega arith) (omega arith))
+      (payload-tail kind (numberField 1 id)) needed)
+      ∙ ap (λ (v : ℕ). Frame.Good (length named) (q v)) (low-kept id h)
 
 pub deallocate-back : (stmt : ℕ) → stmt < 2 ^ 32 →
     deallocateFrame (frame Client.deallocate (numberField 1 stmt))
     ≡ Frame.Good (length (frame Client.deallocate (numberField 1 stmt))) (Request.Deallocate stmt)
 unfolding deallocateFrame
 deallocate-back stmt h =
-    let s = frame Client.deallocate (numberField 1 stmt) in
-    ap (deallocateIn s)
-    (whole-good (reads-number (rowsOf Client.deallocate) 1 stmt (kept-deallocate stmt) (omega arith) (omega arith)
-    (omega arith))
-    (payload-tail Client.deallocate (numberField 1 stmt)) (one-there .0))
-    ∙ ap (λ (v : ℕ). Frame.Good (length s) (Request.Deallocate v)) (low-kept stmt h)
+    named-back Client.deallocate Request.Deallocate stmt h (kept-deallocate stmt) (one-there .0)
 
 pub close-back : (cursor : ℕ) → cursor < 2 ^ 32 →
     closeFrame (frame Client.close (numberField 1 cursor))
     ≡ Frame.Good (length (frame Client.close (numberField 1 cursor))) (Request.Close cursor)
 unfolding closeFrame
-close-back cursor h =
-    let s = frame Client.close (numberField 1 cursor) in
-    ap (closeIn s)
-    (whole-good (reads-number (rowsOf Client.close) 1 cursor (kept-close cursor) (omega arith) (omega arith)
-    (omega arith))
-    (payload-tail Client.close (numberField 1 cursor)) (one-there .1))
-    ∙ ap (λ (v : ℕ). Frame.Good (length s) (Request.Close v)) (low-kept cursor h)
+close-back cursor h = named-back Client.close Request.Close cursor h (kept-close cursor) (one-there .1)
 
 -- the slots of a Fetch
 abbrev fetchSlots : ℕ → ℕ → Bool → Slots
