@@ -103,10 +103,14 @@ module _ {A : Type 0} {p : A → Bool} {f : ℕ → A} {n : ℕ} where
     pub masked : i ≤ 0 → mask ≡ maskOf p (build f 0 n)
     masked h = let e : i ≡ 0 = omega arith in l .rest ∙ ap (λ (k : ℕ). maskOf p (drop k (build f 0 n))) e
 
-    pub few-bits : (k : ℕ) → n ≤ i + k → mask < 2 ^ k
+    few-bits : (k : ℕ) → n ≤ i + k → mask < 2 ^ k
     few-bits k h =
         let left : length (drop i (build f 0 n)) ≤ k = omega (arith, length-drop i (build f 0 n), length-build f 0 n) in
         omega (arith, l .rest, mask-small p k (drop i (build f 0 n)) left)
+
+    -- a number of 64 bits has room for one bit more
+    pub mask-room : n ≤ 64 → 0 < i → 2 * mask + 1 < 2 ^ 64
+    mask-room few h = omega (arith, few-bits 63 (omega arith))
 
     pub masks-on : (r : ℕ) → 0 < i → r ≡ cond (p (f (i - 1))) 1 0 → Masking p f n (i - 1) (2 * mask + r)
     unfolding maskOf

@@ -7,7 +7,7 @@ use borrow.Author.Needs.{needs}
 use Rattle.session.specs.Entry.{passes}
 use Rattle.session.specs.Tables.{maxCursors}
 use Rattle.session.specs.Words.{cursorIn}
-use Rattle.session.proofs.LoopLaws.{Masking, masks, masks-on, masked, few-bits}
+use Rattle.session.proofs.LoopLaws.{Masking, masks, masks-on, masked, mask-room}
 use Rattle.session.proofs.mask.passing.Statement.{statement}
 use Rattle.session.proofs.mask.passing.Tie as tie
 
@@ -17,43 +17,13 @@ Inv-loop words which mask₀ i₀ mask i = Masking (passes which) (cursorIn word
 abbrev μ-loop : tie.MeasureT-loop
 μ-loop words which mask₀ i₀ mask i = i
 
-loop-holds : tie.Need-loop-holds Inv-loop μ-loop
-loop-holds c = masks
-
-sub-i : tie.Need-sub-i Inv-loop μ-loop
-sub-i c = omega arith
-
-mul-mask : tie.Need-mul-mask Inv-loop μ-loop
-mul-mask c =
-    let l = c .before .loop .inv in
-    omega (arith, few-bits l 63 (omega (arith, c .loop-test .taken)))
-
-add-mask : tie.Need-add-mask Inv-loop μ-loop
-add-mask c =
-    let t = c .before .before in
-    omega (arith, c .bit .ensures .1, few-bits (t .before .loop .inv) 63 (omega (arith, t .loop-test .taken)))
-
-loop-again : tie.Need-loop-again Inv-loop μ-loop
-loop-again c =
-    let t = c .before .before in
-    masks-on (t .before .loop .inv) (c .bit .result) (t .loop-test .taken)
-    (c .bit .ensures .0 ∙ ap (λ b. cond b 1 0) (c .before .passes .ensures))
-
-returns : tie.Need-returns Inv-loop μ-loop
-returns c = masked (c .before .loop .inv) (c .loop-test .left)
-
 pub passing-spec : {M : Type 1} → statement M
-passing-spec =
-    tie.close
-    (tie.spec
-    Inv-loop
-    μ-loop
-    loop-holds
-    sub-i
-    mul-mask
-    (λ c κs. omega (arith, c .before .loop .inv .inside, c .loop-test .taken))
-    (λ c κs. search needs)
-    add-mask
+passing-spec = tie.close (tie.spec Inv-loop μ-loop (λ c. masks) (λ c. omega arith)
+    (λ c. omega (arith, mask-room (c .before .loop .inv) (omega arith) (c .loop-test .taken)))
+    (λ c κs. omega (arith, c .before .loop .inv .inside, c .loop-test .taken)) (λ c κs. search needs)
+    (λ c. let t = c .before .before in
+    omega (arith, c .bit .ensures .1, mask-room (t .before .loop .inv) (omega arith) (t .loop-test .taken)))
     (λ c. omega arith)
-    loop-again
-    returns)
+    (λ c. let t = c .before .before in masks-on (t .before .loop .inv) (c .bit .result) (t .loop-test .taken)
+    (c .bit .ensures .0 ∙ ap (λ b. cond b 1 0) (c .before .passes .ensures)))
+    (λ c. masked (c .before .loop .inv) (c .loop-test .left)))
