@@ -196,6 +196,15 @@ pub record Back (a : Argument) (src s : List ℕ) (r : Argument) : Type 0 where
 abbrev Taken : List ℕ → ℕ → ℕ → List ℕ → Argument
 Taken s at t value = scalarOf s (embedded (rowsOf scalar) s at (length (scalarBytes t value)))
 
+-- it is read by its type and its value
+value-back : {s q : List ℕ} {at t : ℕ} {value : List ℕ} {g : ℕ → Slots → Slots} {r : Argument} → Listed t → t < 10 →
+    Reads (rowsOf scalar) value g →
+    getD (g (at + length (numberField 1 t)) (withNumber 1 t at noSlots) .count) 1 0 ≡ 1 →
+    r ≡ scalarOf s (g (at + length (numberField 1 t)) (withNumber 1 t at noSlots)) →
+    Stands s at (scalarBytes t value) q → Taken s at t value ≡ r
+value-back {s} u low reads one taken k =
+    ap (scalarOf s) (scalar-in u low reads (scalar-needed _ one) k) ∙ sym taken
+
 -- octets and string: where the message with the bytes stands, and the bytes in it
 abbrev innerPlace : ℕ → ℕ → ℕ → List ℕ → ℕ
 innerPlace at t num bs = partStart num (at + length (numberField 1 t)) (length (bytesField 1 bs))
@@ -223,11 +232,9 @@ module _ {s q : List ℕ} {at : ℕ} (t num : ℕ) (bs : List ℕ)
       (withNumber 1 t at noSlots)) →
       Taken s at t (bytesField num (bytesField 1 bs)) ≡ bytesCase octets (bytesPlace at t num bs) (length bs)
   part-back small u low kept some few octets one taken =
-      ap (scalarOf s)
-      (scalar-in u low (reads-bytes (rowsOf scalar) num (bytesField 1 bs) kept some few
-      (omega (arith, stands-length inner-stands)))
-      (scalar-needed _ one) k)
-      ∙ sym taken
+      value-back u low
+      (reads-bytes (rowsOf scalar) num (bytesField 1 bs) kept some few (omega (arith, stands-length inner-stands)))
+      one taken k
       ∙ bytes-back octets bs (omega (arith, stands-length bytes-stand)) inner-stands
 
 -- a bool is written as 0 or 1
@@ -258,65 +265,67 @@ plain : {a r : Argument} {src s : List ℕ} → placed 0 a ≡ a → bytesOf a s
 plain {a} {r} {src} {s} e f g = record { place = 0; is = g ∙ sym e; bytes = ap (λ (b : Argument). bytesOf b s) e ∙ f }
 
 module _ {s q : List ℕ} {at : ℕ} (small : length s < 2 ^ 64) (src : List ℕ) where
-  -- a number, and a fixed value, behind the type
-  number-back : {t num v : ℕ} {r : Argument} → Listed t → t < 10 → Use.Kept ≡ useOf (rowsOf scalar) num 0 v →
-      0 < num → num < 10 → v < 2 ^ 64 →
-      getD (withNumber num v (at + length (numberField 1 t)) (withNumber 1 t at noSlots) .count) 1 0 ≡ 1 →
-      r ≡ scalarOf s (withNumber num v (at + length (numberField 1 t)) (withNumber 1 t at noSlots)) →
-      Stands s at (scalarBytes t (numberField num v)) q → Taken s at t (numberField num v) ≡ r
-  number-back {num = num} {v = v} u low kept some few h one taken k =
-      ap (scalarOf s) (scalar-in u low (reads-number (rowsOf scalar) num v kept some few h) (scalar-needed _ one) k)
-      ∙ sym taken
-
   double-back : (n : ℕ) → n < 2 ^ 64 → Stands s at (scalarBytes 5 (fixedField 6 1 8 n)) q →
       Taken s at 5 (fixedField 6 1 8 n) ≡ doubleOf n
-  double-back n h k =
-      ap (scalarOf s)
-      (scalar-in (listed .4) (omega arith)
+  double-back n h =
+      value-back (listed .4) (omega arith)
       (reads-fixed (rowsOf scalar) 6 1 8 n (λ s p. refl) (kept-value n .3) (omega arith) (omega arith) (omega arith)
       (λ e. omega arith) h)
-      (scalar-needed _ refl) k)
-      ∙ sym (double-taken s at (at + length (numberField 1 5)) n)
+      refl (double-taken s at (at + length (numberField 1 5)) n)
 
   float-back : (n : ℕ) → n < 2 ^ 32 → Stands s at (scalarBytes 6 (fixedField 7 5 4 n)) q →
       Taken s at 6 (fixedField 7 5 4 n) ≡ floatOf n
   float-back n h k =
-      ap (scalarOf s)
-      (scalar-in (listed .5) (omega arith)
+      value-back (listed .5) (omega arith)
       (reads-fixed (rowsOf scalar) 7 5 4 n (λ s p. refl) (kept-value n .4) (omega arith) (omega arith) (omega arith)
       (λ e. omega arith) h)
-      (scalar-needed _ refl) k)
-      ∙ sym (float-taken s at (at + length (numberField 1 6)) n)
+      refl (float-taken s at (at + length (numberField 1 6)) n) k
       ∙ ap floatOf (mod-eq-of-lt h)
+
+  -- octets and string, whose bytes stand in a message of their own
+  named-back : (t num start len : ℕ) (octets : Bool) {a : Argument} → Listed t → t < 10 →
+      ((v : ℕ) → Use.Kept ≡ useOf (rowsOf scalar) num 2 v) → 0 < num → num < 10 →
+      ((n : ℕ) → getD (withBytes num n (at + length (numberField 1 t)) (withNumber 1 t at noSlots) .count) 1 0 ≡ 1) →
+      ((n : ℕ) → bytesIn octets s (partStart num (at + length (numberField 1 t)) n) n
+      ≡ scalarOf s (withBytes num n (at + length (numberField 1 t)) (withNumber 1 t at noSlots))) →
+      ((p : ℕ) → bytesCase octets p len ≡ placed p a) →
+      ((p : ℕ) → bytesOf (placed p a) s ≡ take len (drop p s)) → bytesOf a src ≡ take len (drop start src) →
+      leb (start + len) (length src) ≡ true →
+      Stands s at (scalarBytes t (bytesField num (bytesField 1 (take len (drop start src))))) q →
+      Back a src s (Taken s at t (bytesField num (bytesField 1 (take len (drop start src)))))
+  named-back t num start len octets u low kept some few one taken is bytes own e k =
+      let bs = take len (drop start src) in
+      let n = named-long start len src e in
+      let p = bytesPlace at t num bs in
+      let m = length (bytesField 1 bs) in
+      record {
+        place = p;
+        is =
+            part-back t num bs k small u low (kept m) some few octets (one m) (taken m)
+            ∙ ap (bytesCase octets p) n ∙ is p;
+        bytes =
+            bytes p ∙ ap (λ (m : ℕ). take m (drop p s)) (sym n) ∙ stands-bytes (bytes-stand t num bs k) ∙ sym own;
+      }
 
   pub scalar-back : (a : Argument) → Sized a → writable a src ≡ true →
       Stands s at (scalarBytes (typeOf a) (valueField a src)) q →
       Back a src s (Taken s at (typeOf a) (valueField a src))
   scalar-back (Va.Signed z) h e k =
       plain refl refl
-      (number-back (listed .0) (omega arith) (kept-value (zigzag z) .0) (omega arith) (omega arith) h refl
+      (value-back (listed .0) (omega arith)
+      (reads-number (rowsOf scalar) 2 (zigzag z) (kept-value (zigzag z) .0) (omega arith) (omega arith) h) refl
       (sint-taken s at (at + length (numberField 1 1)) (zigzag z)) k
       ∙ ap Va.Signed (unzigzag-zigzag z))
   scalar-back (Va.Unsigned n) h e k =
       plain refl refl
-      (number-back (listed .1) (omega arith) (kept-value n .1) (omega arith) (omega arith) h refl
+      (value-back (listed .1) (omega arith)
+      (reads-number (rowsOf scalar) 3 n (kept-value n .1) (omega arith) (omega arith) h) refl
       (uint-taken s at (at + length (numberField 1 2)) n) k)
   scalar-back Va.Null h e k =
-      plain refl refl (ap (scalarOf s) (scalar-in (listed .2) (omega arith) no-value (scalar-needed _ refl) k)
-      ∙ sym (null-taken s at 0 0))
+      plain refl refl (value-back (listed .2) (omega arith) no-value refl (null-taken s at 0 0) k)
   scalar-back (Va.Octets start len) h e k =
-      let bs = take len (drop start src) in
-      let n = named-long start len src e in
-      let p = bytesPlace at 4 5 bs in
-      record {
-        place = p;
-        is =
-            part-back 4 5 bs k small (listed .3) (omega arith) (kept-value (length (bytesField 1 bs)) .2)
-            (omega arith) (omega arith) true refl
-            (octets-taken s at (at + length (numberField 1 4)) (length (bytesField 1 bs)))
-            ∙ ap (Va.Octets p) n;
-        bytes = ap (λ (m : ℕ). take m (drop p s)) (sym n) ∙ stands-bytes (bytes-stand 4 5 bs k);
-      }
+      named-back 4 5 start len true (listed .3) (omega arith) (λ v. kept-value v .2) (omega arith) (omega arith)
+      (λ n. refl) (octets-taken s at (at + length (numberField 1 4))) (λ p. refl) (λ p. refl) refl e k
   scalar-back (Va.Double d) h e k =
       plain refl refl (double-back (toBits binary64 d) (toBits-lt binary64 d h) k
       ∙ number-kept binary64 Va.DoubleNan Va.Double d h e)
@@ -328,22 +337,14 @@ module _ {s q : List ℕ} {at : ℕ} (small : length s < 2 ^ 64) (src : List ℕ
   scalar-back (Va.FloatNan n) h e k = plain refl refl (float-back n h k ∙ raw-kept binary32 Va.FloatNan Va.Float n e)
   scalar-back (Va.Bool b) h e k =
       plain refl refl
-      (number-back (listed .6) (omega arith) (kept-value (cond b 1 0) .5) (omega arith) (omega arith) (bit-small b) refl
-      (bool-taken s at (at + length (numberField 1 7)) (cond b 1 0)) k
+      (value-back (listed .6) (omega arith)
+      (reads-number (rowsOf scalar) 8 (cond b 1 0) (kept-value (cond b 1 0) .5) (omega arith) (omega arith)
+      (bit-small b))
+      refl (bool-taken s at (at + length (numberField 1 7)) (cond b 1 0)) k
       ∙ ap Va.Bool (bit-kept b))
   scalar-back (Va.String start len) h e k =
-      let bs = take len (drop start src) in
-      let n = named-long start len src e in
-      let p = bytesPlace at 8 9 bs in
-      record {
-        place = p;
-        is =
-            part-back 8 9 bs k small (listed .7) (omega arith) (kept-value (length (bytesField 1 bs)) .6)
-            (omega arith) (omega arith) false refl
-            (string-taken s at (at + length (numberField 1 8)) (length (bytesField 1 bs)))
-            ∙ ap (Va.String p) n;
-        bytes = ap (λ (m : ℕ). take m (drop p s)) (sym n) ∙ stands-bytes (bytes-stand 8 9 bs k);
-      }
+      named-back 8 9 start len false (listed .7) (omega arith) (λ v. kept-value v .6) (omega arith) (omega arith)
+      (λ n. refl) (string-taken s at (at + length (numberField 1 8))) (λ p. refl) (λ p. refl) refl e k
   scalar-back Va.Object h e k = absurd (let z : _≡_ {A = ℕ} 0 1 = cc in omega arith)
   scalar-back Va.Array h e k = absurd (let z : _≡_ {A = ℕ} 0 1 = cc in omega arith)
   scalar-back (Va.Refused n) h e k = absurd (let z : _≡_ {A = ℕ} 0 1 = cc in omega arith)

@@ -12,6 +12,7 @@ use Rattle.scalar.specs.Argument.{doubleOf, floatOf}
 use Rattle.scalar.specs.declared.argument.Argument.{Argument}
 use Rattle.scalar.specs.declared.argument.Argument.the-variants as Va
 use Rattle.args.specs.Arguments.{argumentsAt}
+use Rattle.args.specs.Moved.{placedBy}
 use Rattle.writer.specs.Judge.{goodStretch}
 use Rattle.args_writer.specs.Scalar.{bytesOf, writable, argField}
 use Rattle.args_writer.specs.Append.{appendReason, appendedOf, leftBy}
@@ -34,19 +35,7 @@ Sized (Va.Refused n) = Unit {0}
 
 -- the same scalar, its bytes at the place p
 abbrev pub placed : ℕ → Argument → Argument
-placed p (Va.Octets start len) = Va.Octets p len
-placed p (Va.String start len) = Va.String p len
-placed p (Va.Signed z) = Va.Signed z
-placed p (Va.Unsigned n) = Va.Unsigned n
-placed p Va.Null = Va.Null
-placed p (Va.Double d) = Va.Double d
-placed p (Va.DoubleNan n) = Va.DoubleNan n
-placed p (Va.Float d) = Va.Float d
-placed p (Va.FloatNan n) = Va.FloatNan n
-placed p (Va.Bool b) = Va.Bool b
-placed p Va.Object = Va.Object
-placed p Va.Array = Va.Array
-placed p (Va.Refused n) = Va.Refused n
+placed p a = placedBy (λ start. p) a
 
 -- s is a good stretch: the arguments of `before` as they were, and behind them a, with the bytes that it names in src
 pub record Appended (a : Argument) (src before s : List ℕ) : Type 0 where

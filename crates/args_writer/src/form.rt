@@ -17,6 +17,21 @@ use protocol::wire_type;
 use scalar::argument::Argument;
 use scalar::zigzag::zigzag_encode;
 
+// Field numbers as they are put.
+const SINT_FIELD: u32 = scalars::SINT_FIELD as u32;
+
+const UINT_FIELD: u32 = scalars::UINT_FIELD as u32;
+
+const OCTETS_FIELD: u32 = scalars::OCTETS_FIELD as u32;
+
+const DOUBLE_FIELD: u32 = scalars::DOUBLE_FIELD as u32;
+
+const FLOAT_FIELD: u32 = scalars::FLOAT_FIELD as u32;
+
+const BOOL_FIELD: u32 = scalars::BOOL_FIELD as u32;
+
+const STRING_FIELD: u32 = scalars::STRING_FIELD as u32;
+
 // A null has no field with a value, which is told by a wire type that no value has.
 const NO_FIELD: u64 = wire_type::GROUP_START;
 
@@ -97,7 +112,7 @@ fn double_form(x: f64) -> Form
     }
     value_form(
         scalars::DOUBLE,
-        scalars::DOUBLE_FIELD as u32,
+        DOUBLE_FIELD,
         wire_type::I64,
         f64::to_bits(x),
     )
@@ -111,7 +126,7 @@ fn float_form(x: f32) -> Form
     }
     value_form(
         scalars::FLOAT,
-        scalars::FLOAT_FIELD as u32,
+        FLOAT_FIELD,
         wire_type::I32,
         wide(f32::to_bits(x)),
     )
@@ -124,12 +139,7 @@ fn double_nan_form(bits: u64) -> Form
     if bits % 0x8000_0000_0000_0000 <= 0x7ff0_0000_0000_0000 {
         return no_form();
     }
-    value_form(
-        scalars::DOUBLE,
-        scalars::DOUBLE_FIELD as u32,
-        wire_type::I64,
-        bits,
-    )
+    value_form(scalars::DOUBLE, DOUBLE_FIELD, wire_type::I64, bits)
 }
 
 fn float_nan_form(bits: u32) -> Form
@@ -138,31 +148,16 @@ fn float_nan_form(bits: u32) -> Form
     if bits % 0x8000_0000 <= 0x7f80_0000 {
         return no_form();
     }
-    value_form(
-        scalars::FLOAT,
-        scalars::FLOAT_FIELD as u32,
-        wire_type::I32,
-        bits as u64,
-    )
+    value_form(scalars::FLOAT, FLOAT_FIELD, wire_type::I32, bits as u64)
 }
 
 fn bool_form(b: bool) -> Form
     ensures { λ r. ⌜ r ≡ valueForm Scalars.bool Scalars.boolField 0 (cond b 1 0) ⌝ }
 {
     if b {
-        value_form(
-            scalars::BOOL,
-            scalars::BOOL_FIELD as u32,
-            wire_type::VARINT,
-            1,
-        )
+        value_form(scalars::BOOL, BOOL_FIELD, wire_type::VARINT, 1)
     } else {
-        value_form(
-            scalars::BOOL,
-            scalars::BOOL_FIELD as u32,
-            wire_type::VARINT,
-            0,
-        )
+        value_form(scalars::BOOL, BOOL_FIELD, wire_type::VARINT, 0)
     }
 }
 
@@ -173,36 +168,19 @@ pub(crate) fn form_of(a: Argument, n: usize) -> Form
     match a {
         Argument::Signed(v) => value_form(
             scalars::SINT,
-            scalars::SINT_FIELD as u32,
+            SINT_FIELD,
             wire_type::VARINT,
             zigzag_encode(v),
         ),
-        Argument::Unsigned(v) => value_form(
-            scalars::UINT,
-            scalars::UINT_FIELD as u32,
-            wire_type::VARINT,
-            v,
-        ),
+        Argument::Unsigned(v) => value_form(scalars::UINT, UINT_FIELD, wire_type::VARINT, v),
         Argument::Null => value_form(scalars::NULL, 0, NO_FIELD, 0),
-        Argument::Octets { start, len } => bytes_form(
-            scalars::OCTETS,
-            scalars::OCTETS_FIELD as u32,
-            start,
-            len,
-            n,
-        ),
+        Argument::Octets { start, len } => bytes_form(scalars::OCTETS, OCTETS_FIELD, start, len, n),
         Argument::Double(x) => double_form(x),
         Argument::DoubleNan(bits) => double_nan_form(bits),
         Argument::Float(x) => float_form(x),
         Argument::FloatNan(bits) => float_nan_form(bits),
         Argument::Bool(b) => bool_form(b),
-        Argument::String { start, len } => bytes_form(
-            scalars::STRING,
-            scalars::STRING_FIELD as u32,
-            start,
-            len,
-            n,
-        ),
+        Argument::String { start, len } => bytes_form(scalars::STRING, STRING_FIELD, start, len, n),
         Argument::Object => no_form(),
         Argument::Array => no_form(),
         Argument::Refused(_) => no_form(),
