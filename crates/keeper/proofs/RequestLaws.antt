@@ -21,7 +21,7 @@ use Rattle.session.specs.Session.{Session}
 use Rattle.session.specs.Words.{sessionOf}
 use Rattle.session.specs.Lists.{entryAt}
 use Rattle.session.specs.Entry.{noStmt, noCursor, isLiveStmt, isLiveCursor, isCursor, onStmt, withSent}
-use Rattle.session.specs.Tables.{stmtAt, cursorAt, stmtPlace, cursorPlace, liveStmt, liveCursor, storedCursor, endedBy}
+use Rattle.session.specs.Tables.{stmtAt, cursorAt, stmtPlace, cursorPlace, liveCursor, storedCursor, endedBy}
 use Rattle.session.specs.Tables.{preparedAt, freedAt, openedAt, reset, closedNow}
 use Rattle.session.specs.Sound.{maxNumber, maxPlaceholders}
 use Rattle.reply.specs.declared.Reply.{Reply}
@@ -46,14 +46,19 @@ unless-full : (b : Bool) (n : ℕ) → unless (not b) n ≡ cond b n 0
 unless-full true n = refl
 unless-full false n = refl
 
--- the entry found is the live one of the id
-stmt-found : (s : Session) (id : ℕ) {place : Place} {t : Stmt} → place ≡ stmtAt s id →
-    t ≡ entryAt (s .stmts) place noStmt → t ≡ liveStmt s id
-stmt-found s id e f = f ∙ ap (λ p. entryAt (s .stmts) p noStmt) e
+-- the entry found is that of the place looked for
+entry-found : {A : Type 0} (xs : List A) (none : A) {p place : Place} {x : A} → place ≡ p → x ≡ entryAt xs place none →
+    x ≡ entryAt xs p none
+entry-found xs none e f = f ∙ ap (λ q. entryAt xs q none) e
 
 pub cursor-found : (s : Session) (id : ℕ) {place : Place} {c : Cursor} → place ≡ cursorAt s id →
     c ≡ entryAt (s .cursors) place noCursor → c ≡ liveCursor s id
-cursor-found s id e f = f ∙ ap (λ p. entryAt (s .cursors) p noCursor) e
+cursor-found s id = entry-found (s .cursors) noCursor
+
+-- an entry that is not live refuses
+dead-looks : {A : Type 0} (live : A → Bool) (reason : ℕ) {x y : A} {n : ℕ} → x ≡ y → n ≡ unless (live x) reason →
+    n ≡ cond (not (live y)) reason 0
+dead-looks live reason {y = y} e f = f ∙ ap (λ z. unless (live z) reason) e ∙ unless-not (live y) reason
 
 -- ---- what the look refuses
 
@@ -68,17 +73,13 @@ pub deallocate-looks : (s : Session) (id : ℕ) {place : Place} {t : Stmt} {n : 
     t ≡ entryAt (s .stmts) place noStmt → n ≡ unless (isLiveStmt t) Reason.noStmt →
     n ≡ requestReason s (Request.Deallocate id)
 unfolding requestReason
-deallocate-looks s id e f g =
-    g ∙ ap (λ x. unless (isLiveStmt x) Reason.noStmt) (stmt-found s id e f)
-    ∙ unless-not (isLiveStmt (liveStmt s id)) Reason.noStmt
+deallocate-looks s id e f = dead-looks isLiveStmt Reason.noStmt (entry-found (s .stmts) noStmt e f)
 
 pub close-looks : (s : Session) (id : ℕ) {place : Place} {c : Cursor} {n : ℕ} → place ≡ cursorAt s id →
     c ≡ entryAt (s .cursors) place noCursor → n ≡ unless (isLiveCursor c) Reason.noCursor →
     n ≡ requestReason s (Request.Close id)
 unfolding requestReason
-close-looks s id e f g =
-    g ∙ ap (λ x. unless (isLiveCursor x) Reason.noCursor) (cursor-found s id e f)
-    ∙ unless-not (isLiveCursor (liveCursor s id)) Reason.noCursor
+close-looks s id e f = dead-looks isLiveCursor Reason.noCursor (cursor-found s id e f)
 
 pub fetch-looks : (s : Session) (f : Fetch) {c : Cursor} {n : ℕ} → c ≡ liveCursor s (f .cursor) → n ≡ fetchReason c →
     n ≡ requestReason s (Request.Fetch f)
