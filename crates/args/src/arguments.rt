@@ -12,9 +12,9 @@ ghost use Rattle.args.specs.Arguments.{
   placeOf,
   withType,
 };
+use crate::keys;
 use protocol::anys;
 use protocol::reason;
-use protocol::wire_type;
 use scalar::argument::Argument;
 use wire::field::Field;
 use wire::value::Value;
@@ -114,13 +114,6 @@ impl Arguments {
     }
 }
 
-// An args field: its number, its wire type (bytes), and both as its tag in one byte.
-const ARGS_NUMBER: u64 = 2;
-
-const ARGS_WIRE: u64 = wire_type::LEN;
-
-const ARGS_TAG: u8 = 18;
-
 fn seek_place(s: &[u8], at: usize) -> ArgPlace
     ensures { λ r. ⌜ r ≡ argPlace (now (s .entry)) at ⌝ }
 {
@@ -137,8 +130,8 @@ fn seek_place(s: &[u8], at: usize) -> ArgPlace
         else {
             return ArgPlace::Bad;
         };
-        if number == ARGS_NUMBER {
-            if wire == ARGS_WIRE {
+        if number == keys::ARGS {
+            if wire == keys::ARGS_WIRE {
                 return ArgPlace::At { start, len, next };
             }
         }
@@ -170,7 +163,7 @@ fn next_place(s: &[u8], at: usize) -> ArgPlace
     if n <= at {
         return ArgPlace::End;
     }
-    if s[at] == ARGS_TAG {
+    if s[at] == keys::ARGS_TAG {
         return place_of(wire::value::length_value(s, at + 1));
     }
     seek_place(&s[..n], at)

@@ -5,6 +5,7 @@ ghost use Rattle.wire.specs.Field.{fieldAt};
 ghost use Rattle.args.specs.private.Bound.{argsOf, badBound, boundAt, boundIn, found, testsArgs, wireBy};
 ghost use Rattle.args.specs.private.Bound.{withField};
 use crate::arguments::Arguments;
+use crate::keys;
 use protocol::fields;
 use protocol::wire_type;
 use wire::field::Field;
@@ -74,18 +75,13 @@ fn wire_by(text: bool) -> u64
     if text { BYTES } else { NUMBER }
 }
 
-// The number and wire type of an args field, and both in the one byte of its tag.
-const ARGS: u64 = fields::ARGS as u64;
-
-const ARGS_TAG: u8 = (ARGS * 8 + BYTES) as u8;
-
 fn is_args(number: u64, wire: u64) -> bool
     ensures { λ r. ⌜ r ≡ testsArgs number wire ⌝ }
 {
-    if number != ARGS {
+    if number != keys::ARGS {
         return false;
     }
-    wire == BYTES
+    wire == keys::ARGS_WIRE
 }
 
 // The field at a place, with a short way for an args field, as most are.
@@ -94,8 +90,12 @@ fn field_at(s: &[u8], at: usize) -> Field
 {
     let n = s.len();
     if at < n {
-        if s[at] == ARGS_TAG {
-            return wire::field::valued(ARGS, BYTES, wire::value::length_value(s, at + 1));
+        if s[at] == keys::ARGS_TAG {
+            return wire::field::valued(
+                keys::ARGS,
+                keys::ARGS_WIRE,
+                wire::value::length_value(s, at + 1),
+            );
         }
     }
     wire::field::long_field(&s[..n], at)

@@ -1,7 +1,15 @@
-// For the short ways: the type of an Any or a Scalar and the tag of its value in one number.
+// Args fields; and for the short ways the type of an Any or a Scalar and the tag of its value in one number.
 use protocol::anys;
+use protocol::fields;
 use protocol::scalars;
 use protocol::wire_type;
+
+// An args field: its number, its wire type (bytes), and both as its tag in one byte.
+pub(crate) const ARGS: u64 = fields::ARGS as u64;
+
+pub(crate) const ARGS_WIRE: u64 = wire_type::LEN;
+
+pub(crate) const ARGS_TAG: u8 = (ARGS * 8 + ARGS_WIRE) as u8;
 
 // A Scalar's type times 256, and the tag of the value that the type names.
 pub(crate) const SINT_KEY: u64 = scalars::SINT * 256

@@ -16,26 +16,27 @@ use encode::field::put_number;
 use encode::field::put_prefix;
 use encode::field::tag_len;
 use protocol::anys;
+use protocol::fields;
 use protocol::wire_type;
 
 // Fixed values: the wire type as it stands in a tag, and the bytes.
-const I64: u8 = 1;
+const I64: u8 = wire_type::I64 as u8;
 
 const I64_BYTES: usize = 8;
 
-const I32: u8 = 5;
+const I32: u8 = wire_type::I32 as u8;
 
 const I32_BYTES: usize = 4;
 
-// Field numbers (L1): the type of an Any and of a Scalar, an Any's scalar, the args of a message, and the bytes in an
+// Field numbers as they are put: the type of an Any and of a Scalar, an Any's scalar, the args of a message, and the bytes in an
 // octets or string value.
-const TYPE: u32 = 1;
+const TYPE: u32 = fields::TYPE as u32;
 
-const SCALAR: u32 = 2;
+const SCALAR: u32 = anys::SCALAR_FIELD as u32;
 
-const ARGS: u32 = 2;
+const ARGS: u32 = fields::ARGS as u32;
 
-const VALUE: u32 = 1;
+const VALUE: u32 = fields::BYTES as u32;
 
 // The type of an Any that is a scalar (L7).
 const IS_SCALAR: u64 = anys::SCALAR;

@@ -3,9 +3,13 @@ ghost use mathlib.Core.Path.{_≡_};
 ghost use Rattle.writer.specs.Judge.{accepted, goodPrepare, goodStretch, isType};
 use crate::Draft;
 use message::operation;
+use protocol::anys;
 use protocol::client;
+use protocol::fields;
 use protocol::wire_type;
 use wire::field::Field;
+
+const ARGS: u64 = fields::ARGS as u64;
 
 // Whether s is a stretch of good args fields and nothing else.
 fn is_stretch(s: &[u8]) -> bool
@@ -24,14 +28,14 @@ fn is_stretch(s: &[u8]) -> bool
         else {
             return false;
         };
-        if number != 2 {
+        if number != ARGS {
             return false;
         }
         if wire != wire_type::LEN {
             return false;
         }
         let a = args::value::long_argument(s, start, len);
-        if args::arguments::any_type(a) == 0 {
+        if args::arguments::any_type(a) == anys::NONE {
             return false;
         }
         p = next;
