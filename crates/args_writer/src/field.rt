@@ -28,8 +28,8 @@ const I32: u8 = wire_type::I32 as u8;
 
 const I32_BYTES: usize = 4;
 
-// Field numbers as they are put: the type of an Any and of a Scalar, an Any's scalar, the args of a message, and the bytes in an
-// octets or string value.
+// Field numbers as they are put: the type of an Any and of a Scalar, an Any's scalar, the args of a message, and the
+// bytes in an octets or string value.
 const TYPE: u32 = fields::TYPE as u32;
 
 const SCALAR: u32 = anys::SCALAR_FIELD as u32;

@@ -1,11 +1,10 @@
 // A step on a frame, under an engine report: the session after it stands in the same words, the reply's bytes at the
 // front of the buffer.
 ghost use mathlib.Core.Path.{_≡_};
-ghost use Rattle.message.specs.declared.request.Frame.{Frame};
 ghost use Rattle.message.specs.declared.request.Request.{Request};
 ghost use Rattle.session.specs.Words.{sessionOf};
-ghost use Rattle.rules.specs.Step.{stepOf, stepOn};
-ghost use Rattle.keeper.specs.private.Does.{Does, Readable, Ready};
+ghost use Rattle.rules.specs.Step.{stepOf};
+ghost use Rattle.keeper.specs.private.Does.{Readable, Ready, Steps};
 use crate::answer;
 use crate::answer::Names;
 use crate::answer::Sends;
@@ -65,8 +64,8 @@ fn step_on(
 ) -> Answer
     requires { ⌜ Readable request (now buf) ⌝ }
     ensures { λ r. ⌜
-        Does (stepOn (sessionOf (now (words .entry))) (Frame.Good used request) report (now (buf .entry))) r
-        (sessionOf (now (words .exit))) (now (buf .exit))
+        Steps used request report r (now (words .entry)) (now (buf .entry)) (now (words .exit))
+        (now (buf .exit))
         ⌝ }
 {
     if session::words::is_closed(words) {
@@ -99,8 +98,8 @@ fn prepare(
 ) -> Answer
     requires { ⌜ Ready (now words) (Request.Prepare p) (now buf) ⌝ }
     ensures { λ r. ⌜
-        Does (stepOn (sessionOf (now (words .entry))) (Frame.Good used (Request.Prepare p)) report (now (buf .entry)))
-        r (sessionOf (now (words .exit))) (now (buf .exit))
+        Steps used (Request.Prepare p) report r (now (words .entry)) (now (buf .entry)) (now (words .exit))
+        (now (buf .exit))
         ⌝ }
 {
     let place = session::find::stmt_place(words, p.stmt);
@@ -125,8 +124,8 @@ fn execute(
 ) -> Answer
     requires { ⌜ Ready (now words) (Request.Execute x) (now buf) ⌝ }
     ensures { λ r. ⌜
-        Does (stepOn (sessionOf (now (words .entry))) (Frame.Good used (Request.Execute x)) report (now (buf .entry)))
-        r (sessionOf (now (words .exit))) (now (buf .exit))
+        Steps used (Request.Execute x) report r (now (words .entry)) (now (buf .entry)) (now (words .exit))
+        (now (buf .exit))
         ⌝ }
 {
     let looked = refusal::execute(words, x);
@@ -144,8 +143,8 @@ fn execute(
 fn open(words: &mut [u32; WORDS], used: usize, o: Open, report: Report, buf: &mut [u8]) -> Answer
     requires { ⌜ Ready (now words) (Request.Open o) (now buf) ⌝ }
     ensures { λ r. ⌜
-        Does (stepOn (sessionOf (now (words .entry))) (Frame.Good used (Request.Open o)) report (now (buf .entry))) r
-        (sessionOf (now (words .exit))) (now (buf .exit))
+        Steps used (Request.Open o) report r (now (words .entry)) (now (buf .entry)) (now (words .exit))
+        (now (buf .exit))
         ⌝ }
 {
     let x = o.execute;
@@ -174,8 +173,8 @@ fn open(words: &mut [u32; WORDS], used: usize, o: Open, report: Report, buf: &mu
 fn fetch(words: &mut [u32; WORDS], used: usize, f: Fetch, report: Report, buf: &mut [u8]) -> Answer
     requires { ⌜ Ready (now words) (Request.Fetch f) (now buf) ⌝ }
     ensures { λ r. ⌜
-        Does (stepOn (sessionOf (now (words .entry))) (Frame.Good used (Request.Fetch f)) report (now (buf .entry))) r
-        (sessionOf (now (words .exit))) (now (buf .exit))
+        Steps used (Request.Fetch f) report r (now (words .entry)) (now (buf .entry)) (now (words .exit))
+        (now (buf .exit))
         ⌝ }
 {
     let place = session::find::find_cursor(words, f.cursor);
@@ -201,10 +200,8 @@ fn deallocate(
 ) -> Answer
     requires { ⌜ Ready (now words) (Request.Deallocate stmt) (now buf) ⌝ }
     ensures { λ r. ⌜
-        Does
-        (stepOn (sessionOf (now (words .entry))) (Frame.Good used (Request.Deallocate stmt)) report
-        (now (buf .entry)))
-        r (sessionOf (now (words .exit))) (now (buf .exit))
+        Steps used (Request.Deallocate stmt) report r (now (words .entry)) (now (buf .entry)) (now (words .exit))
+        (now (buf .exit))
         ⌝ }
 {
     let place = session::find::find_stmt(words, stmt);
@@ -225,9 +222,8 @@ fn close(
 ) -> Answer
     requires { ⌜ Ready (now words) (Request.Close cursor) (now buf) ⌝ }
     ensures { λ r. ⌜
-        Does
-        (stepOn (sessionOf (now (words .entry))) (Frame.Good used (Request.Close cursor)) report (now (buf .entry)))
-        r (sessionOf (now (words .exit))) (now (buf .exit))
+        Steps used (Request.Close cursor) report r (now (words .entry)) (now (buf .entry)) (now (words .exit))
+        (now (buf .exit))
         ⌝ }
 {
     let place = session::find::find_cursor(words, cursor);

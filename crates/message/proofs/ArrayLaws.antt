@@ -35,6 +35,13 @@ optional-held {x} {g} {v} {w} {u} h k =
     ap (λ (b : Bool). optionalBy b (getD w k 0)) (held-seen h k)
     ∙ ap (optionalBy (not (eqb (countOf x k) 0))) (held-value h k)
 
+-- a message of bytes: its place and length, whatever is made of them
+part-held : {x : Slots} {g : Bool} {v : List Bool} {w u : List ℕ} → Holds x g v w u → (k : ℕ) →
+    lenOf x k ≡ valueOf x k →
+    (f : ℕ → ℕ → Frame) → f (getD u k 0) (getD w k 0) ≡ f (startOf x k) (lenOf x k)
+part-held {x} {g} {v} {w} {u} h k long f =
+    ap (λ (p : ℕ). f p (getD w k 0)) (held-start h k) ∙ ap (f (startOf x k)) (held-value h k ∙ sym long)
+
 -- Deallocate and Close have an id in field 1
 module _ (s : List ℕ) (kind : ℕ) (q : ℕ → Request) {x : Slots} {g : Bool} {v : List Bool} {w u : List ℕ}
     (h : Holds x g v w u) where
@@ -92,10 +99,7 @@ module _ (s : List ℕ) (id : ℕ) (rows : Optional) (at n : ℕ) {g : Bool} {v 
       openFrom s id rows (record { start = getD u 2 0; len = getD w 2 0 }) x ≡ openInside s id rows at n
   open-held t f x is =
       ap (openFrom s id rows (record { start = getD u 2 0; len = getD w 2 0 })) is
-      ∙ ap (λ (p : ℕ). openFrom s id rows (record { start = p; len = getD w 2 0 }) (executeIn s p (getD w 2 0)))
-      (held-start h 2)
-      ∙ ap (λ (q : ℕ). openFrom s id rows (record { start = startOf stmt 2; len = q }) (executeIn s (startOf stmt 2) q))
-      (held-value h 2 ∙ sym run-long)
+      ∙ part-held h 2 run-long (λ p q. openFrom s id rows (record { start = p; len = q }) (executeIn s p q))
       ∙ both-hold opening unopened (held-good h t) (ap not (ne-eqb (countOf stmt 2) 0 (held-present h 2 f)))
 
 module _ (s : List ℕ) {g : Bool} {v : List Bool} {w u : List ℕ}
@@ -121,8 +125,7 @@ module _ (s : List ℕ) {g : Bool} {v : List Bool} {w u : List ℕ}
       ap (λ (i : ℕ). openInside s i (optionalBy (getD v 5 false) (getD w 5 0)) (getD u 4 0) (getD w 4 0))
       (held-value h 1)
       ∙ ap (λ (o : Optional). openInside s (valueOf opened 1) o (getD u 4 0) (getD w 4 0)) (optional-held h 5)
-      ∙ ap (λ (p : ℕ). openInside s (valueOf opened 1) (optionalOf opened 5) p (getD w 4 0)) (held-start h 4)
-      ∙ ap (openInside s (valueOf opened 1) (optionalOf opened 5) (startOf opened 4)) (held-value h 4 ∙ sym opened-long)
+      ∙ part-held h 4 opened-long (openInside s (valueOf opened 1) (optionalOf opened 5))
       ∙ yes inside (Frame.BadPayload (length s) Client.open') (held-good h e)
 
 -- Prepare, by its statement and whole
@@ -180,11 +183,7 @@ module _ (s : List ℕ) (id at n : ℕ) {g : Bool} {v : List Bool} {w u : List �
     prepare-held f b bs =
         let t = low32 (getD w 1 0) in
         ap (prepareFrom s id t (record { start = getD u k 0; len = getD w k 0 })) bs
-        ∙ ap (λ (p : ℕ). prepareFrom s id t (record { start = p; len = getD w k 0 }) (bodyIn s t p (getD w k 0)))
-        (held-start h k)
-        ∙ ap
-        (λ (q : ℕ). prepareFrom s id t (record { start = startOf text k; len = q }) (bodyIn s t (startOf text k) q))
-        (held-value h k ∙ sym body-long)
+        ∙ part-held h k body-long (λ p q. prepareFrom s id t (record { start = p; len = q }) (bodyIn s t p q))
         ∙ both-hold (body-at t k) unprepared (held-good h e) (ap not (ne-eqb (countOf text k) 0 (held-present h k f)))
         ∙ typed
 
@@ -208,6 +207,5 @@ module _ (s : List ℕ) {g : Bool} {v : List Bool} {w u : List ℕ}
   unfolding prepareFrame
   prepare-whole e =
       ap (λ (i : ℕ). prepareInside s i (getD u 2 0) (getD w 2 0)) (held-value h 1)
-      ∙ ap (λ (p : ℕ). prepareInside s (valueOf prepared 1) p (getD w 2 0)) (held-start h 2)
-      ∙ ap (prepareInside s (valueOf prepared 1) (startOf prepared 2)) (held-value h 2 ∙ sym prepared-long)
+      ∙ part-held h 2 prepared-long (prepareInside s (valueOf prepared 1))
       ∙ yes within (Frame.BadPayload (length s) Client.prepare) (held-good h e)

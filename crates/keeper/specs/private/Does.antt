@@ -9,6 +9,7 @@ use Rattle.protocol.specs.Reason as Reason
 use Rattle.encode.specs.Put.{placeBehind, putAt, written}
 use Rattle.args.specs.declared.arguments.Arguments.{Arguments}
 use Rattle.message.specs.Request.{stmtOf, cursorOf, argsOf}
+use Rattle.message.specs.declared.request.Frame.{Frame}
 use Rattle.message.specs.declared.request.Request.{Request}
 use Rattle.session.specs.Session.{Session, isClosed}
 use Rattle.session.specs.declared.Cursor.{Cursor}
@@ -22,7 +23,7 @@ use Rattle.rules.specs.declared.Report.{Report}
 use Rattle.rules.specs.Rows.{firstRow, rowCount, sendsColumns}
 use Rattle.rules.specs.Decision.{endOf, replyTo, wireCode}
 use Rattle.rules.specs.Read.{Read}
-use Rattle.rules.specs.Step.{Step}
+use Rattle.rules.specs.Step.{Step, stepOn}
 use Rattle.keeper.specs.declared.answer.Names.{Names}
 use Rattle.keeper.specs.declared.answer.Sends.{Sends}
 
@@ -31,6 +32,11 @@ pub record Does (step : Step) (answer : Answer) (session : Session) (buffer : Li
   pub answered : answer ≡ step .answer
   pub kept : session ≡ step .session
   pub replied : buffer ≡ step .buffer
+
+-- the step on a request, from the words and the buffer before to those after
+abbrev pub Steps : ℕ → Request → Report → Answer → List ℕ → List ℕ → List ℕ → List ℕ → Type 0
+Steps used q report answer words buffer words' buffer' =
+    Does (stepOn (sessionOf words) (Frame.Good used q) report buffer) answer (sessionOf words') buffer'
 
 -- the length told of a reply: 0 where it does not fit
 abbrev pub lengthIn : List ℕ → Reply → ℕ

@@ -13,8 +13,8 @@ decided : (d : tie.After-dead-cursor) →
 decided d =
     let g = d .before .before .before in
     let st = g .before .before .before in
-    close-decides (st .args .used) (st .args .report) (st .pre) (g .find-cursor .ensures) (d .before .cursor-at .ensures)
-    (d .dead-cursor .ensures)
+    close-decides (st .args .used) (st .args .report) (st .pre) (g .find-cursor .ensures)
+    (d .before .cursor-at .ensures) (d .dead-cursor .ensures)
 
 returns : tie.Need-returns
 returns c =

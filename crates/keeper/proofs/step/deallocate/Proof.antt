@@ -13,8 +13,8 @@ decided : (d : tie.After-dead-stmt) →
 decided d =
     let g = d .before .before .before in
     let st = g .before .before .before in
-    deallocate-decides (st .args .used) (st .args .report) (st .pre) (g .find-stmt .ensures) (d .before .stmt-at .ensures)
-    (d .dead-stmt .ensures)
+    deallocate-decides (st .args .used) (st .args .report) (st .pre) (g .find-stmt .ensures)
+    (d .before .stmt-at .ensures) (d .dead-stmt .ensures)
 
 returns : tie.Need-returns
 returns c =
@@ -30,7 +30,8 @@ returns-2 c =
     let st = g .before .before .before in
     let s = sessionOf (st .args .words .now) in
     accepts (decided (t .before)) (t .if1 .left) (deallocate-sends s (st .args .stmt) (st .args .report))
-    (deallocate-after s (st .args .stmt) (st .args .report) (g .find-stmt .ensures) (u .free .ensures)) (c .before .before .accept .ensures)
+    (deallocate-after s (st .args .stmt) (st .args .report) (g .find-stmt .ensures) (u .free .ensures))
+    (c .before .before .accept .ensures)
 
 pub deallocate-spec : {M : Type 1} → statement M
 deallocate-spec = tie.close (tie.spec (λ c κs. search needs) (λ c κs. search needs) (λ c κs. search needs)

@@ -7,4 +7,5 @@ use Rattle.message.proofs.payload.fill_payload.Tie as tie
 
 pub fill-payload-spec : {M : Type 1} → statement M
 fill-payload-spec = tie.close (tie.spec (λ c κs. search needs)
-    (λ c. let a = c .before .before .before .before .before .args in holds-whole (a .rows .now) (a .s .now) payload (c .fill-fields .ensures)))
+    (λ c. let a = c .before .before .before .before .before .args in
+    holds-whole (a .rows .now) (a .s .now) payload (c .fill-fields .ensures)))

@@ -27,12 +27,20 @@ returns-9 c =
 pub is-accepted-spec : {M : Type 1} → statement M
 unfolding acceptedAs
 is-accepted-spec = tie.close (tie.spec (λ c κs. search needs) (λ c κs. search needs) (λ c κs. search needs)
-    (λ c. let a = c .before .before .before .args in arm (a .draft) (a .body .now) (a .args .now) (c .match .keys1) refl)
-    (λ c. let a = c .before .before .before .args in arm (a .draft) (a .body .now) (a .args .now) (c .match .keys2) refl)
-    (λ c. let a = c .before .before .before .before .args in arm (a .draft) (a .body .now) (a .args .now) (c .before .match .keys3) (c .is-prepare .ensures))
-    (λ c. let a = c .before .before .before .before .args in arm (a .draft) (a .body .now) (a .args .now) (c .before .match .keys4) (c .is-stretch .ensures))
-    (λ c. let a = c .before .before .before .args in arm (a .draft) (a .body .now) (a .args .now) (c .match .keys5) refl)
-    (λ c. let a = c .before .before .before .before .args in arm (a .draft) (a .body .now) (a .args .now) (c .before .match .keys6) (c .is-stretch2 .ensures))
-    (λ c. let a = c .before .before .before .args in arm (a .draft) (a .body .now) (a .args .now) (c .match .keys7) refl)
-    (λ c. let a = c .before .before .before .args in arm (a .draft) (a .body .now) (a .args .now) (c .match .keys8) refl)
+    (λ c. let a = c .before .before .before .args in
+    arm (a .draft) (a .body .now) (a .args .now) (c .match .keys1) refl)
+    (λ c. let a = c .before .before .before .args in
+    arm (a .draft) (a .body .now) (a .args .now) (c .match .keys2) refl)
+    (λ c. let a = c .before .before .before .before .args in
+    arm (a .draft) (a .body .now) (a .args .now) (c .before .match .keys3) (c .is-prepare .ensures))
+    (λ c. let a = c .before .before .before .before .args in
+    arm (a .draft) (a .body .now) (a .args .now) (c .before .match .keys4) (c .is-stretch .ensures))
+    (λ c. let a = c .before .before .before .args in
+    arm (a .draft) (a .body .now) (a .args .now) (c .match .keys5) refl)
+    (λ c. let a = c .before .before .before .before .args in
+    arm (a .draft) (a .body .now) (a .args .now) (c .before .match .keys6) (c .is-stretch2 .ensures))
+    (λ c. let a = c .before .before .before .args in
+    arm (a .draft) (a .body .now) (a .args .now) (c .match .keys7) refl)
+    (λ c. let a = c .before .before .before .args in
+    arm (a .draft) (a .body .now) (a .args .now) (c .match .keys8) refl)
     returns-9)
