@@ -5,6 +5,7 @@
 ghost use mathlib.Core.Path.{_≡_};
 ghost use Rattle.wire.specs.Value.{valueAt};
 ghost use Rattle.args.specs.private.Pair.{loneIn, pairAt, pairIn, pairOf, textAt, textIn, textOf};
+use protocol::fields;
 use protocol::wire_type;
 use varint::wide;
 use wire::value::Value;
@@ -21,8 +22,8 @@ pub enum Pair {
     Other,
 }
 
-// The tag of field 1 as a varint.
-const FIRST_TAG: u8 = 8;
+// The tag of a type.
+const FIRST_TAG: u8 = (fields::TYPE as u64 * 8 + wire_type::VARINT) as u8;
 
 // The bytes of that field with a value of one byte.
 const LONE_BYTES: usize = 2;
@@ -155,8 +156,8 @@ pub enum Text {
     Other,
 }
 
-// The tag of field 1 with bytes.
-const TEXT_TAG: u8 = 10;
+// The tag of the bytes.
+const TEXT_TAG: u8 = (fields::BYTES as u64 * 8 + wire_type::LEN) as u8;
 
 // The bytes, if they end where the message does.
 fn alone(read: Value, end: usize) -> Text

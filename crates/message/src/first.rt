@@ -3,6 +3,8 @@
 ghost use mathlib.Core.Path.{_≡_};
 ghost use Rattle.message.specs.private.First.{Begins};
 use crate::payload::PAYLOAD;
+use protocol::fields;
+use protocol::wire_type;
 use varint::Varint;
 
 // The id, and the place behind the tag that follows it. Other: the long way reads the message.
@@ -11,8 +13,7 @@ pub enum First {
     Other,
 }
 
-// The tag of the id, field 1 as a varint.
-const ID_TAG: u8 = 8;
+const ID_TAG: u8 = (fields::ID as u64 * 8 + wire_type::VARINT) as u8;
 
 // The id where this tag follows it.
 pub fn read_first(s: &[u8], tag: u8) -> First

@@ -4,6 +4,8 @@ ghost use mathlib.Core.Path.{_≡_};
 ghost use Rattle.message.specs.declared.outer.Outer.the-variants.{Fields};
 ghost use Rattle.message.specs.private.Outer.{Says};
 use crate::first::First;
+use protocol::fields;
+use protocol::wire_type;
 use varint::Varint;
 use wire::value::Value;
 
@@ -20,10 +22,10 @@ pub enum Outer {
     Other,
 }
 
-// The tags: field 4 with bytes, field 5 a varint.
-const STMT_TAG: u8 = 34;
+// The tags of the statement and of fetch_rows.
+const STMT_TAG: u8 = (fields::OPEN_STMT as u64 * 8 + wire_type::LEN) as u8;
 
-const ROWS_TAG: u8 = 40;
+const ROWS_TAG: u8 = (fields::OPEN_ROWS as u64 * 8 + wire_type::VARINT) as u8;
 
 // The fields that were found.
 fn fields(id: u64, start: usize, len: usize, has: bool, rows: u64) -> Outer

@@ -6,7 +6,7 @@ ghost use Rattle.message.specs.Prepare.{bodyIn, prepareFrame, prepareFro
 ghost use Rattle.message.specs.private.Parts.{Chooses, ofStmt};
 use crate::first::First;
 use crate::operation;
-use crate::payload::PAYLOAD;
+use crate::payload::fill_payload;
 use crate::payload::low;
 use crate::request::Frame;
 use crate::request::Prepare;
@@ -16,7 +16,6 @@ use args::pair::Pair;
 use args::pair::Text;
 use args::part::Part;
 use args::part::fill_part;
-use layout::fields::fill_fields;
 use layout::slots::SLOTS;
 use protocol::client;
 use protocol::fields;
@@ -101,30 +100,21 @@ fn long_stmt(s: &[u8]) -> Stmt
     ensures { λ r. ⌜ ofStmt (now (s .entry)) r ≡ prepareFrame (now (s .entry)) ⌝ }
 {
     let rows = layout::rows::prepare_rows();
-    let mut seen = [false; 10];
-    let mut values = [0; 10];
-    let mut starts = [0; 10];
-    if !fill_fields(
-        &rows,
-        s,
-        PAYLOAD,
-        s.len(),
-        &mut seen,
-        &mut values,
-        &mut starts,
-    ) {
+    let mut seen = [false; SLOTS];
+    let mut values = [0; SLOTS];
+    let mut starts = [0; SLOTS];
+    if !fill_payload(&rows, s, &mut seen, &mut values, &mut starts) {
         return Stmt::Bad;
     }
-    // Field 1 is stmt_id, 2 the statement.
     Stmt::At {
-        id: values[1],
-        start: starts[2],
-        len: values[2] as usize,
+        id: values[fields::ID],
+        start: starts[fields::PREPARE_STMT],
+        len: values[fields::PREPARE_STMT] as usize,
     }
 }
 
-// The tag of the statement, field 2 with bytes.
-const STMT_TAG: u8 = 18;
+// The tag of the statement.
+const STMT_TAG: u8 = (fields::PREPARE_STMT as u64 * 8 + wire_type::LEN) as u8;
 
 // With a short way for a Prepare of its two fields alone, as most are.
 fn find_stmt(s: &[u8]) -> Stmt
@@ -138,7 +128,7 @@ fn find_stmt(s: &[u8]) -> Stmt
             len,
             next: end,
         } = wire::value::length_value(s, next) {
-            if end == s.len() {
+            if end == n {
                 return Stmt::At { id, start, len };
             }
         }

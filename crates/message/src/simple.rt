@@ -6,17 +6,16 @@ ghost use Rattle.message.specs.Payload.{payload};
 ghost use Rattle.message.specs.Simple.{closeFrame, deallocateFrame, fetchFrame, resetFrame, sessionCloseFrame};
 ghost use Rattle.message.specs.private.Parts.{fetchOf};
 use crate::first::First;
-use crate::payload::PAYLOAD;
 use crate::payload::fill_payload;
 use crate::payload::low;
 use crate::payload::read_optional;
 use crate::request::Fetch;
 use crate::request::Frame;
 use crate::request::Request;
-use layout::fields::fill_fields;
 use layout::slots::SLOTS;
 use protocol::client;
 use protocol::fields;
+use protocol::wire_type;
 use varint::Varint;
 
 // A payload of no fields of its own is good.
@@ -117,29 +116,25 @@ fn long_fetch(s: &[u8]) -> Frame
     ensures { λ r. ⌜ r ≡ fetchFrame (now (s .entry)) ⌝ }
 {
     let rows = layout::rows::fetch_rows();
-    let mut seen = [false; 10];
-    let mut values = [0; 10];
-    let mut starts = [0; 10];
-    if !fill_fields(
-        &rows,
-        s,
-        PAYLOAD,
-        s.len(),
-        &mut seen,
-        &mut values,
-        &mut starts,
-    ) {
+    let mut seen = [false; SLOTS];
+    let mut values = [0; SLOTS];
+    let mut starts = [0; SLOTS];
+    if !fill_payload(&rows, s, &mut seen, &mut values, &mut starts) {
         return Frame::BadPayload {
             used: s.len(),
             kind: client::FETCH,
         };
     }
-    // Field 1 is cursor_id, 2 fetch_rows.
-    fetch_of(s.len(), values[1], seen[2], values[2])
+    fetch_of(
+        s.len(),
+        values[fields::ID],
+        seen[fields::FETCH_ROWS],
+        values[fields::FETCH_ROWS],
+    )
 }
 
-// The tag of fetch_rows, field 2 as a varint.
-const ROWS_TAG: u8 = 16;
+// The tag of fetch_rows.
+const ROWS_TAG: u8 = (fields::FETCH_ROWS as u64 * 8 + wire_type::VARINT) as u8;
 
 // With a short way for a Fetch of its two fields alone, as most are.
 pub fn read_fetch(s: &[u8]) -> Frame

@@ -1,7 +1,5 @@
 -- The arrays hold the message's fields; the statement stands in field 2.
 use borrow.Author.Tests.{not-true, not-false}
-use Rattle.layout.proofs.ArrayLaws.{holds-lent}
-use Rattle.message.specs.Payload.{payload}
 use Rattle.message.proofs.ArrayLaws.{prepare-refused, prepare-whole}
 use borrow.Author.Needs.{needs}
 use Rattle.message.proofs.prepare.long_stmt.Statement.{statement}
@@ -12,7 +10,7 @@ returns c =
     let f = c .before in
     let r = f .before .before .before .before .before in
     let s = r .before .before .args .s .now in
-    prepare-refused s (holds-lent (r .prepare-rows .ensures) s payload (f .fill-fields .ensures))
+    prepare-refused s (rw (r .prepare-rows .ensures) at (f .fill-payload .ensures))
     (not-true _ (c .if1 .taken))
 
 returns-2 : tie.Need-returns-2
@@ -20,7 +18,7 @@ returns-2 c =
     let f = c .before in
     let r = f .before .before .before .before .before in
     let s = r .before .before .args .s .now in
-    prepare-whole s (holds-lent (r .prepare-rows .ensures) s payload (f .fill-fields .ensures))
+    prepare-whole s (rw (r .prepare-rows .ensures) at (f .fill-payload .ensures))
     (not-false _ (c .if1 .left))
 
 pub long-stmt-spec : {M : Type 1} → statement M

@@ -1,8 +1,6 @@
 -- The arrays hold the message's fields.
 use mathlib.Core.Path.{_∙_}
 use borrow.Author.Tests.{not-true, not-false}
-use Rattle.layout.proofs.ArrayLaws.{holds-lent}
-use Rattle.message.specs.Payload.{payload}
 use Rattle.message.specs.Simple.{fetchFrame}
 use Rattle.message.proofs.ArrayLaws.{fetch-spoiled, fetch-held}
 use borrow.Author.Needs.{needs}
@@ -15,7 +13,7 @@ returns c =
     let f = c .before in
     let r = f .before .before .before .before .before in
     let s = r .before .before .args .s .now in
-    fetch-spoiled s (holds-lent (r .fetch-rows .ensures) s payload (f .fill-fields .ensures))
+    fetch-spoiled s (rw (r .fetch-rows .ensures) at (f .fill-payload .ensures))
     (not-true _ (c .if1 .taken))
 
 returns-2 : tie.Need-returns-2
@@ -25,7 +23,7 @@ returns-2 c =
     let r = f .before .before .before .before .before in
     let s = r .before .before .args .s .now in
     c .fetch-of .ensures
-    ∙ fetch-held s (holds-lent (r .fetch-rows .ensures) s payload (f .fill-fields .ensures))
+    ∙ fetch-held s (rw (r .fetch-rows .ensures) at (f .fill-payload .ensures))
     (not-false _ (c .before .if1 .left))
 
 pub long-fetch-spec : {M : Type 1} → statement M
