@@ -6,12 +6,13 @@ frames, varints, groups and scalars, and frames on both sides of each rule of re
 output comes from the reader below, which shares no code with the library (its authors wrote both, so a
 misreading that both share would not show), and from the values that the guide publishes, which are asserted here.
 
-The replies, steps, messages and arguments that the program makes itself come first; their lines were worked
-out by hand and stand in by_hand.txt.
+Before them come the replies, steps, messages and arguments of by_hand.txt, whose lines were worked out by hand and
+stand there beside what is asked. Here they are only written as the program reads them.
 
     python3 tests/reading/vectors.py        writes crates/samples/stdin and stdout
 """
 import os
+import re
 import struct
 import sys
 
@@ -385,19 +386,109 @@ GUIDE = {  # what the encoding guide publishes
 }
 
 
+# --- the samples worked out by hand ----------------------------------------------------------------
+# A record is a letter and fields: a number or bytes, under the number that crates/samples/src/given.rt has for its name.
+LETTERS = {word: word[0].encode() for word in ("heading", "step", "look", "reply", "message", "argument", "pair")}
+LETTERS["session"] = b"n"
+MESSAGES = {"Reset": 6, "SessionClose": 7, "Unknown": 8, "Prepare": 40, "Execute": 41, "Deallocate": 42, "Open": 43,
+            "Close": 44, "Fetch": 45}
+CASES = {
+    "reply": {"Ok": 0, "Error": 1, "Done": 14, "Suspended": 15, "Executed": 17, "Nothing": 255},
+    "step": {"None": 0, "Prepared": 1, "Result": 2, "Done": 3, "Failed": 4},
+    "message": MESSAGES, "pair": MESSAGES,
+    "argument": {"Refused": 0, "Sint": 1, "Uint": 2, "Null": 3, "Octets": 4, "Double": 5, "Float": 6, "Bool": 7,
+                 "String": 8, "Object": 9, "Array": 10, "Nan": 11, "DoubleNan": 12, "FloatNan": 13},
+}
+# The buffer has this many bytes, and this many of what was written are shown, where the record does not say.
+ROOMS = {"reply": 128, "step": 128, "message": 65540, "argument": 32, "pair": 32}
+SHOWN = 64
+
+
+def bytes_of(text):
+    out = b""
+    for part in text.split("."):
+        if "*" in part:
+            one, times = part.split("*")
+            out += H(one) * int(times)
+        else:
+            out += H(part)
+    return out
+
+
+def fields_of(word, case, values, numbers):
+    """The record's fields; a Sint's number goes as zigzag, and a body without the zeros at its end."""
+    got = {"case": CASES[word][case]} if case else {}
+    for name, text in values:
+        if name in ("first", "second"):
+            got[name] = record_of("argument " + text[1:-1], numbers)
+        elif name in ("frame", "args", "source", "body"):
+            got[name] = bytes_of(text)
+        else:
+            got[name] = zz(int(text)) if case == "Sint" and name == "value" else int(text, 0)
+    if "body" in got:
+        got["size"] = len(got["body"])
+        got["body"] = got["body"].rstrip(b"\0")
+    if word in ROOMS:
+        got.setdefault("room", ROOMS[word])
+        got.setdefault("shown", SHOWN)
+    return b"".join((sub if isinstance(v, bytes) else num)(numbers[name], v) for name, v in got.items())
+
+
+def record_of(line, numbers):
+    word, _, rest = line.partition(" ")
+    if word == "heading":
+        return sub(numbers["text"], (rest + "\n").encode())
+    case, values = re.match(r"(\w+(?![\w=]))?(.*)", rest).groups()
+    return fields_of(word, case, re.findall(r"(\w+)=(\([^)]*\)|\S+)", values), numbers)
+
+
+def repeated(line):
+    """The records that a line stands for."""
+    many = re.match(r"ID (\d+) to (\d+): (.*)", line)
+    if not many:
+        return [line]
+    first, last, text = many.groups()
+    return [text.replace("ID", "%02x" % k) for k in range(int(first), int(last) + 1)]
+
+
+def by_hand():
+    """(the records, the lines that they print)"""
+    with open(os.path.join(CRATE, "src", "given.rt")) as f:
+        numbers = {name.lower(): int(n) for name, n in re.findall(r"pub const (\w+): u64 = (\d+);", f.read())}
+    with open(os.path.join(HERE, "by_hand.txt")) as f:
+        lines = [line for line in f.read().split("\n") if line and line[0] != "#"]
+    records, printed = [], []
+    for k, line in enumerate(lines):
+        if line.startswith("= "):
+            continue
+        expect = []
+        while k + 1 < len(lines) and lines[k + 1].startswith("= "):
+            k += 1
+            expect.append(lines[k][2:] + "\n")
+        for one in repeated(line):
+            records.append((LETTERS[one.split(" ")[0]], record_of(one, numbers)))
+            printed += expect
+    return records, printed
+
+
+def record(letter, s):
+    return letter + struct.pack("<H", len(s)) + s
+
+
 def main():
     for (letter, text), line in GUIDE.items():
         if expected(letter, H(text)) != line:
             sys.exit("the guide's %s %s: %r" % (letter, text, expected(letter, H(text))))
-    data = b"".join(letter.encode() + struct.pack("<H", len(s)) + s for letter, s in VECTORS)
-    lines = "".join(expected(letter, s) for letter, s in VECTORS)
+    records, printed = by_hand()
+    data = b"".join(record(letter, s) for letter, s in records)
+    data += b"".join(record(letter.encode(), s) for letter, s in VECTORS)
+    lines = "".join(printed) + "".join(expected(letter, s) for letter, s in VECTORS)
     with open(os.path.join(CRATE, "stdin"), "wb") as f:
         f.write(data)
-    with open(os.path.join(HERE, "by_hand.txt")) as f:
-        by_hand = f.read()
     with open(os.path.join(CRATE, "stdout"), "w") as f:
-        f.write(by_hand + lines)
-    print("%d vectors, %d bytes" % (len(VECTORS), len(data)))
+        f.write(lines)
+    print("%d records by hand, %d vectors, %d bytes" % (len(records), len(VECTORS), len(data)))
 
 
-main()
+if __name__ == "__main__":
+    main()

@@ -4,17 +4,13 @@ use Rattle.samples.proofs.reading.print_fields.Statement.{statement}
 use Rattle.samples.proofs.reading.print_fields.Tie as tie
 
 abbrev Inv-loop : tie.InvT-loop
-Inv-loop s p₀ left₀ t10 t11 p left = Unit {0}
+Inv-loop s p₀ left₀ p left = Unit {0}
 
 abbrev μ-loop : tie.MeasureT-loop
-μ-loop s p₀ left₀ t10 t11 p left = left
+μ-loop s p₀ left₀ p left = left
 
 pub print-fields-spec : {M : Type 1} → statement M
-print-fields-spec =
-    tie.close
-    (tie.spec
-    Inv-loop μ-loop
-    (λ c. search needs) (λ c. search needs) (λ c κs. search needs) (λ c. search needs) (λ c κs. search needs)
-    (λ c κs. search needs) (λ c. search needs) (λ c. search needs) (λ c κs. search needs) (λ c. search needs)
-    (λ c. search needs) (λ c. search needs) (λ c. search needs) (λ c. search needs) (λ c. search needs)
-    (λ c κs. search needs) (λ c. search needs))
+print-fields-spec = tie.close (tie.spec Inv-loop μ-loop (λ c. search needs) (λ c κs. search needs) (λ c. search needs)
+    (λ c. search needs) (λ c κs. search needs) (λ c. search needs) (λ c κs. search needs) (λ c κs. search needs)
+    (λ c κs. search needs) (λ c. search needs) (λ c. search needs) (λ c. search needs) (λ c κs. search needs)
+    (λ c. search needs) (λ c κs. search needs) (λ c. search needs))
