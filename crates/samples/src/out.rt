@@ -28,14 +28,9 @@ pub fn line(buf: &[u8], n: usize) {
     phrase::print(phrase::LINE, 0, 0);
 }
 
-// A number, and a space behind it.
-pub fn spaced(n: u64) {
-    phrase::print(phrase::SPACED, n, 0);
-}
-
 // The length of what was written, and its bytes, at most `shown`.
 pub fn front(buf: &[u8], len: usize, shown: usize) {
-    spaced(len as u64);
+    phrase::print(phrase::SPACED, len as u64, 0);
     if len < shown {
         line(buf, len);
     } else {

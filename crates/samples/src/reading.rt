@@ -5,14 +5,10 @@ use crate::phrase;
 use varint::Varint;
 use wire::field::Field;
 
-fn print_bad() {
-    phrase::print(phrase::BAD, 0, 0);
-}
-
 fn print_varint(s: &[u8]) {
     match varint::read_varint(s, 0) {
         Varint::Number { value, next } => phrase::print(phrase::VARINT, value, next as u64),
-        Varint::Bad => print_bad(),
+        Varint::Bad => phrase::print(phrase::BAD, 0, 0),
     }
 }
 
@@ -25,7 +21,7 @@ fn print_zigzag(s: &[u8]) {
                 scalar::zigzag::zigzag_decode(value),
             );
         }
-        Varint::Bad => print_bad(),
+        Varint::Bad => phrase::print(phrase::BAD, 0, 0),
     }
 }
 
@@ -52,7 +48,7 @@ fn print_fields(s: &[u8]) {
                 phrase::print(phrase::PLACE, start as u64, len as u64);
                 p = next;
             }
-            Field::Bad => return print_bad(),
+            Field::Bad => return phrase::print(phrase::BAD, 0, 0),
         }
     }
     phrase::print(phrase::LINE, 0, 0);

@@ -36,13 +36,18 @@ fn print_in(letter: u8, s: &[u8], words: &mut [u32; WORDS], space: &mut [u8]) {
     }
 }
 
-// Capital letters stand for what is read.
-fn print_record(letter: u8, s: &[u8], words: &mut [u32; WORDS]) {
+// Capital letters stand for what is read. The session goes on from one record to the next, until one that starts another.
+fn print_record(letter: u8, s: &[u8], mut session: Session) -> Session {
     if letter < b'a' {
-        return reading::print(letter, s);
+        reading::print(letter, s);
+        return session;
+    }
+    if letter == b'n' {
+        return Session::fresh();
     }
     let mut space = [FILL; SPACE];
-    print_in(letter, s, words, &mut space);
+    print_in(letter, s, &mut session.words, &mut space);
+    session
 }
 
 fn wide(b: u8) -> usize
@@ -51,7 +56,6 @@ fn wide(b: u8) -> usize
     b as usize
 }
 
-// The session goes on from one record to the next, until one that starts another.
 pub fn print_records(s: &[u8]) {
     let mut session = Session::fresh();
     let mut p = 0;
@@ -66,10 +70,7 @@ pub fn print_records(s: &[u8]) {
             return;
         }
         let end = from + len;
-        if letter == b'n' {
-            session = Session::fresh();
-        }
-        print_record(letter, &s[from..end], &mut session.words);
+        session = print_record(letter, &s[from..end], session);
         p = end;
     }
 }

@@ -65,15 +65,15 @@ pub fn print_reply(s: &[u8], buf: &mut [u8]) {
 }
 
 fn print_sent(s: &[u8], r: Sent, buf: &[u8]) {
-    out::spaced(r.reason);
+    phrase::print(phrase::SPACED, r.reason, 0);
     out::front(buf, r.len, given::number(s, given::SHOWN) as usize);
     if given::number(s, given::WHOLE) == 1 {
         out::line(buf, buf.len());
     }
 }
 
-fn draft(s: &[u8]) -> Draft {
-    Draft {
+fn print_draft(s: &[u8], body: &[u8], args: &[u8], buf: &mut [u8]) {
+    let draft = Draft {
         kind: given::number(s, given::CASE),
         stmt: given::small(s, given::STMT),
         cursor: given::small(s, given::CURSOR),
@@ -82,11 +82,8 @@ fn draft(s: &[u8]) -> Draft {
         hascompact: given::number(s, given::HASCOMPACT) == 1,
         compact: given::number(s, given::COMPACT) == 1,
         operation: given::number(s, given::OPERATION),
-    }
-}
-
-fn print_draft(s: &[u8], body: &[u8], args: &[u8], buf: &mut [u8]) {
-    let r = writer::write_message(draft(s), body, args, buf);
+    };
+    let r = writer::write_message(draft, body, args, buf);
     print_sent(s, r, buf);
 }
 
@@ -135,14 +132,11 @@ pub fn print_argument(s: &[u8], buf: &mut [u8]) {
     print_sent(s, r, buf);
 }
 
-// Two arguments are appended, the second behind the first, and fill `args`.
-fn print_two(s: &[u8], args: &mut [u8], buf: &mut [u8]) {
+// Two arguments are appended, the second behind the first, and fill the stretch.
+pub fn print_pair(s: &[u8], buf: &mut [u8]) {
+    let mut space = [0u8; PAIR];
+    let args: &mut [u8] = &mut space;
     let first = append(given::bytes(s, given::FIRST), args, 0);
     append(given::bytes(s, given::SECOND), args, first.len);
     print_draft(s, b"", args, buf);
-}
-
-pub fn print_pair(s: &[u8], buf: &mut [u8]) {
-    let mut args = [0u8; PAIR];
-    print_two(s, &mut args, buf);
 }
