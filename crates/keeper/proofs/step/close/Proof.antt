@@ -1,26 +1,19 @@
 -- `keeper::step::close` meets its contract: the entry looked up decides, and the cursor ends. Assumes nothing.
 use borrow.Author.Needs.{needs}
-use Rattle.message.specs.declared.request.Request.{Request}
 use Rattle.session.specs.Words.{sessionOf}
-use Rattle.keeper.proofs.StepLaws.{Decided, refuses, accepts}
+use Rattle.keeper.proofs.StepLaws.{refuses, accepts}
 use Rattle.keeper.proofs.RequestLaws.{close-decides, close-sends, close-after}
 use Rattle.keeper.proofs.step.close.Statement.{statement}
 use Rattle.keeper.proofs.step.close.Tie as tie
 
-decided : (d : tie.After-dead-cursor) →
-    let a = d .before .before .before .before .before .before .args in
-    Decided (a .words .now) (Request.Close (a .cursor)) (a .buf .now) (a .used) (a .report) (d .dead-cursor .result)
-decided d =
-    let g = d .before .before .before in
-    let st = g .before .before .before in
-    close-decides (st .args .used) (st .args .report) (st .pre) (g .find-cursor .ensures)
-    (d .before .cursor-at .ensures) (d .dead-cursor .ensures)
-
 returns : tie.Need-returns
 returns c =
     let t = c .before .before .before .before .before in
-    refuses (decided (t .before)) (t .if1 .taken) (c .before .before .before .unbound .ensures)
-    (c .before .before .refuse .ensures)
+    let g = t .before .before .before .before in
+    let st = g .before .before .before in
+    refuses (close-decides (st .args .used) (st .args .report) (st .pre) (g .find-cursor .ensures)
+    (t .before .before .cursor-at .ensures) (t .before .dead-cursor .ensures))
+    (t .if1 .taken) (c .before .before .before .unbound .ensures) (c .before .before .refuse .ensures)
 
 returns-2 : tie.Need-returns-2
 returns-2 c =
@@ -29,7 +22,9 @@ returns-2 c =
     let g = t .before .before .before .before in
     let st = g .before .before .before in
     let s = sessionOf (st .args .words .now) in
-    accepts (decided (t .before)) (t .if1 .left) (close-sends s (st .args .cursor) (st .args .report))
+    accepts (close-decides (st .args .used) (st .args .report) (st .pre) (g .find-cursor .ensures)
+    (t .before .before .cursor-at .ensures) (t .before .dead-cursor .ensures))
+    (t .if1 .left) (close-sends s (st .args .cursor) (st .args .report))
     (close-after s (st .args .cursor) (st .args .report) (u .end .ensures)) (c .before .before .accept .ensures)
 
 pub close-spec : {M : Type 1} → statement M
