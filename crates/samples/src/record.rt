@@ -13,6 +13,9 @@ const SPACE: usize = 65540;
 
 const FILL: u8 = 7;
 
+// The bytes in front of a record's own.
+const HEAD: usize = 3;
+
 // A heading, a step, a look, a reply, a message, an argument or two.
 fn print(letter: u8, s: &[u8], words: &mut [u32; WORDS], buf: &mut [u8]) {
     match letter {
@@ -60,11 +63,11 @@ pub fn print_records(s: &[u8]) {
     let mut session = Session::fresh();
     let mut p = 0;
     while p < s.len() {
-        if s.len() - p < 3 {
+        if s.len() - p < HEAD {
             return;
         }
         let letter = s[p];
-        let from = p + 3;
+        let from = p + HEAD;
         let len = wide(s[p + 1]) + 256 * wide(s[p + 2]);
         if s.len() - from < len {
             return;
