@@ -37,10 +37,10 @@ pub enum NextArgument {
     End,
 }
 
-// The arguments in the bytes from `start` to `end`: how many there are, and the first object (kind 2) or
-// array (kind 3) among them with its index (kind 0: none). `good` says that each one is. No two of the numbers stand side
-// by side as in what hosts are told: such two are copied at once, right after they were written one by one, for which a
-// processor waits.
+// The arguments in the bytes from `start` to `end`: how many there are, and the first object (kind 2) or array (kind 3)
+// among them with its index (kind 0: none). `good` says that each one is. No two of the numbers stand side by side as in
+// what hosts are told: such two are copied at once, right after they were written one by one, for which a processor
+// waits.
 pub struct Arguments {
     pub good: bool,
     pub kind: u64,

@@ -39,7 +39,8 @@ fn print_in(letter: u8, s: &[u8], words: &mut [u32; WORDS], space: &mut [u8]) {
     }
 }
 
-// Capital letters stand for what is read. The session goes on from one record to the next, until one that starts another.
+// Capital letters stand for what is read. The session goes on from one record to the next, until one that starts
+// another.
 fn print_record(letter: u8, s: &[u8], mut session: Session) -> Session {
     if letter < b'a' {
         reading::print(letter, s);

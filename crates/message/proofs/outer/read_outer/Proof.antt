@@ -21,7 +21,9 @@ returns-3 c =
     (sym (v .length-value .ensures) ∙ c .before .before .before .start .given .1) (c .before .if1 .taken))
 
 abbrev bytes : tie.Else2 → List ℕ
-bytes e = e .before .before .before .before .before .before .before .before .before .before .before .before .args .s .now
+bytes e =
+    let f = e .before .before .before .before .before .before .before .before .before .before in
+    f .before .before .args .s .now
 
 returns-7 : tie.Need-returns-7
 returns-7 c =
