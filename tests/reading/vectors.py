@@ -387,7 +387,7 @@ GUIDE = {  # what the encoding guide publishes
 
 
 # --- the samples worked out by hand ----------------------------------------------------------------
-# A record is a letter and fields: a number or bytes, under the number that crates/samples/src/given.rt has for its name.
+# A record is a letter and fields: a number or bytes, under the number that src/given.rt of the crate has for its name.
 LETTERS = {word: word[0].encode() for word in ("heading", "step", "look", "reply", "message", "argument", "pair")}
 LETTERS["session"] = b"n"
 MESSAGES = {"Reset": 6, "SessionClose": 7, "Unknown": 8, "Prepare": 40, "Execute": 41, "Deallocate": 42, "Open": 43,
