@@ -3,6 +3,7 @@ ghost use mathlib.Core.Path.{_≡_};
 ghost use Rattle.karramotx.specs.Given.{floatOfBits, givenArgument, signedOfBits};
 use protocol::reason;
 use protocol::scalars;
+use protocol::uint32;
 use scalar::argument::Argument;
 
 // `kind` is the Scalar type, 1 to 8. `value` is as `Value` tells it.
@@ -23,7 +24,7 @@ fn signed_of_bits(bits: u64) -> Argument
 fn float_of_bits(bits: u64) -> Argument
     ensures { λ r. ⌜ r ≡ floatOfBits bits ⌝ }
 {
-    if 0x1_0000_0000 <= bits {
+    if uint32::COUNT <= bits {
         return Argument::Refused(reason::BAD_PAYLOAD);
     }
     scalar::argument::float_argument(bits as u32)

@@ -37,12 +37,6 @@ pub holds-whole : (rows : List (List ℕ)) (s : List ℕ) (from : ℕ) {g : Bool
     Holds (fieldsTo rows s from (length s)) g v w u → Holds (fieldsAt rows s from) g v w u
 holds-whole rows s from {g} {v} {w} {u} h = subst (λ (y : Slots). Holds y g v w u) (fields-whole rows s from) h
 
--- the same where the rows lent are the message's by an equation
-pub holds-lent : {lent rows : List (List ℕ)} → lent ≡ rows →
-    (s : List ℕ) (from : ℕ) {g : Bool} {v : List Bool} {w u : List ℕ} →
-    Holds (fieldsTo lent s from (length s)) g v w u → Holds (fieldsAt rows s from) g v w u
-holds-lent {rows = rows} e s from h = holds-whole rows s from (rw e at h)
-
 -- ---- what the arrays hold, by field number
 
 module _ {x : Slots} {g : Bool} {v : List Bool} {w u : List ℕ} (h : Holds x g v w u) where

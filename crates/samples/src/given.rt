@@ -1,5 +1,6 @@
 // What a record gives to write or to step on: a list of fields, by their numbers. A number that is not given is 0, and
 // bytes that are not given are none.
+use protocol::uint32;
 use wire::field::Field;
 
 // The type of a message, a Scalar or a report, or the first message type of a reply.
@@ -114,7 +115,7 @@ pub fn number(s: &[u8], number: u64) -> u64 {
 }
 
 pub fn small(s: &[u8], number: u64) -> u32 {
-    (crate::given::number(s, number) % 0x1_0000_0000) as u32
+    (crate::given::number(s, number) % uint32::COUNT) as u32
 }
 
 pub fn bytes(s: &[u8], number: u64) -> &[u8] {
