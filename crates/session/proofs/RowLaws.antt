@@ -2,23 +2,13 @@
 use Prim.Native.Nat.{ℕ, zero, suc, _+_, _-_, _*_, _/_, _%_, _<_, _≤_}
 use native.Mathlib.Omega.{arith}
 use native.Mathlib.Nat.{mul-le-mul-left, mul-suc, mul-comm, div-add-mod', mod-lt}
-use mathlib.Core.Bool.{Bool, true, false}
 use mathlib.Core.Path.{_≡_, refl, sym, ap, _∙_}
 use mathlib.Core.List.{List, [], _∷_}
-use lib.Dec.{ltb}
 use lib.ListN.{length, set, length-set}
 use lib.Seq.{sets, length-sets, getD-set-same, getD-set-other, ext-getD}
-use borrow.Author.Tests.{ltb-true, ltb-false}
+use Rattle.prelude.proofs.Cases.{less-or-not}
 use Rattle.session.specs.Words.{build, word}
 use Rattle.session.proofs.BuildLaws.{length-build, getD-build, same-build}
-
--- a number is below another or not
-pub below : {P : Type 0} (a b : ℕ) → (a < b → P) → (b ≤ a → P) → P
-below {P} a b y n = go (ltb a b) refl
-  where
-    go : (t : Bool) → ltb a b ≡ t → P
-    go true e = y (ltb-true a b e)
-    go false e = n (ltb-false a b e)
 
 -- the words vs stand from a on; all others stay
 pub sets-before : (vs w : List ℕ) (a k : ℕ) → k < a → word (sets w a vs) k ≡ word w k
@@ -104,12 +94,12 @@ module _ (a width o : ℕ) (vs w : List ℕ) (fits : o + length vs ≤ width) (l
 
   each : (p : ℕ) → p < width → word (sets w (a + o) vs) (a + p) ≡ word (sets (row w a width) o vs) p
   each p h =
-      below p o
+      less-or-not p o
       (λ b.
       sets-before vs w (a + o) (a + p) (omega arith)
       ∙ sym (sets-before vs (row w a width) o p b ∙ row-word w a width p h))
       (λ b.
-      below p (o + length vs) (λ c. here p b c)
+      less-or-not p (o + length vs) (λ c. here p b c)
       (λ c.
       sets-after vs w (a + o) (a + p) (omega arith)
       ∙ sym (sets-after vs (row w a width) o p c ∙ row-word w a width p h)))
@@ -132,12 +122,12 @@ module _ (base width i o : ℕ) (vs w : List ℕ) (fits : o + length vs ≤ widt
       let a = base + width * i + o in
       same-row w (sets w a vs) (base + width * j) width
       (λ k b c.
-      below j i
+      less-or-not j i
       (λ l. sets-before vs w a k (omega (arith, mul-le-mul-left width l, mul-suc width j)))
       (λ l. sets-after vs w a k (omega (arith, mul-le-mul-left width (above l), mul-suc width i))))
     where
       above : i ≤ j → suc i ≤ j
-      above l = below i j (λ b. b) (λ b. absurd (n (omega arith)))
+      above l = less-or-not i j (λ b. b) (λ b. absurd (n (omega arith)))
 
 -- words of n rows that are the same, row by row
 module _ (base width n : ℕ) (w w' : List ℕ) (some : 0 < width) where
@@ -150,5 +140,5 @@ module _ (base width n : ℕ) (w w' : List ℕ) (some : 0 < width) where
       go : (q r : ℕ) → q * width + r ≡ k - base → r < width → word w k ≡ word w' k
       go q r e g =
           let at : k ≡ base + width * q + r = omega (arith, mul-comm q width) in
-          let inside : q < n = below q n (λ x. x) (λ x. absurd (omega (arith, mul-le-mul-left width x))) in
+          let inside : q < n = less-or-not q n (λ x. x) (λ x. absurd (omega (arith, mul-le-mul-left width x))) in
           row-words w w' (base + width * q) width (h q inside) k (omega (arith, at)) (omega (arith, at))

@@ -9,6 +9,7 @@ use mathlib.Core.List.{List, [], _∷_, map}
 use lib.ListN.{length, getD, set, replicate, length-set}
 use lib.Dec.{eqb}
 use borrow.Author.Tests.{eqb-true, not-true}
+use Rattle.prelude.proofs.Cases.{both}
 use Rattle.session.specs.declared.Place.{Place}
 use Rattle.session.specs.Lists.{first, put, change, changed, sumBy, howMany, All, orPlace}
 use Rattle.session.proofs.PlaceLaws.{Passes, Taken, taken, At-nothing, none-from, none-back}
@@ -106,11 +107,7 @@ module _ {A : Type 0} where
   module _ (p : A → Bool) (f : A → A) where
     -- a property of a changed entry, whether it passed or not
     change-is : (P : A → Type 0) (x : A) → (p x ≡ true → P (f x)) → (p x ≡ false → P x) → P (change p f x)
-    change-is P x t g = go (p x) refl
-      where
-        go : (b : Bool) → p x ≡ b → P (cond b (f x) x)
-        go true e = t e
-        go false e = g e
+    change-is P x t g = both P (p x) (f x) x t g
 
     pub sum-changed-le : (w : A → ℕ) → ((x : A) → p x ≡ true → w (f x) ≤ w x) → (xs : List A) →
         sumBy w (changed p f xs) ≤ sumBy w xs

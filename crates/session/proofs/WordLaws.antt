@@ -14,7 +14,8 @@ use Rattle.session.specs.Tables.{fresh, reset}
 use Rattle.session.specs.Words.{build, word, stmtWords, stmtRows, cursorRows, closedAt, wordCount}
 use Rattle.session.specs.Words.{stmtIn, cursorIn, spareIn, stmtsIn, cursorsIn, sparesIn, sessionOf, NothingLost}
 use Rattle.session.proofs.BuildLaws.{length-build, same-build, set-build, all-build, all-map, build-at}
-use Rattle.session.proofs.RowLaws.{below, stored, stored-sets, sets-before, sets-after}
+use Rattle.prelude.proofs.Cases.{less-or-not}
+use Rattle.session.proofs.RowLaws.{stored, stored-sets, sets-before, sets-after}
 use Rattle.session.proofs.RowLaws.{row, same-row, row-words, row-here, row-there, rows-same}
 
 -- an entry by its row
@@ -117,7 +118,7 @@ module _ (w : List ℕ) (i : ℕ) (long : length w ≡ wordCount) (inside : i < 
         (λ j h.
         same-row w now (cursorAt j + cursorFields) spareWords
         (λ k b d.
-        below j i
+        less-or-not j i
         (λ l. sets-before vs w (cursorAt i + o) k (omega arith))
         (λ l. sets-after vs w (cursorAt i + o) k (omega arith))))
 
@@ -244,7 +245,7 @@ module _ (w : List ℕ) (none : (k : ℕ) → k < closedAt → word w k ≡ 0) w
 -- words that are all 0 hold a fresh session
 word-zero : (n k : ℕ) → word (replicate n 0) k ≡ 0
 word-zero n k =
-    below k n
+    less-or-not k n
     (λ h. getD-replicate n k 0 0 h)
     (λ h. List·getD-eq-default (replicate n 0) 0 (omega (arith, length-replicate {A = ℕ} n 0)))
 
@@ -275,7 +276,7 @@ module _ {w₀ w : List ℕ} {i : ℕ} (l : Wiping w₀ i w) where
         small = omega arith;
         gone =
             λ k b.
-            below k i
+            less-or-not k i
             (λ c. getD-set-other w i k 0 0 (λ e. omega arith) ∙ l .gone k c)
             (λ c. here k (omega arith));
         kept = λ k b. getD-set-other w i k 0 0 (λ e. omega arith) ∙ l .kept k (omega arith);
@@ -321,17 +322,17 @@ module _ (w w' : List ℕ) (same : sessionOf w ≡ sessionOf w') where
       let fields = cursor-row w i ∙ ap ofCursor (cursors-at i h) ∙ sym (cursor-row w' i) in
       same-row w' w (cursorAt i) cursorWords
       (λ k b c.
-      below k (cursorAt i + cursorFields)
+      less-or-not k (cursorAt i + cursorFields)
       (λ d. row-words w w' (cursorAt i) cursorFields fields k b d)
       (λ d. row-words w w' (cursorAt i + cursorFields) spareWords (spares-at i h) k d (omega arith)))
 
   each-word : (k : ℕ) → k < wordCount → word w k ≡ word w' k
   each-word k h =
-      below k stmtRows (λ b. ap (λ t. t .id) (stmts-at k b))
+      less-or-not k stmtRows (λ b. ap (λ t. t .id) (stmts-at k b))
       (λ b.
-      below k cursorRows (λ c. rows-same stmtRows stmtWords maxStmts w w' (omega arith) stmt-rows k b c)
+      less-or-not k cursorRows (λ c. rows-same stmtRows stmtWords maxStmts w w' (omega arith) stmt-rows k b c)
       (λ c.
-      below k closedAt (λ d. rows-same cursorRows cursorWords maxCursors w w' (omega arith) cursor-rows k c d)
+      less-or-not k closedAt (λ d. rows-same cursorRows cursorWords maxCursors w w' (omega arith) cursor-rows k c d)
       (λ d. last (omega arith))))
     where
       last : k ≡ closedAt → word w k ≡ word w' k
