@@ -12,7 +12,7 @@ use Rattle.scalar.specs.Argument.{reasonOf}
 use Rattle.scalar.specs.declared.argument.Argument.{Argument}
 use Rattle.scalar.specs.declared.argument.Argument.the-variants as Va
 use Rattle.args.specs.Arguments.{nextArgument, andMore, argumentsFrom, argumentsAt, anyTypeOf, noArguments}
-use Rattle.args.specs.Arguments.{badArguments, counted, withType, together, argumentsIn, asked}
+use Rattle.args.specs.Arguments.{badArguments, counted, withType, together, argumentsIn, handedOut}
 use Rattle.args.specs.declared.arguments.NextArgument.{NextArgument}
 use Rattle.args.specs.declared.arguments.Arguments.{Arguments}
 use Rattle.args.specs.WithinRules.{EndsBy, GoesOn, FewArguments, NthWithin}
@@ -113,8 +113,8 @@ module _ (s : List ℕ) where
   from-each (suc most) p =
       more-each p (nextArgument s p) (next-goes-on s p) (λ next. argumentsFrom most s next) (from-each most)
 
-  asked-ends : (n : ℕ) (a : Argument) → EndsBy n a → EndsBy n (asked a)
-  asked-ends n a h = both (EndsBy n) (eqb (reasonOf a) 0) a (Va.Refused (reasonOf a)) (λ _. h) (λ _. tt)
+  handed-out-ends : (n : ℕ) (a : Argument) → EndsBy n a → EndsBy n (handedOut a)
+  handed-out-ends n a h = both (EndsBy n) (eqb (reasonOf a) 0) a (Va.Refused (reasonOf a)) (λ _. h) (λ _. tt)
 
 pub few-arguments : FewArguments
 few-arguments s from = from-few s (length s) from
@@ -122,7 +122,7 @@ few-arguments s from = from-few s (length s) from
 pub nth-within : NthWithin
 unfolding Each
 nth-within s from index =
-    asked-ends s (length s) (getD (argumentsAt s from) index (Va.Refused 9)) (from-each s (length s) from index)
+    handed-out-ends s (length s) (getD (argumentsAt s from) index (Va.Refused 9)) (from-each s (length s) from index)
 
 together-none : (x : Arguments) → together x [] ≡ x
 unfolding together
@@ -281,39 +281,39 @@ pub count-starts : (s : List ℕ) (from index : ℕ) → Counting s from index f
 count-starts s from index = record { most = length s; enough = omega arith; whole = refl }
 
 -- an object and an array are refused 8, and any other argument is handed out as it is, a refusal too
-pub asked-composite : (a : Argument) → 1 < anyTypeOf a → Va.Refused 8 ≡ asked a
-asked-composite (Va.Signed z) h = absurd (omega arith)
-asked-composite (Va.Unsigned n) h = absurd (omega arith)
-asked-composite Va.Null h = absurd (omega arith)
-asked-composite (Va.Octets start len) h = absurd (omega arith)
-asked-composite (Va.Double d) h = absurd (omega arith)
-asked-composite (Va.DoubleNan n) h = absurd (omega arith)
-asked-composite (Va.Float d) h = absurd (omega arith)
-asked-composite (Va.FloatNan n) h = absurd (omega arith)
-asked-composite (Va.Bool b) h = absurd (omega arith)
-asked-composite (Va.String start len) h = absurd (omega arith)
-asked-composite Va.Object h = refl
-asked-composite Va.Array h = refl
-asked-composite (Va.Refused n) h = absurd (omega arith)
+pub handed-out-composite : (a : Argument) → 1 < anyTypeOf a → Va.Refused 8 ≡ handedOut a
+handed-out-composite (Va.Signed z) h = absurd (omega arith)
+handed-out-composite (Va.Unsigned n) h = absurd (omega arith)
+handed-out-composite Va.Null h = absurd (omega arith)
+handed-out-composite (Va.Octets start len) h = absurd (omega arith)
+handed-out-composite (Va.Double d) h = absurd (omega arith)
+handed-out-composite (Va.DoubleNan n) h = absurd (omega arith)
+handed-out-composite (Va.Float d) h = absurd (omega arith)
+handed-out-composite (Va.FloatNan n) h = absurd (omega arith)
+handed-out-composite (Va.Bool b) h = absurd (omega arith)
+handed-out-composite (Va.String start len) h = absurd (omega arith)
+handed-out-composite Va.Object h = refl
+handed-out-composite Va.Array h = refl
+handed-out-composite (Va.Refused n) h = absurd (omega arith)
 
 refused-kept : (b : Bool) (a : Argument) → a ≡ cond b a a
 refused-kept true a = refl
 refused-kept false a = refl
 
-pub asked-plain : (a : Argument) → anyTypeOf a ≤ 1 → a ≡ asked a
-asked-plain (Va.Signed z) h = refl
-asked-plain (Va.Unsigned n) h = refl
-asked-plain Va.Null h = refl
-asked-plain (Va.Octets start len) h = refl
-asked-plain (Va.Double d) h = refl
-asked-plain (Va.DoubleNan n) h = refl
-asked-plain (Va.Float d) h = refl
-asked-plain (Va.FloatNan n) h = refl
-asked-plain (Va.Bool b) h = refl
-asked-plain (Va.String start len) h = refl
-asked-plain Va.Object h = absurd (omega arith)
-asked-plain Va.Array h = absurd (omega arith)
-asked-plain (Va.Refused n) h = refused-kept (eqb n 0) (Va.Refused n)
+pub handed-out-plain : (a : Argument) → anyTypeOf a ≤ 1 → a ≡ handedOut a
+handed-out-plain (Va.Signed z) h = refl
+handed-out-plain (Va.Unsigned n) h = refl
+handed-out-plain Va.Null h = refl
+handed-out-plain (Va.Octets start len) h = refl
+handed-out-plain (Va.Double d) h = refl
+handed-out-plain (Va.DoubleNan n) h = refl
+handed-out-plain (Va.Float d) h = refl
+handed-out-plain (Va.FloatNan n) h = refl
+handed-out-plain (Va.Bool b) h = refl
+handed-out-plain (Va.String start len) h = refl
+handed-out-plain Va.Object h = absurd (omega arith)
+handed-out-plain Va.Array h = absurd (omega arith)
+handed-out-plain (Va.Refused n) h = refused-kept (eqb n 0) (Va.Refused n)
 
 module _ {s : List ℕ} {from index p left : ℕ} (k : Counting s from index p left) where
   pub count-none : nextArgument s p ≡ NextArgument.End → Va.Refused 9 ≡ getD (argumentsAt s from) index (Va.Refused 9)

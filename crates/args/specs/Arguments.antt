@@ -113,8 +113,8 @@ abbrev pub argumentsIn : List ℕ → ℕ → Arguments
 argumentsIn s from = together (noArguments from (length s)) (argumentsAt s from)
 
 -- as it is handed out: itself, or refused by its number, "of an object or array 8" (A6)
-abbrev pub asked : Argument → Argument
-asked a = cond (eqb (reasonOf a) Reason.accepted) a (Va.Refused (reasonOf a))
+abbrev pub handedOut : Argument → Argument
+handedOut a = cond (eqb (reasonOf a) Reason.accepted) a (Va.Refused (reasonOf a))
 
 -- the number of the next argument: its own, or 9 (H9, A7)
 abbrev pub nextReason : NextArgument → ℕ
@@ -123,4 +123,4 @@ nextReason NextArgument.End = Reason.fewArguments
 
 -- the argument with an index, from 0: "past the last argument 9" (A6)
 abbrev pub nthArgument : List ℕ → ℕ → ℕ → Argument
-nthArgument s from index = asked (getD (argumentsAt s from) index (Va.Refused Reason.fewArguments))
+nthArgument s from index = handedOut (getD (argumentsAt s from) index (Va.Refused Reason.fewArguments))

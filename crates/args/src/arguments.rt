@@ -4,7 +4,7 @@ ghost use Prim.Native.Nat.{_^_, _<_};
 ghost use Rattle.args.specs.Arguments.{
   anyTypeOf,
   argPlace,
-  asked,
+  handedOut,
   badArguments,
   nextArgument,
   noArguments,
@@ -38,8 +38,8 @@ pub enum NextArgument {
 }
 
 // The arguments in the bytes from `start` to `end`: how many there are, and the first object (kind 2) or array (kind 3)
-// among them with its index (kind 0: none). `good` says that each one is. No two of the numbers stand side by side as in
-// what hosts are told: such two are copied at once, right after they were written one by one, for which a processor
+// among them with its index (kind 0: none). `good` says that each one is. No two of the numbers stand side by side as
+// in what hosts are told: such two are copied at once, right after they were written one by one, for which a processor
 // waits.
 pub struct Arguments {
     pub good: bool,
@@ -208,8 +208,8 @@ pub fn any_type(a: Argument) -> u64
 }
 
 // An argument as it is handed out: an object or array is refused 8.
-fn handed(a: Argument) -> Argument
-    ensures { λ r. ⌜ r ≡ asked a ⌝ }
+fn handed_out(a: Argument) -> Argument
+    ensures { λ r. ⌜ r ≡ handedOut a ⌝ }
 {
     if anys::SCALAR < any_type(a) {
         return Argument::Refused(reason::NOT_SCALAR);
@@ -228,7 +228,7 @@ pub fn nth_argument(s: &[u8], from: usize, index: usize) -> Argument
             return Argument::Refused(reason::FEW_ARGUMENTS);
         };
         if left == 0 {
-            return handed(value);
+            return handed_out(value);
         }
         left -= 1;
         p = next;

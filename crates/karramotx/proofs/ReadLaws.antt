@@ -19,7 +19,7 @@ use Rattle.layout.specs.Table.{rowsOf, any, scalar, bytes}
 use Rattle.layout.specs.declared.slots.Slots.{Slots}
 use Rattle.args.specs.Part.{embedded, countOf, valueOf as fieldValue, startOf, lenOf, low32}
 use Rattle.args.specs.Value.{bad, present, bytesOf, bytesIn, ofType, scalarOf, ofAnyType, anyOf}
-use Rattle.args.specs.Arguments.{argPlace, ofPlace, nextArgument, andMore, argumentsFrom, argumentsAt, asked}
+use Rattle.args.specs.Arguments.{argPlace, ofPlace, nextArgument, andMore, argumentsFrom, argumentsAt, handedOut}
 use Rattle.args.specs.declared.arguments.ArgPlace.{ArgPlace}
 use Rattle.args.specs.declared.arguments.NextArgument.{NextArgument}
 use Rattle.message.specs.Request.{argsOf}
@@ -83,10 +83,10 @@ bool-back : (b : Bool) → not (eqb (cond b 1 0) 0) ≡ b
 bool-back true = refl
 bool-back false = refl
 
-refused-back : (n : ℕ) → Va.Refused n ≡ asked (Va.Refused n)
+refused-back : (n : ℕ) → Va.Refused n ≡ handedOut (Va.Refused n)
 refused-back n = both (λ a. Va.Refused n ≡ a) (eqb n 0) (Va.Refused n) (Va.Refused n) (λ _. refl) (λ _. refl)
 
-value-back : (a : Argument) → Exact a → toldArgument (valueOf a) ≡ asked a
+value-back : (a : Argument) → Exact a → toldArgument (valueOf a) ≡ handedOut a
 unfolding toldArgument
 value-back (Va.Signed z) h = ap Va.Signed (toZ-ofZ h)
 value-back (Va.Unsigned n) h = refl
@@ -195,8 +195,8 @@ module _ (s : List ℕ) where
   from-number (suc most) at index = more-number (argumentsFrom most s) (from-number most) (nextArgument s at)
       (next-number at) index
 
-asked-number : (a : Argument) → Exact a → Exact (asked a)
-asked-number a h = both Exact (eqb (reasonOf a) 0) a (Va.Refused (reasonOf a)) (λ _. h) (λ _. tt)
+handed-out-number : (a : Argument) → Exact a → Exact (handedOut a)
+handed-out-number a h = both Exact (eqb (reasonOf a) 0) a (Va.Refused (reasonOf a)) (λ _. h) (λ _. tt)
 
 argument-number : (s : List ℕ) (index : ℕ) (x : Frame) → Exact (argumentFrom s index x)
 argument-number s index NotAllThere = tt
@@ -205,7 +205,7 @@ argument-number s index (UnknownType used) = tt
 argument-number s index (BadPayload used kind) = tt
 argument-number s index (Good used q) =
     let t = take (argsOf q .end) s in
-    asked-number (getD (argumentsAt t (argsOf q .start)) index (Va.Refused 9))
+    handed-out-number (getD (argumentsAt t (argsOf q .start)) index (Va.Refused 9))
     (from-number t (length t) (argsOf q .start) index)
 
 pub told-by-index : ToldByIndex
@@ -220,24 +220,24 @@ told-in-pass s at = told-next (nextArgument s at) (next-number s at)
 
 -- ---- the value
 
-asked-asked : (a : Argument) → asked (asked a) ≡ asked a
-asked-asked a =
-    both (λ b. asked b ≡ b) (eqb (reasonOf a) 0) a (Va.Refused (reasonOf a))
+handed-out-again : (a : Argument) → handedOut (handedOut a) ≡ handedOut a
+handed-out-again a =
+    both (λ b. handedOut b ≡ b) (eqb (reasonOf a) 0) a (Va.Refused (reasonOf a))
     (λ e. sym (yes a (Va.Refused (reasonOf a)) e)) (λ _. sym (refused-back (reasonOf a)))
 
 -- an argument by its index is as it is handed out
-as-asked : (s : List ℕ) (index : ℕ) (x : Frame) → asked (argumentFrom s index x) ≡ argumentFrom s index x
-as-asked s index NotAllThere = refl
-as-asked s index BadLength = refl
-as-asked s index (UnknownType used) = refl
-as-asked s index (BadPayload used kind) = refl
-as-asked s index (Good used q) =
-    asked-asked (getD (argumentsAt (take (argsOf q .end) s) (argsOf q .start)) index (Va.Refused 9))
+as-handed-out : (s : List ℕ) (index : ℕ) (x : Frame) → handedOut (argumentFrom s index x) ≡ argumentFrom s index x
+as-handed-out s index NotAllThere = refl
+as-handed-out s index BadLength = refl
+as-handed-out s index (UnknownType used) = refl
+as-handed-out s index (BadPayload used kind) = refl
+as-handed-out s index (Good used q) =
+    handed-out-again (getD (argumentsAt (take (argsOf q .end) s) (argsOf q .start)) index (Va.Refused 9))
 
 pub value-by-index : ValueByIndex
 value-by-index frame index =
     value-back (argumentOf frame index) (argument-number frame index (frameOf frame))
-    ∙ as-asked frame index (frameOf frame)
+    ∙ as-handed-out frame index (frameOf frame)
 
 value-next : (n : NextArgument) → NextExact n → ValueNext n
 unfolding toldArgument

@@ -12,7 +12,7 @@ use Rattle.scalar.specs.Zigzag.{unzigzag}
 use Rattle.scalar.specs.Argument.{reasonOf, signedOf, doubleOf, floatOf, typeOf}
 use Rattle.scalar.specs.declared.argument.Argument.{Argument}
 use Rattle.scalar.specs.declared.argument.Argument.the-variants as Va
-use Rattle.args.specs.Arguments.{nextArgument, nextReason, asked}
+use Rattle.args.specs.Arguments.{nextArgument, nextReason, handedOut}
 use Rattle.args.specs.declared.arguments.NextArgument.{NextArgument}
 use Rattle.message.specs.Frame.{argumentOf}
 use Rattle.karramotx.specs.Given.{floatLimit, givenArgument}
@@ -90,7 +90,7 @@ ValueByIndex = (frame : List ℕ) (index : ℕ) → toldArgument (valueOf (argum
 -- and in one pass, where an object or an array is refused 8, and the place behind it is told (A7)
 abbrev pub ValueNext : NextArgument → Type 0
 ValueNext (NextArgument.Found a next) =
-    (toldArgument (nextValueOf (NextArgument.Found a next)) ≡ asked a)
+    (toldArgument (nextValueOf (NextArgument.Found a next)) ≡ handedOut a)
     × (nextValueOf (NextArgument.Found a next) .next ≡ next)
 ValueNext NextArgument.End = Unit {0}
 

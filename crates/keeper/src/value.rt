@@ -8,7 +8,7 @@ use rules::Report;
 use session::Session;
 
 // What a step hands back.
-pub struct Stepped {
+pub struct Outcome {
     pub answer: Answer,
     pub session: Session,
 }
@@ -19,7 +19,7 @@ pub fn look(session: Session, frame: &[u8]) -> Look
     crate::look::look(&session.words, frame)
 }
 
-pub fn step(mut session: Session, frame: &[u8], report: Report, reply: &mut [u8]) -> Stepped
+pub fn step(mut session: Session, frame: &[u8], report: Report, reply: &mut [u8]) -> Outcome
     ensures answer { λ r. ⌜
         r .answer ≡ stepOf (sessionOf (session .words)) (now (frame .entry)) report (now (reply .entry)) .answer
         ⌝ }
@@ -33,5 +33,5 @@ pub fn step(mut session: Session, frame: &[u8], report: Report, reply: &mut [u8]
         ⌝ }
 {
     let answer = crate::step::step(&mut session.words, frame, report, reply);
-    Stepped { answer, session }
+    Outcome { answer, session }
 }

@@ -11,7 +11,7 @@ use Rattle.session.specs.Tables.{owed, stmtCount, cursorCount}
 use Rattle.rules.specs.declared.Report.{Report}
 use Rattle.rules.specs.declared.Answer.{Answer}
 use Rattle.rules.specs.Step.{Step, stepOf}
-use Rattle.trace_line.specs.declared.Place.{Place}
+use Rattle.trace_line.specs.declared.RecordEnd.{RecordEnd}
 use Rattle.trace_line.specs.declared.Traced.{Traced}
 use Rattle.trace_line.specs.declared.line.Line.{Line}
 use Rattle.trace_line.specs.declared.record.Record.{Record}
@@ -72,10 +72,10 @@ module _ (n next : ℕ) (out : List ℕ) (to : ℕ) (t : Step) (answer : Answer)
       stmts ≡ stmtCount after → cursors ≡ cursorCount after → rest ≡ owed after →
       (p ≡ putAt out to (lineOf (line mark stmts cursors rest)))
       × (left ≡ written out to (lineOf (line mark stmts cursors rest))) →
-      Gives (record { place = Place.Next next; put = p }) after left (lineTo n next out to t)
+      Gives (record { place = RecordEnd.Next next; put = p }) after left (lineTo n next out to t)
   line-traced m c d e w =
       gives-as (ap (lineTo n next out to) taken-is) (
-        ap (λ (x : Put). record { place = Place.Next next; put = x })
+        ap (λ (x : Put). record { place = RecordEnd.Next next; put = x })
             (w .0 ∙ ap (λ (l : Line). putAt out to (lineOf l)) (line-is m c d e)),
         (refl, w .1 ∙ ap (λ (l : Line). written out to (lineOf l)) (line-is m c d e)),
       )

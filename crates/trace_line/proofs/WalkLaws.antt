@@ -17,7 +17,7 @@ use Rattle.encode.specs.Puts.{Puts}
 use Rattle.encode.proofs.PutsLaws.{puts-then, puts-nothing}
 use Rattle.rules.specs.declared.Report.{Report}
 use Rattle.rules.specs.Step.{Step, stepOf}
-use Rattle.trace_line.specs.declared.Place.{Place}
+use Rattle.trace_line.specs.declared.RecordEnd.{RecordEnd}
 use Rattle.trace_line.specs.declared.Traced.{Traced}
 use Rattle.trace_line.specs.declared.record.Record.{Record}
 use Rattle.trace_line.specs.declared.printer.Walk.{Walk}
@@ -163,7 +163,7 @@ module _ {session₀ session : Session} {first n at to : ℕ} {s out₀ out : Li
       -- the record is not whole
       pub walk-stops : {r : Traced} {session₁ : Session} {out₁ : List ℕ} →
           Gives r session₁ out₁ (traceAt session n part 0 out to) →
-          (r .place ≡ Place.Short) ⊎ (r .place ≡ Place.Bad) → Walks s out₀ all (walk n at to) session₁ out₁
+          (r .place ≡ RecordEnd.Short) ⊎ (r .place ≡ RecordEnd.Bad) → Walks s out₀ all (walk n at to) session₁ out₁
       unfolding traceAt
       walk-stops {r} {session₁} {out₁} g e = go (recordAt part 0) rest-is g
         where
@@ -172,11 +172,17 @@ module _ {session₀ session : Session} {first n at to : ℕ} {s out₀ out : Li
               ≡ onRecord rest session n (drop at s) x →
               Gives r session₁ out₁ (traceOf session n part out to x) → Walks s out₀ all (walk n at to) session₁ out₁
           go (Record.Whole start len report next) f d =
-              let p : r .place ≡ Place.Next next = ap (λ (t : Traced). t .place) (d .0) in
+              let p : r .place ≡ RecordEnd.Next next = ap (λ (t : Traced). t .place) (d .0) in
               absurd
               (⊎-elim
-              (λ q. let z : Place.Next next ≡ Place.Short = sym p ∙ q in let y : _≡_ {A = ℕ} 0 1 = cc in omega arith)
-              (λ q. let z : Place.Next next ≡ Place.Bad = sym p ∙ q in let y : _≡_ {A = ℕ} 0 1 = cc in omega arith)
+              (λ q.
+              let z : RecordEnd.Next next ≡ RecordEnd.Short = sym p ∙ q in
+              let y : _≡_ {A = ℕ} 0 1 = cc in
+              omega arith)
+              (λ q.
+              let z : RecordEnd.Next next ≡ RecordEnd.Bad = sym p ∙ q in
+              let y : _≡_ {A = ℕ} 0 1 = cc in
+              omega arith)
               e)
           go Record.Short f d = rw (d .1 .0, d .1 .1) (rest-nothing f)
           go Record.Bad f d = rw (d .1 .0, d .1 .1) (rest-nothing f)
@@ -237,7 +243,7 @@ module _ {session₀ session : Session} {first n at to : ℕ} {s out₀ out : Li
             left-room : (size to long q : ℕ) → q ≡ to + long → size - to - long ≡ size - q
             left-room size to long q h = omega arith
 
-        pub walk-on : {next : ℕ} → r .place ≡ Place.Next next →
+        pub walk-on : {next : ℕ} → r .place ≡ RecordEnd.Next next →
             Gives r session₁ out₁ (traceAt session n part 0 out to) →
             Walking session₀ first s out₀ session₁ (numberBehind n) (at + next) (placeBehind (r .put)) out₁
         unfolding traceAt
@@ -249,20 +255,22 @@ module _ {session₀ session : Session} {first n at to : ℕ} {s out₀ out : Li
                 Gives r session₁ out₁ (traceOf session n part out to x) →
                 Walking session₀ first s out₀ session₁ (numberBehind n) (at + next) (placeBehind (r .put)) out₁
             go (Record.Whole start len report next′) q f d =
-                let p : Place.Next next′ ≡ Place.Next next = sym (ap (λ (t : Traced). t .place) (d .0)) ∙ e in
+                let p : RecordEnd.Next next′ ≡ RecordEnd.Next next = sym (ap (λ (t : Traced). t .place) (d .0)) ∙ e in
                 let same : next′ ≡ next = cc in
                 subst (λ (k : ℕ).
                 Walking session₀ first s out₀ session₁ (numberBehind n) (at + k) (placeBehind (r .put)) out₁)
                 same (line-put start len next′ report q f d)
             go Record.Short q f d =
-                absurd (let p : Place.Short ≡ Place.Next next = sym (ap (λ (t : Traced). t .place) (d .0)) ∙ e in
+                absurd
+                (let p : RecordEnd.Short ≡ RecordEnd.Next next = sym (ap (λ (t : Traced). t .place) (d .0)) ∙ e in
                 let y : _≡_ {A = ℕ} 0 1 = cc in omega arith)
             go Record.Bad q f d =
-                absurd (let p : Place.Bad ≡ Place.Next next = sym (ap (λ (t : Traced). t .place) (d .0)) ∙ e in
+                absurd
+                (let p : RecordEnd.Bad ≡ RecordEnd.Next next = sym (ap (λ (t : Traced). t .place) (d .0)) ∙ e in
                 let y : _≡_ {A = ℕ} 0 1 = cc in omega arith)
 
       -- the place behind a record lies past its first byte and within the bytes
-      pub place-within : {r : Traced} {session₁ : Session} {out₁ : List ℕ} {next : ℕ} → r .place ≡ Place.Next next →
+      pub place-within : {r : Traced} {session₁ : Session} {out₁ : List ℕ} {next : ℕ} → r .place ≡ RecordEnd.Next next →
           Gives r session₁ out₁ (traceAt session n part 0 out to) → (0 < next) × (at + next ≤ length s)
       unfolding traceAt
       place-within {r} {session₁} {out₁} {next} e g = go (recordAt part 0) (records-within part 0) g
@@ -270,16 +278,16 @@ module _ {session₀ session : Session} {first n at to : ℕ} {s out₀ out : Li
           go : (x : Record) → Within part 0 x → Gives r session₁ out₁ (traceOf session n part out to x) →
               (0 < next) × (at + next ≤ length s)
           go (Record.Whole start len report next′) q d =
-              let p : Place.Next next′ ≡ Place.Next next = sym (ap (λ (t : Traced). t .place) (d .0)) ∙ e in
+              let p : RecordEnd.Next next′ ≡ RecordEnd.Next next = sym (ap (λ (t : Traced). t .place) (d .0)) ∙ e in
               let same : next′ ≡ next = cc in (
                 omega (arith, same, q .0, q .1),
                 omega (arith, same, q .2, ap length is, length-drop at s, w .within),
               )
           go Record.Short q d =
-              absurd (let p : Place.Short ≡ Place.Next next = sym (ap (λ (t : Traced). t .place) (d .0)) ∙ e in
+              absurd (let p : RecordEnd.Short ≡ RecordEnd.Next next = sym (ap (λ (t : Traced). t .place) (d .0)) ∙ e in
               let y : _≡_ {A = ℕ} 0 1 = cc in omega arith)
           go Record.Bad q d =
-              absurd (let p : Place.Bad ≡ Place.Next next = sym (ap (λ (t : Traced). t .place) (d .0)) ∙ e in
+              absurd (let p : RecordEnd.Bad ≡ RecordEnd.Next next = sym (ap (λ (t : Traced). t .place) (d .0)) ∙ e in
               let y : _≡_ {A = ℕ} 0 1 = cc in omega arith)
 
 -- the rest of a list, to its end

@@ -8,7 +8,7 @@ use Rattle.session.specs.Session.{Session}
 use Rattle.session.specs.Tables.{owed, stmtCount, cursorCount}
 use Rattle.reply.specs.ReplyRules.{minBuffer}
 use Rattle.rules.specs.Step.{Step, stepOf}
-use Rattle.trace_line.specs.declared.Place.{Place}
+use Rattle.trace_line.specs.declared.RecordEnd.{RecordEnd}
 use Rattle.trace_line.specs.declared.Traced.{Traced}
 use Rattle.trace_line.specs.declared.line.Line.{Line}
 use Rattle.trace_line.specs.declared.record.Record.{Record}
@@ -43,21 +43,21 @@ pub record Trace : Type 0 where
 abbrev pub lineTo : ℕ → ℕ → List ℕ → ℕ → Step → Trace
 lineTo n next out to t =
     record {
-      back = record { place = Place.Next next; put = putAt out to (lineOf (lineAfter n t)) };
+      back = record { place = RecordEnd.Next next; put = putAt out to (lineOf (lineAfter n t)) };
       session = t .session;
       out = written out to (lineOf (lineAfter n t));
     }
 
 -- no whole record: nothing is put, and the session stays as it was
-abbrev pub nothing : Session → Place → List ℕ → ℕ → Trace
+abbrev pub nothing : Session → RecordEnd → List ℕ → ℕ → Trace
 nothing session place out to =
     record { back = record { place = place; put = Put.Next to }; session = session; out = out }
 
 abbrev pub traceOf : Session → ℕ → List ℕ → List ℕ → ℕ → Record → Trace
 traceOf session n s out to (Record.Whole start len report next) =
     lineTo n next out to (stepOf session (take len (drop start s)) report replyBuffer)
-traceOf session n s out to Record.Short = nothing session Place.Short out to
-traceOf session n s out to Record.Bad = nothing session Place.Bad out to
+traceOf session n s out to Record.Short = nothing session RecordEnd.Short out to
+traceOf session n s out to Record.Bad = nothing session RecordEnd.Bad out to
 
 -- the n-th record, at the place `at` of the input s
 unfoldable pub traceAt : Session → ℕ → List ℕ → ℕ → List ℕ → ℕ → Trace

@@ -14,7 +14,7 @@ pub mod printer;
 pub mod record;
 
 // The place behind a record; or its bytes end before it does, or it has a bad number.
-pub enum Place {
+pub enum RecordEnd {
     Next(usize),
     Short,
     Bad,
@@ -22,7 +22,7 @@ pub enum Place {
 
 // The place behind a record, and the place behind its line.
 pub struct Traced {
-    pub place: Place,
+    pub place: RecordEnd,
     pub put: Put,
 }
 
@@ -57,7 +57,7 @@ fn trace_frame(
     };
     let put = line::write_line(out, to, line);
     Traced {
-        place: Place::Next(next),
+        place: RecordEnd::Next(next),
         put,
     }
 }
@@ -90,11 +90,11 @@ pub fn trace_record(
             trace_frame(words, n, &s[start..end], report, next, out, to)
         }
         Record::Short => Traced {
-            place: Place::Short,
+            place: RecordEnd::Short,
             put: Put::Next(to),
         },
         Record::Bad => Traced {
-            place: Place::Bad,
+            place: RecordEnd::Bad,
             put: Put::Next(to),
         },
     }

@@ -7,7 +7,7 @@ ghost use Rattle.trace_line.specs.private.Walk.{Walks};
 ghost use Rattle.trace_line.specs.End.{endText};
 ghost use Rattle.trace_line.specs.Output.{header};
 ghost use Rattle.trace_line.specs.Printer.{fromStart, linesWithin, printOf, standsFirst};
-use crate::Place;
+use crate::RecordEnd;
 use crate::record::Record;
 use encode::put::Put;
 use encode::put::lesser;
@@ -108,13 +108,13 @@ fn put_lines(words: &mut [u32; WORDS], first: u64, s: &[u8], out: &mut [u8]) -> 
         let place = t.place;
         let put = t.put;
         match place {
-            Place::Next(next) => {
+            RecordEnd::Next(next) => {
                 n = std::num::wrapping_add_u64(n, 1);
                 at += next;
                 to = place_behind(put);
             }
-            Place::Short => return Walk { n, at, to },
-            Place::Bad => return Walk { n, at, to },
+            RecordEnd::Short => return Walk { n, at, to },
+            RecordEnd::Bad => return Walk { n, at, to },
         }
     }
     Walk { n, at, to }

@@ -8,7 +8,7 @@ use lib.Dec.{ltb, eqb}
 use borrow.Author.Tests.{eqb-false}
 use Rattle.scalar.specs.declared.argument.Argument.{Argument}
 use Rattle.scalar.specs.declared.argument.Argument.the-variants as Va
-use Rattle.args.specs.Arguments.{argumentsAt, anyTypeOf, badArguments, counted, withType, together, asked}
+use Rattle.args.specs.Arguments.{argumentsAt, anyTypeOf, badArguments, counted, withType, together, handedOut}
 use Rattle.args.specs.Arguments.{nthArgument}
 use Rattle.args.specs.declared.arguments.Arguments.{Arguments}
 use Rattle.args.proofs.ArgumentsLaws.{type-good}
@@ -23,20 +23,20 @@ refused-moved : (b : Bool) (d n : ℕ) →
 refused-moved true d n = refl
 refused-moved false d n = refl
 
-pub asked-moved : (d : ℕ) (a : Argument) → asked (moved d a) ≡ moved d (asked a)
-asked-moved d (Va.Signed z) = refl
-asked-moved d (Va.Unsigned n) = refl
-asked-moved d Va.Null = refl
-asked-moved d (Va.Octets start len) = refl
-asked-moved d (Va.Double x) = refl
-asked-moved d (Va.DoubleNan n) = refl
-asked-moved d (Va.Float x) = refl
-asked-moved d (Va.FloatNan n) = refl
-asked-moved d (Va.Bool b) = refl
-asked-moved d (Va.String start len) = refl
-asked-moved d Va.Object = refl
-asked-moved d Va.Array = refl
-asked-moved d (Va.Refused n) = refused-moved (eqb n 0) d n
+pub handed-out-moved : (d : ℕ) (a : Argument) → handedOut (moved d a) ≡ moved d (handedOut a)
+handed-out-moved d (Va.Signed z) = refl
+handed-out-moved d (Va.Unsigned n) = refl
+handed-out-moved d Va.Null = refl
+handed-out-moved d (Va.Octets start len) = refl
+handed-out-moved d (Va.Double x) = refl
+handed-out-moved d (Va.DoubleNan n) = refl
+handed-out-moved d (Va.Float x) = refl
+handed-out-moved d (Va.FloatNan n) = refl
+handed-out-moved d (Va.Bool b) = refl
+handed-out-moved d (Va.String start len) = refl
+handed-out-moved d Va.Object = refl
+handed-out-moved d Va.Array = refl
+handed-out-moved d (Va.Refused n) = refused-moved (eqb n 0) d n
 
 pub type-moved : (d : ℕ) (a : Argument) → anyTypeOf (moved d a) ≡ anyTypeOf a
 type-moved d (Va.Signed z) = refl
@@ -57,9 +57,9 @@ pub nth-moved : (d : ℕ) (s : List ℕ) (at : ℕ) (t : List ℕ) → arguments
     (i : ℕ) →
     nthArgument s at i ≡ moved d (nthArgument t 0 i)
 nth-moved d s at t e i =
-    ap (λ (l : List Argument). asked (getD l i (Va.Refused 9))) e
-    ∙ ap asked (List·getD-map (moved d) (argumentsAt t 0) i (Va.Refused 9))
-    ∙ asked-moved d (getD (argumentsAt t 0) i (Va.Refused 9))
+    ap (λ (l : List Argument). handedOut (getD l i (Va.Refused 9))) e
+    ∙ ap handedOut (List·getD-map (moved d) (argumentsAt t 0) i (Va.Refused 9))
+    ∙ handed-out-moved d (getD (argumentsAt t 0) i (Va.Refused 9))
 
 -- ---- together
 

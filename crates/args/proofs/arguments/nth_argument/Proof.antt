@@ -4,7 +4,7 @@ use Prim.Native.Nat.{_-_}
 use native.Mathlib.Nat.{pos-of-ne-zero}
 use native.Mathlib.Omega.{arith}
 use lib.ListN.{length}
-use Rattle.args.specs.Arguments.{asked}
+use Rattle.args.specs.Arguments.{handedOut}
 use Rattle.args.proofs.ArgumentsLaws.{Counting, count-starts, count-none, count-end, count-hit, count-on}
 use Rattle.args.proofs.ArgumentsLaws.{advances}
 use mathlib.Core.Path.{sym, ap, _∙_}
@@ -18,7 +18,7 @@ abbrev μ-loop : tie.MeasureT-loop
 μ-loop s from index p₀ left₀ p left = length s - p
 
 returns-2 : tie.Need-returns-2 Inv-loop μ-loop
-returns-2 c = c .handed .ensures ∙ ap asked (count-hit
+returns-2 c = c .handed-out .ensures ∙ ap handedOut (count-hit
     (c .before .before .before .before .before .before .before .loop .inv)
     (c .before .before .before .before .before .before .loop-test .taken)
     (sym (c .before .before .before .before .before .next-argument .ensures)
@@ -43,7 +43,7 @@ pub nth-argument-spec : {M : Type 1} → statement M
 nth-argument-spec = tie.close (tie.spec Inv-loop μ-loop
     (λ c. let a = c .before .args in count-starts (a .s .now) (a .from) (a .index)) (λ c κs. tt) (λ c. search needs)
     (λ c. search needs)
-    (λ c. ap asked (count-none (c .before .before .before .before .loop .inv) (sym
+    (λ c. ap handedOut (count-none (c .before .before .before .before .loop .inv) (sym
     (c .before .before .next-argument .ensures) ∙ c .enum-told .given .1))) (λ c κs. tt) returns-2
     (λ c. pos-of-ne-zero (c .if1 .left)) loop-less loop-again
-    (λ c. ap asked (count-end (c .before .loop .inv) (c .loop-test .left))))
+    (λ c. ap handedOut (count-end (c .before .loop .inv) (c .loop-test .left))))
