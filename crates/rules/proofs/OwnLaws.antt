@@ -1,9 +1,11 @@
--- An id that is live finds its own place; what an Open and a Fetch without fetch_rows send. Assumes nothing.
-use Prim.Native.Nat.{ℕ}
+-- An id that is live finds its own place, another the lowest free one; what an Open and a Fetch without fetch_rows send. Assumes nothing.
+use Prim.Native.Nat.{ℕ, zero, suc, _+_, _<_}
 use native.Mathlib.Omega.{arith}
-use mathlib.Core.Bool.{Bool, true, false, _&&_, and-false, false≢true}
-use mathlib.Core.Path.{_≡_, refl, ap, _∙_}
-use mathlib.Core.List.{List}
+use mathlib.Core.Bool.{Bool, true, false, not, cond, _&&_, and-false, false≢true}
+use mathlib.Core.Path.{_≡_, refl, sym, ap, _∙_}
+use mathlib.Core.List.{List, [], _∷_}
+use lib.ListN.{getD}
+use borrow.Author.Tests.{not-true, not-false}
 use Rattle.protocol.specs.Client.{prepare, open'}
 use Rattle.message.specs.Request.{stmtOf, cursorOf}
 use Rattle.message.specs.declared.request.Optional.{Optional}
@@ -11,12 +13,13 @@ use Rattle.session.specs.declared.Place.{Place}
 use Rattle.session.specs.declared.Stmt.{Stmt}
 use Rattle.session.specs.declared.Cursor.{Cursor}
 use Rattle.session.specs.Lists.{first, orPlace, entryAt}
-use Rattle.session.specs.Entry.{noStmt, noCursor, freeStmt, freeCursor, isLiveStmt, isLiveCursor}
+use Rattle.session.specs.Entry.{noStmt, noCursor, freeStmt, freeCursor, isLiveStmt, isLiveCursor, isStmt, isCursor}
+use Rattle.session.proofs.PlaceLaws.{At-same, At-nothing, found}
 use Rattle.session.specs.Tables.{stmtAt, cursorAt, liveCursor, stmtPlace, cursorPlace}
 use Rattle.rules.specs.Kind.{isA}
 use Rattle.rules.specs.Refusal.{noPlace}
 use Rattle.rules.specs.Rows.{remaining, fetchCount, openCount, rowCount}
-use Rattle.rules.specs.StepRules.{OwnPlace, SendsUnasked}
+use Rattle.rules.specs.StepRules.{OwnPlace, LowestPlace, SendsUnasked}
 
 -- the place of a live entry is its own
 stmt-own : (ts : List Stmt) (own : Place) → isLiveStmt (entryAt ts own noStmt) ≡ true → (other : Place) →
@@ -39,6 +42,39 @@ own-place s q = (
   λ e.
       none-full (isA open' q) (noPlace (cursorPlace s (cursorOf q)))
       (cursor-own (s .cursors) (cursorAt s (cursorOf q)) e (first freeCursor (s .cursors) 0)),
+)
+
+-- what stands before the first that passes does not pass
+module _ {A : Type 0} (p : A → Bool) (d : A) where
+  before-first : (xs : List A) (k i j : ℕ) → first p xs k ≡ Place.At i → k + j < i → p (getD xs j d) ≡ false
+  unfolding first
+  before-first [] k i j e h = absurd (At-nothing (sym e))
+  before-first (x ∷ xs) k i zero e h = go (p x) refl e
+    where
+      go : (b : Bool) → p x ≡ b → cond b (Place.At k) (first p xs (suc k)) ≡ Place.At i → p x ≡ false
+      go true f g = absurd (omega (arith, At-same g))
+      go false f g = f
+  before-first (x ∷ xs) k i (suc j) e h = go (p x) (λ g. before-first xs (suc k) i j g (omega arith)) e
+    where
+      go : (b : Bool) → (first p xs (suc k) ≡ Place.At i → p (getD xs j d) ≡ false) →
+          cond b (Place.At k) (first p xs (suc k)) ≡ Place.At i → p (getD xs j d) ≡ false
+      go true more g = absurd (omega (arith, At-same g))
+      go false more g = more g
+
+-- where no entry has the id
+lowest : {A : Type 0} (p live : A → Bool) (d : A) (xs : List A) (i : ℕ) → first p xs 0 ≡ Place.Nothing →
+    orPlace (first p xs 0) (first (λ x. not (live x)) xs 0) ≡ Place.At i →
+    (live (getD xs i d) ≡ false) × ((j : ℕ) → j < i → live (getD xs j d) ≡ true)
+lowest p live d xs i none e =
+    let f = rw none at e in (
+      not-true _ (found (λ x. not (live x)) d xs i f .passing),
+      λ j h. not-false _ (before-first (λ x. not (live x)) d xs 0 i j f (omega arith)),
+    )
+
+pub lowest-place : LowestPlace
+lowest-place s id i = (
+  λ none e. lowest (isStmt id) isLiveStmt noStmt (s .stmts) i none e,
+  λ none e. lowest (isCursor id) isLiveCursor noCursor (s .cursors) i none e,
 )
 
 open-unasked : (rows : Optional) (reported : ℕ) → rows .present ≡ false → openCount rows reported ≡ 0

@@ -3,7 +3,7 @@ use Prim.Native.Nat.{ℕ, _≤_, _<_}
 use mathlib.Core.Bool.{true, false}
 use mathlib.Core.Path.{_≡_}
 use mathlib.Core.List.{List, [], _∷_, _++_}
-use lib.ListN.{length, drop}
+use lib.ListN.{length, drop, getD}
 use Rattle.protocol.specs.Reason as Reason
 use Rattle.message.specs.Frame.{usedOf, frameOf}
 use Rattle.message.specs.Request.{stmtOf, cursorOf}
@@ -12,8 +12,9 @@ use Rattle.message.specs.declared.request.Fetch.{Fetch}
 use Rattle.message.specs.declared.request.Request.{Request}
 use Rattle.message.specs.declared.request.Frame.{Frame}
 use Rattle.session.specs.Session.{Session, isClosed}
-use Rattle.session.specs.Entry.{isLiveStmt, isLiveCursor}
-use Rattle.session.specs.Tables.{liveStmt, liveCursor}
+use Rattle.session.specs.declared.Place.{Place}
+use Rattle.session.specs.Entry.{isLiveStmt, isLiveCursor, noStmt, noCursor}
+use Rattle.session.specs.Tables.{liveStmt, liveCursor, stmtAt, cursorAt, stmtPlace, cursorPlace}
 use Rattle.session.specs.Sound.{Sound}
 use Rattle.reply.specs.Reply.{messageOf}
 use Rattle.reply.specs.ReplyRules.{minBuffer}
@@ -111,6 +112,17 @@ OwnPlace =
     (s : Session) (q : Request) →
     (isLiveStmt (liveStmt s (stmtOf q)) ≡ true → stmtsFull s q ≡ false)
     × (isLiveCursor (liveCursor s (cursorOf q)) ≡ true → cursorsFull s q ≡ false)
+
+-- an id that is not live takes the lowest free place: the entry there is free, and all before it are live (S3)
+abbrev pub LowestPlace : Type 0
+LowestPlace =
+    (s : Session) (id i : ℕ) →
+    (stmtAt s id ≡ Place.Nothing → stmtPlace s id ≡ Place.At i →
+    (isLiveStmt (getD (s .stmts) i noStmt) ≡ false)
+    × ((j : ℕ) → j < i → isLiveStmt (getD (s .stmts) j noStmt) ≡ true))
+    × (cursorAt s id ≡ Place.Nothing → cursorPlace s id ≡ Place.At i →
+    (isLiveCursor (getD (s .cursors) i noCursor) ≡ false)
+    × ((j : ℕ) → j < i → isLiveCursor (getD (s .cursors) j noCursor) ≡ true))
 
 -- without fetch_rows an Open sends no row ("absent means 0") and a Fetch all that remain ("absent meaning all") (S7,
 -- S8)
