@@ -4,7 +4,7 @@ use native.Mathlib.Omega.{arith}
 use mathlib.Core.Bool.{Bool, true, false, not, cond, _&&_, and-false, false≢true}
 use mathlib.Core.Path.{_≡_, refl, sym, ap, _∙_}
 use mathlib.Core.List.{List, [], _∷_}
-use lib.ListN.{getD}
+use lib.ListN.{length, getD}
 use borrow.Author.Tests.{not-true, not-false}
 use Rattle.protocol.specs.Client.{prepare, open'}
 use Rattle.message.specs.Request.{stmtOf, cursorOf}
@@ -64,10 +64,12 @@ module _ {A : Type 0} (p : A → Bool) (d : A) where
 -- where no entry has the id
 lowest : {A : Type 0} (p live : A → Bool) (d : A) (xs : List A) (i : ℕ) → first p xs 0 ≡ Place.Nothing →
     orPlace (first p xs 0) (first (λ x. not (live x)) xs 0) ≡ Place.At i →
-    (live (getD xs i d) ≡ false) × ((j : ℕ) → j < i → live (getD xs j d) ≡ true)
+    (i < length xs) × (live (getD xs i d) ≡ false) × ((j : ℕ) → j < i → live (getD xs j d) ≡ true)
 lowest p live d xs i none e =
-    let f = rw none at e in (
-      not-true _ (found (λ x. not (live x)) d xs i f .passing),
+    let f = rw none at e in
+    let here = found (λ x. not (live x)) d xs i f in (
+      here .inside,
+      not-true _ (here .passing),
       λ j h. not-false _ (before-first (λ x. not (live x)) d xs 0 i j f (omega arith)),
     )
 

@@ -113,15 +113,16 @@ OwnPlace =
     (isLiveStmt (liveStmt s (stmtOf q)) ≡ true → stmtsFull s q ≡ false)
     × (isLiveCursor (liveCursor s (cursorOf q)) ≡ true → cursorsFull s q ≡ false)
 
--- an id that is not live takes the lowest free place: the entry there is free, and all before it are live (S3)
+-- an id that is not live takes the lowest free place of the table: the entry there is free, and all before it are live
+-- (S3)
 abbrev pub LowestPlace : Type 0
 LowestPlace =
     (s : Session) (id i : ℕ) →
     (stmtAt s id ≡ Place.Nothing → stmtPlace s id ≡ Place.At i →
-    (isLiveStmt (getD (s .stmts) i noStmt) ≡ false)
+    (i < length (s .stmts)) × (isLiveStmt (getD (s .stmts) i noStmt) ≡ false)
     × ((j : ℕ) → j < i → isLiveStmt (getD (s .stmts) j noStmt) ≡ true))
     × (cursorAt s id ≡ Place.Nothing → cursorPlace s id ≡ Place.At i →
-    (isLiveCursor (getD (s .cursors) i noCursor) ≡ false)
+    (i < length (s .cursors)) × (isLiveCursor (getD (s .cursors) i noCursor) ≡ false)
     × ((j : ℕ) → j < i → isLiveCursor (getD (s .cursors) j noCursor) ≡ true))
 
 -- without fetch_rows an Open sends no row ("absent means 0") and a Fetch all that remain ("absent meaning all") (S7,

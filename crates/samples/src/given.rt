@@ -100,7 +100,7 @@ fn find(s: &[u8], number: u64) -> Field {
     Field::Bad
 }
 
-pub fn number(s: &[u8], number: u64) -> u64 {
+pub(crate) fn number(s: &[u8], number: u64) -> u64 {
     match find(s, number) {
         Field::Good {
             number: _,
@@ -114,11 +114,11 @@ pub fn number(s: &[u8], number: u64) -> u64 {
     }
 }
 
-pub fn small(s: &[u8], number: u64) -> u32 {
+pub(crate) fn small(s: &[u8], number: u64) -> u32 {
     (crate::given::number(s, number) % uint32::COUNT) as u32
 }
 
-pub fn bytes(s: &[u8], number: u64) -> &[u8] {
+pub(crate) fn bytes(s: &[u8], number: u64) -> &[u8] {
     match find(s, number) {
         Field::Good {
             number: _,
@@ -133,7 +133,7 @@ pub fn bytes(s: &[u8], number: u64) -> &[u8] {
 }
 
 // The part of this length from `start` on, none where it is not all there.
-pub fn part(s: &[u8], start: usize, len: usize) -> &[u8] {
+pub(crate) fn part(s: &[u8], start: usize, len: usize) -> &[u8] {
     if s.len() < start {
         return &s[..0];
     }
