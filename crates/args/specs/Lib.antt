@@ -1,6 +1,7 @@
 pub mod Part
 pub mod Value
 pub mod Arguments
+pub mod Padded
 pub mod Typed
 pub mod ArgumentsRules
 pub mod WithinRules

@@ -2,6 +2,7 @@ pub mod Table
 pub mod Row
 pub mod Slots
 pub mod Fields
+pub mod Padded
 pub mod TableRules
 pub mod FieldsRules
 pub mod SameBut

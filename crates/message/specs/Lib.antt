@@ -6,6 +6,7 @@ pub mod Simple
 pub mod Execute
 pub mod Prepare
 pub mod Frame
+pub mod Padded
 pub mod WithinRules
 pub mod UnreadRules
 pub mod private
