@@ -4,3 +4,5 @@ pub mod ShortestLaws
 pub mod VarintLaws
 pub mod AgreeLaws
 pub mod TailLaws
+pub mod PaddedLaws
+pub mod FlagLaws
