@@ -20,3 +20,7 @@ or-none a e = or-false a ∙ ap (λ (b : Bool). a || b) (sym e)
 
 pub or-same : (a : Bool) {x y : Bool} → x ≡ y → (a || x) ≡ (a || y)
 or-same a e = ap (λ (b : Bool). a || b) e
+
+-- two in turn
+pub or-then : (a x y : Bool) {m r z : Bool} → m ≡ (a || x) → r ≡ (m || y) → (x || y) ≡ z → r ≡ (a || z)
+or-then a x y p q e = q ∙ ap (λ (b : Bool). b || y) p ∙ or-assoc a x y ∙ or-same a e

@@ -8,3 +8,4 @@ pub mod EnoughLaws
 pub mod AgreeLaws
 pub mod MovedLaws
 pub mod NumberLaws
+pub mod PaddedLaws

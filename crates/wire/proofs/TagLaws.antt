@@ -1,9 +1,12 @@
 -- Which varints are tags, case by case. Assumes nothing.
 use Prim.Native.Nat.{ℕ, _/_, _%_, _^_, _≤_, _<_}
-use mathlib.Core.Path.{_≡_}
+use mathlib.Core.Path.{_≡_, ap}
+use mathlib.Core.List.{List}
+use lib.ListN.{length}
 use borrow.Author.Tests.{lt-ltb, le-ltb}
 use Rattle.varint.specs.declared.Varint.{Varint}
-use Rattle.wire.specs.Tag.{tagOf}
+use Rattle.varint.proofs.GroupLaws.{varint-none}
+use Rattle.wire.specs.Tag.{tagOf, tagAt}
 use Rattle.wire.specs.declared.tag.Tag.{Tag}
 
 module _ (v next : ℕ) where
@@ -18,3 +21,6 @@ module _ (v next : ℕ) where
 
   pub tag-good : v < 2 ^ 32 → 8 ≤ v → v % 8 < 6 → Tag.Field (v / 8) (v % 8) next ≡ tagOf (Varint.Number v next)
   tag-good h l u = simp (lt-ltb v (2 ^ 32) h, le-ltb v 8 l, lt-ltb (v % 8) 6 u)
+
+pub tag-none : (s : List ℕ) (at : ℕ) → length s ≤ at → Tag.Bad ≡ tagAt s at
+tag-none s at h = ap tagOf (varint-none s at h)

@@ -1,4 +1,5 @@
-// Skipping a group: its fields up to the end tag that carries its number.
+// Skipping a group: its fields up to the end tag that carries its number. Whether a varint in it is padded is not asked:
+// `unread` is a flag that nobody looks at.
 ghost use mathlib.Core.Path.{_≡_};
 ghost use Rattle.wire.specs.Group.{groupEnd, skipValue};
 use crate::tag::Tag;
@@ -11,10 +12,10 @@ pub enum Skip {
     Bad,
 }
 
-fn skip_value(s: &[u8], wire: u64, at: usize) -> Skip
+fn skip_value(s: &[u8], wire: u64, at: usize, unread: &mut bool) -> Skip
     ensures { λ r. ⌜ r ≡ skipValue (now (s .entry)) wire at ⌝ }
 {
-    match crate::value::read_value(s, wire, at) {
+    match crate::value::read_value(s, wire, at, unread) {
         Value::Good {
             number: _,
             start: _,
@@ -27,7 +28,7 @@ fn skip_value(s: &[u8], wire: u64, at: usize) -> Skip
 
 // Skips the group `number`, whose start tag ends at `at`, with at most `depth` groups one in another,
 // itself among them.
-pub fn skip_group(s: &[u8], at: usize, number: u64, depth: u64) -> Skip
+pub fn skip_group(s: &[u8], at: usize, number: u64, depth: u64, unread: &mut bool) -> Skip
     ensures { λ r. ⌜ r ≡ groupEnd depth (now (s .entry)) at number ⌝ }
 {
     if depth == 0 {
@@ -39,7 +40,7 @@ pub fn skip_group(s: &[u8], at: usize, number: u64, depth: u64) -> Skip
             number: n,
             wire: w,
             next,
-        } = crate::tag::read_tag(s, p)
+        } = crate::tag::read_tag(s, p, unread)
         else {
             return Skip::Bad;
         };
@@ -51,12 +52,12 @@ pub fn skip_group(s: &[u8], at: usize, number: u64, depth: u64) -> Skip
         }
         let end = s.len();
         if w == wire_type::GROUP_START {
-            let Skip::At(q) = skip_group(&s[..end], next, n, depth - 1) else {
+            let Skip::At(q) = skip_group(&s[..end], next, n, depth - 1, unread) else {
                 return Skip::Bad;
             };
             p = q;
         } else {
-            let Skip::At(q) = skip_value(&s[..end], w, next) else {
+            let Skip::At(q) = skip_value(&s[..end], w, next, unread) else {
                 return Skip::Bad;
             };
             p = q;

@@ -1,6 +1,9 @@
 // The value behind a tag, by its wire type.
 ghost use mathlib.Core.Path.{_≡_};
-ghost use Rattle.wire.specs.Value.{ofFixed, asLength, asNumber, valueAt};
+ghost use mathlib.Core.Bool.{_||_};
+ghost use Rattle.varint.specs.Padded.{paddedAt};
+ghost use Rattle.wire.specs.Value.{asLength, asNumber, ofFixed, valueAt};
+ghost use Rattle.wire.specs.Padded.{valuePadded};
 use protocol::wire_type;
 use scalar::fixed::Fixed;
 use varint::Varint;
@@ -18,10 +21,11 @@ pub enum Value {
 }
 
 // A varint.
-pub fn number_value(s: &[u8], at: usize) -> Value
-    ensures { λ r. ⌜ r ≡ asNumber (now (s .entry)) at ⌝ }
+pub fn number_value(s: &[u8], at: usize, padded: &mut bool) -> Value
+    ensures answer { λ r. ⌜ r ≡ asNumber (now (s .entry)) at ⌝ }
+    ensures told { λ r. ⌜ now (padded .exit) ≡ (now (padded .entry) || paddedAt (now (s .entry)) at) ⌝ }
 {
-    match varint::read_small(s, at) {
+    match varint::read_varint(s, at, padded) {
         Varint::Number { value, next } => Value::Good {
             number: value,
             start: at,
@@ -33,10 +37,11 @@ pub fn number_value(s: &[u8], at: usize) -> Value
 }
 
 // A length and as many bytes.
-pub fn length_value(s: &[u8], at: usize) -> Value
-    ensures { λ r. ⌜ r ≡ asLength (now (s .entry)) at ⌝ }
+pub fn length_value(s: &[u8], at: usize, padded: &mut bool) -> Value
+    ensures answer { λ r. ⌜ r ≡ asLength (now (s .entry)) at ⌝ }
+    ensures told { λ r. ⌜ now (padded .exit) ≡ (now (padded .entry) || paddedAt (now (s .entry)) at) ⌝ }
 {
-    match varint::read_small(s, at) {
+    match varint::read_varint(s, at, padded) {
         Varint::Number { value, next } => {
             let len = value as usize;
             if s.len() - next < len {
@@ -67,17 +72,18 @@ fn fixed_value(read: Fixed, width: usize, at: usize) -> Value
     }
 }
 
-pub fn read_value(s: &[u8], wire: u64, at: usize) -> Value
-    ensures { λ r. ⌜ r ≡ valueAt (now (s .entry)) wire at ⌝ }
+pub fn read_value(s: &[u8], wire: u64, at: usize, padded: &mut bool) -> Value
+    ensures answer { λ r. ⌜ r ≡ valueAt (now (s .entry)) wire at ⌝ }
+    ensures told { λ r. ⌜ now (padded .exit) ≡ (now (padded .entry) || valuePadded (now (s .entry)) wire at) ⌝ }
 {
     if wire == wire_type::VARINT {
-        return number_value(s, at);
+        return number_value(s, at, padded);
     }
     if wire == wire_type::I64 {
         return fixed_value(scalar::fixed::read_fixed64(s, at), 8, at);
     }
     if wire == wire_type::LEN {
-        return length_value(s, at);
+        return length_value(s, at, padded);
     }
     if wire == wire_type::I32 {
         return fixed_value(scalar::fixed::read_fixed32(s, at), 4, at);

@@ -21,22 +21,22 @@ use Rattle.wire.proofs.tag.read_tag.Reads as read-tag-reads
 use Rattle.wire.proofs.group.+skip_group.{statement}
 use Rattle.wire.proofs.group.+skip_group.Tie.{close}
 
-abbrev μ-skip-group : Measures 1 skip-group-kinds.ps ℕ
+abbrev μ-skip-group : Measures 2 skip-group-kinds.ps ℕ
 μ-skip-group κs a = a .1 .1 .1 .0
 
-abbrev skip-group-at : ℕ → In 1 skip-group-kinds.ps
+abbrev skip-group-at : ℕ → In 2 skip-group-kinds.ps
 skip-group-at t =
-    and 1 skip-group-kinds.ps (is 1 skip-group-kinds.ps μ-skip-group t) skip-group.Pre
+    and 2 skip-group-kinds.ps (is 2 skip-group-kinds.ps μ-skip-group t) skip-group.Pre
 
-abbrev skip-group-below : ℕ → In 1 skip-group-kinds.ps
+abbrev skip-group-below : ℕ → In 2 skip-group-kinds.ps
 skip-group-below t =
-    and 1 skip-group-kinds.ps (falls 1 skip-group-kinds.ps _<_ μ-skip-group t) skip-group.Pre
+    and 2 skip-group-kinds.ps (falls 2 skip-group-kinds.ps _<_ μ-skip-group t) skip-group.Pre
 
 abbrev skip-group-Inv-loop : skip-group-lts.InvT-loop
-skip-group-Inv-loop s at number depth p₀ p = Skipping depth s at number p
+skip-group-Inv-loop s at number depth unread₀ p₀ unread p = Skipping depth s at number p
 
 abbrev skip-group-μ-loop : skip-group-lts.MeasureT-loop
-skip-group-μ-loop s at number depth p₀ p = length s - p
+skip-group-μ-loop s at number depth unread₀ p₀ unread p = length s - p
 
 abbrev claims : ℕ → skip-group-lts.Claims
 claims t = (
@@ -59,21 +59,21 @@ module _ (t : ℕ) where
 
   abbrev given : Read → skip-group-lts.Start (claims t) (skip-group-at t) skip-group.Post skip-group-Inv-loop
       skip-group-μ-loop
-  given x = x .before .before .before .before .before
+  given x = x .before .before .before .before .before .before
 
   read : (x : Read) {g : Tag} → x .read-tag .result ≡ g →
       Turn (given x .args .depth) (given x .args .s .now) (given x .args .at) (given x .args .number)
-      (x .before .before .loop .p) g
+      (x .before .before .before .loop .p) g
   read x e =
       record {
-        state = x .before .before .loop .inv;
-        inside = x .before .loop-test .taken;
-        tag = sym (x .read-tag .ensures) ∙ e;
+        state = x .before .before .before .loop .inv;
+        inside = x .before .before .loop-test .taken;
+        tag = sym (x .read-tag .ensures .0) ∙ e;
       }
 
   turn : (f : Tagged) →
       let a = given (f .before .before) .args in
-      Turn (a .depth) (a .s .now) (a .at) (a .number) (f .before .before .before .before .loop .p)
+      Turn (a .depth) (a .s .now) (a .at) (a .number) (f .before .before .before .before .before .loop .p)
       (Tag.Field (f .n .given .0 .0) (f .n .given .0 .1 .0) (f .n .given .0 .1 .1 .0))
   turn f = read (f .before .before) (f .n .given .1)
 
@@ -88,15 +88,15 @@ module _ (t : ℕ) where
       skip-group-lts.After-skip-value (claims t) (skip-group-at t) skip-group.Post skip-group-Inv-loop
       skip-group-μ-loop
 
-  group : (k : Inner) → Skipped (turn (k .before .before .before .before .before)) (k .skip-group .result)
+  group : (k : Inner) → Skipped (turn (k .before .before .before .before .before .before)) (k .skip-group .result)
   group k =
-      group-lent (turn (k .before .before .before .before .before)) (k .before .before .before .if2 .left)
-      (k .before .before .if4 .taken) (k .skip-group .ensures)
+      group-lent (turn (k .before .before .before .before .before .before)) (k .before .before .before .before .if2 .left)
+      (k .before .before .before .if4 .taken) (k .skip-group .ensures)
 
-  value : (k : Valued) → Skipped (turn (k .before .before .before .before .before)) (k .skip-value .result)
+  value : (k : Valued) → Skipped (turn (k .before .before .before .before .before .before)) (k .skip-value .result)
   value k =
-      value-lent (turn (k .before .before .before .before .before)) (k .before .before .before .if2 .left)
-      (k .before .before .if4 .left) (k .skip-value .ensures)
+      value-lent (turn (k .before .before .before .before .before .before)) (k .before .before .before .before .if2 .left)
+      (k .before .before .before .if4 .left) (k .skip-value .ensures)
 
 pub +skip-group-spec : {M : Type 1} → statement M
 +skip-group-spec = close μ-skip-group λ t. skip-group-lts.spec (claims t) (skip-group-at t) skip-group.Post
@@ -113,21 +113,21 @@ pub +skip-group-spec : {M : Type 1} → statement M
     (λ c κs. (
       omega (
         arith,
-        given t (c .before .before .before .before .before .before) .pre .0,
-        turn t (c .before .before .before .before) .state .deep,
+        given t (c .before .before .before .before .before .before .before) .pre .0,
+        turn t (c .before .before .before .before .before) .state .deep,
       ),
       tt,
     ))
     (λ c. search needs)
     (λ c. search needs)
     (λ c. stops _ (group t (c .before .before)) (c .enum-told2 .given .1))
-    (λ c. let k = c .before .before .before in let r = turn t (k .before .before .before .before .before) in
+    (λ c. let k = c .before .before .before in let r = turn t (k .before .before .before .before .before .before) in
     omega (arith, r .inside, advances r (group t k) (c .before .q .given .1)))
     (λ c. goes-on _ (group t (c .before .before .before)) (c .before .q .given .1))
     (λ c. sym (ap length (take-length (given t (c .before .before .before .before .before .before) .args .s .now))))
     (λ c κs. tt) (λ c. search needs) (λ c. search needs)
     (λ c. stops _ (value t (c .before .before)) (c .enum-told3 .given .1))
-    (λ c. let k = c .before .before .before in let r = turn t (k .before .before .before .before .before) in
+    (λ c. let k = c .before .before .before in let r = turn t (k .before .before .before .before .before .before) in
     omega (arith, r .inside, advances r (value t k) (c .before .q2 .given .1)))
     (λ c. goes-on _ (value t (c .before .before .before)) (c .before .q2 .given .1))
     (λ c. unended (c .before .loop .inv) (c .loop-test .left))
