@@ -8,3 +8,4 @@ pub mod KeptLaws
 pub mod UnreadLaws
 pub mod ApartLaws
 pub mod AlikeLaws
+pub mod PaddedLaws

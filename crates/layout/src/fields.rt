@@ -1,8 +1,10 @@
 // The one field-list reader, driven by a message's rows.
 ghost use mathlib.Core.Path.{_≡_};
+ghost use mathlib.Core.Bool.{_||_};
 ghost use Prim.Native.Nat.{_<_};
 ghost use Rattle.layout.specs.Slots.{badSlots, noSlots};
 ghost use Rattle.layout.specs.Fields.{fieldList, fieldsTo, useBy, useOf};
+ghost use Rattle.layout.specs.Padded.{listPadded, paddedTo};
 ghost use Rattle.layout.specs.private.Arrays.{Holds, Listed, Noted, hasSeen, metBy};
 use crate::row::COLUMNS;
 use crate::row::NUMBER;
@@ -64,12 +66,14 @@ fn list_fields(
     seen: &mut [bool; SLOTS],
     values: &mut [u64; SLOTS],
     starts: &mut [usize; SLOTS],
+    padded: &mut bool,
 ) -> bool
     requires { ⌜ Noted noSlots (now seen) (now values) (now starts) ⌝ }
-    ensures { λ r. ⌜
+    ensures listed { λ r. ⌜
         Listed (fieldList (now (rows .entry)) (now (s .entry)) from) r (now (seen .exit)) (now (values .exit))
         (now (starts .exit))
         ⌝ }
+    ensures told { λ r. ⌜ now (padded .exit) ≡ (now (padded .entry) || listPadded (now (s .entry)) from) ⌝ }
 {
     let mut p = from;
     while p < s.len() {
@@ -80,7 +84,7 @@ fn list_fields(
             start,
             len: _,
             next,
-        } = wire::field::read_field(s, p)
+        } = wire::field::read_field(s, p, padded)
         else {
             return false;
         };
@@ -139,17 +143,19 @@ pub fn fill_fields(
     seen: &mut [bool; SLOTS],
     values: &mut [u64; SLOTS],
     starts: &mut [usize; SLOTS],
+    padded: &mut bool,
 ) -> bool
-    ensures { λ r. ⌜
+    ensures holds { λ r. ⌜
         Holds (fieldsTo (now (rows .entry)) (now (s .entry)) from end) r (now (seen .exit)) (now (values .exit))
         (now (starts .exit))
         ⌝ }
+    ensures told { λ r. ⌜ now (padded .exit) ≡ (now (padded .entry) || paddedTo (now (s .entry)) from end) ⌝ }
 {
     clear(seen, values, starts);
     if s.len() < end {
         return false;
     }
-    if !list_fields(rows, &s[..end], from, seen, values, starts) {
+    if !list_fields(rows, &s[..end], from, seen, values, starts, padded) {
         clear(seen, values, starts);
         return false;
     }

@@ -3,46 +3,79 @@
 use borrow.Author.Needs.{needs}
 use borrow.Author.Tests.{not-true, not-false}
 use native.Mathlib.Omega.{arith}
-use mathlib.Core.Path.{sym, _∙_}
+use mathlib.Core.Path.{_≡_, sym, _∙_}
+use mathlib.Core.Bool.{_||_}
 use lib.ListN.{length-take}
+use Rattle.prelude.proofs.OrLaws.{or-none, or-same}
+use Rattle.layout.specs.Padded.{paddedTo}
 use Rattle.layout.proofs.FieldsLaws.{holds-outside, holds-bad, holds-missing, holds-good}
+use Rattle.layout.proofs.PaddedLaws.{padded-outside, padded-inside}
 use Rattle.layout.proofs.fields.fill_fields.Statement.{statement}
 use Rattle.layout.proofs.fields.fill_fields.Tie as tie
 
+returns : tie.Need-returns
+returns c =
+    let a = c .before .before .before .before .before .before .args in
+    (
+      holds-outside (a .rows .now) (a .s .now) (a .from) (a .end) (c .if1 .taken) (c .before .clear .ensures),
+      or-none (a .padded .now) (padded-outside (a .s .now) (a .from) (a .end) (c .if1 .taken)),
+    )
+
+-- where the fields were listed, the message ends inside
+abbrev within : tie.After-list-fields → tie.Else1
+within l = l .before .before .before .before .before .before
+
+abbrev start : tie.After-list-fields → tie.Start
+start l = within l .before .before .before .before .before .before
+
+-- the flag is that of the list
+told : (l : tie.After-list-fields) →
+    l .list-fields .last .1 .1 .1 .1 .1 .1 .0
+    ≡ (start l .args .padded .now || paddedTo (start l .args .s .now) (start l .args .from) (start l .args .end))
+told l =
+    let a = start l .args in
+    l .list-fields .ensures .1
+    ∙ or-same (a .padded .now) (padded-inside (a .s .now) (a .from) (a .end) (within l .if1 .left))
+
 returns-2 : tie.Need-returns-2
 returns-2 c =
-    let far = c .before .before .before .before .before .before .before .before in
-    let a = far .before .before .before .before .before .before .before .before .args in
-    holds-bad (a .rows .now) (a .s .now) (a .from) (a .end)
-    (c .before .before .before .before .before .before .before .before .before .before .if1 .left)
-    (c .before .before .before .before .before .list-fields .ensures)
-    (not-true _ (c .before .before .before .before .if2 .taken)) (c .clear2 .ensures)
+    let t = c .before .before .before .before in
+    let l = t .before in
+    let a = start l .args in
+    (
+      holds-bad (a .rows .now) (a .s .now) (a .from) (a .end) (within l .if1 .left) (l .list-fields .ensures .0)
+          (not-true _ (t .if2 .taken)) (c .clear2 .ensures),
+      told l,
+    )
 
 returns-3 : tie.Need-returns-3
 returns-3 c =
-    let far = c .before .before .before .before .before .before .before .before .before .before in
-    let a = far .before .before .before .before .before .before .before .before .before .before .args in
-    holds-missing (a .rows .now) (a .s .now) (a .from) (a .end)
-    (far .before .before .before .before .if1 .left)
-    (c .before .before .before .before .before .before .before .before .before .list-fields .ensures)
-    (not-false _ (c .before .before .before .before .before .before .before .before .if2 .left))
-    (sym (c .before .before .before .before .before .has-required .ensures)
-    ∙ not-true _ (c .before .before .before .before .if3 .taken)) (c .clear3 .ensures)
+    let t = c .before .before .before .before in
+    let h = t .before in
+    let e = h .before .before .before in
+    let l = e .before in
+    let a = start l .args in
+    (
+      holds-missing (a .rows .now) (a .s .now) (a .from) (a .end) (within l .if1 .left) (l .list-fields .ensures .0)
+          (not-false _ (e .if2 .left)) (sym (h .has-required .ensures) ∙ not-true _ (t .if3 .taken))
+          (c .clear3 .ensures),
+      told l,
+    )
 
 returns-4 : tie.Need-returns-4
 returns-4 c =
-    let far = c .before .before .before .before .before .before .before .before in
-    let a = far .before .before .before .before .before .before .before .before .args in
-    holds-good (a .rows .now) (a .s .now) (a .from) (a .end)
-    (c .before .before .before .before .before .before .before .before .before .before .if1 .left)
-    (c .before .before .before .before .before .list-fields .ensures)
-    (not-false _ (c .before .before .before .before .if2 .left))
-    (sym (c .before .has-required .ensures) ∙ not-false _ (c .if3 .left))
+    let h = c .before in
+    let e = h .before .before .before in
+    let l = e .before in
+    let a = start l .args in
+    (
+      holds-good (a .rows .now) (a .s .now) (a .from) (a .end) (within l .if1 .left) (l .list-fields .ensures .0)
+          (not-false _ (e .if2 .left)) (sym (h .has-required .ensures) ∙ not-false _ (c .if3 .left)),
+      told l,
+    )
 
 pub fill-fields-spec : {M : Type 1} → statement M
-fill-fields-spec = tie.close (tie.spec (λ c κs. search needs)
-    (λ c. let a = c .before .before .before .before .before .before .args in holds-outside (a .rows .now) (a .s .now)
-    (a .from) (a .end) (c .if1 .taken) (c .before .clear .ensures))
+fill-fields-spec = tie.close (tie.spec (λ c κs. search needs) returns
     (λ c. let a = c .before .before .before .before .before .before .before .args in omega
     (arith, length-take (a .end) (a .s .now), c .before .if1 .left)) (λ c κs. search needs) (λ c κs. search needs)
     returns-2 (λ c κs. search needs) (λ c κs. search needs) returns-3 returns-4)
