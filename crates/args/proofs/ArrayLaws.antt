@@ -34,15 +34,15 @@ arrays-good {v = v} {w = w} {u = u} h e = ap (λ (b : Bool). fromArrays b v w u)
 
 -- the length of bytes by their row
 module _ (s : List ℕ) (at n : ℕ) where
-  octets-long : lenOf (embedded (rowsOf scalar) s at n) 5 ≡ valueOf (embedded (rowsOf scalar) s at n) 5
+  pub octets-long : lenOf (embedded (rowsOf scalar) s at n) 5 ≡ valueOf (embedded (rowsOf scalar) s at n) 5
   unfolding rowsOf rowFor
   octets-long = bytes-long-to (rowsOf scalar) 5 refl s at (at + n)
 
-  string-long : lenOf (embedded (rowsOf scalar) s at n) 9 ≡ valueOf (embedded (rowsOf scalar) s at n) 9
+  pub string-long : lenOf (embedded (rowsOf scalar) s at n) 9 ≡ valueOf (embedded (rowsOf scalar) s at n) 9
   unfolding rowsOf rowFor
   string-long = bytes-long-to (rowsOf scalar) 9 refl s at (at + n)
 
-  scalar-long : lenOf (embedded (rowsOf any) s at n) 2 ≡ valueOf (embedded (rowsOf any) s at n) 2
+  pub scalar-long : lenOf (embedded (rowsOf any) s at n) 2 ≡ valueOf (embedded (rowsOf any) s at n) 2
   unfolding rowsOf rowFor
   scalar-long = bytes-long-to (rowsOf any) 2 refl s at (at + n)
 

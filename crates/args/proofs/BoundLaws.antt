@@ -1,8 +1,8 @@
 -- One pass over a message with arguments, one turn of the loop at a time: its own fields beside the field list, its
 -- arguments beside the list of them. Assumes nothing.
-use Prim.Native.Nat.{ℕ, _+_, _-_, _≤_, _<_}
+use Prim.Native.Nat.{ℕ, zero, suc, _+_, _-_, _≤_, _<_}
 use native.Mathlib.Omega.{arith}
-use mathlib.Core.Bool.{Bool, true, false, not, cond}
+use mathlib.Core.Bool.{Bool, true, false, not, cond, _&&_}
 use mathlib.Core.Path.{_≡_, refl, sym, ap, subst, _∙_}
 use mathlib.Core.List.{List}
 use lib.ListN.{length, getD, set, take, length-set}
@@ -23,7 +23,8 @@ use Rattle.layout.proofs.FieldsLaws as Fields
 use Rattle.args.specs.Part.{embedded, valueOf}
 use Rattle.args.specs.Value.{argumentIn}
 use Rattle.args.specs.Arguments.{nextArgument, argumentsAt, anyTypeOf, noArguments, badArguments, withType}
-use Rattle.args.specs.Arguments.{argumentsIn}
+use Rattle.args.specs.Arguments.{argumentsIn, isArgs}
+use Rattle.args.specs.Padded.{argumentPadded, insideArgs, boundPadded, executePadded}
 use Rattle.args.specs.private.Bound.{rowsBy, wireBy, testsArgs, nothing, withField, ownOf, found, badBound}
 use Rattle.args.specs.private.Bound.{boundOf}
 use Rattle.args.specs.private.Bound.{boundAt, boundIn, argsOf}
@@ -31,6 +32,7 @@ use Rattle.args.specs.declared.arguments.Arguments.{Arguments}
 use Rattle.args.specs.declared.arguments.NextArgument.{NextArgument}
 use Rattle.args.specs.declared.bound.Own.{Own}
 use Rattle.args.specs.declared.bound.Bound.{Bound}
+use Rattle.args.proofs.ArgsFieldLaws.{args-field}
 use Rattle.args.proofs.PartLaws.{part-within}
 use Rattle.args.proofs.PlaceLaws as Place
 use Rattle.args.proofs.EnoughLaws.{next-skips}
@@ -341,6 +343,11 @@ module _ {text : Bool} {s : List ℕ} {from p : ℕ} {x : Arguments} {k : Own} (
               walking = Walk.goes-on (b .walking) inside here t u g;
             }
 
+-- an argument that spoils nothing has a type
+pub typed : (x : Arguments) (t : ℕ) → withType x t .good ≡ true → 0 < t
+typed x zero h = absurd (let z : _≡_ {A = ℕ} 0 1 = cc in omega arith)
+typed x (suc t) h = omega arith
+
 -- ---- in part of the bytes
 
 module _ (text : Bool) (s : List ℕ) (at n : ℕ) where
@@ -351,6 +358,31 @@ module _ (text : Bool) (s : List ℕ) (at n : ℕ) where
   pub bound-cut : at + n ≤ length s → boundAt text (take (at + n) s) at ≡ boundIn text s at n
   unfolding boundIn
   bound-cut h = yes _ badBound (le-leb (at + n) (length s) h)
+
+module _ (s : List ℕ) (at n : ℕ) where
+  pub execute-past : length s < at + n → executePadded s at n ≡ false
+  unfolding executePadded
+  execute-past h = sym (no _ false (lt-leb (at + n) (length s) h))
+
+  pub execute-cut : at + n ≤ length s → boundPadded (take (at + n) s) at ≡ executePadded s at n
+  unfolding executePadded
+  execute-cut h = yes _ false (le-leb (at + n) (length s) h)
+
+-- an args field by the code's test
+tests : (number wire v : ℕ) → isArgs number wire v ≡ testsArgs number wire
+tests number wire v = args-field .tested number wire v ∙ go (eqb number 2)
+  where
+    go : (a : Bool) → (a && eqb wire 2) ≡ cond a (eqb wire 2) false
+    go true = refl
+    go false = refl
+
+module _ (s : List ℕ) (number wire v start len next : ℕ) where
+  pub inside-args : testsArgs number wire ≡ true →
+      argumentPadded s start len ≡ insideArgs s (Field.Good number wire v start len next)
+  inside-args h = yes _ false (tests number wire v ∙ h)
+
+  pub inside-other : testsArgs number wire ≡ false → insideArgs s (Field.Good number wire v start len next) ≡ false
+  inside-other h = sym (no _ false (tests number wire v ∙ h))
 
 -- ---- what the answer says: field 1 is there exactly where fields and arguments are good
 

@@ -14,3 +14,5 @@ pub mod WithinLaws
 pub mod MovedArgLaws
 pub mod BoundLaws
 pub mod UnreadLaws
+pub mod PaddedLaws
+pub mod InsideLaws

@@ -164,7 +164,7 @@ module _ {s : List ℕ} {at first tag value start : ℕ} (t : TwoFields s at fir
   never : (tag % 8 ≡ 0 → ⊥) → (tag % 8 ≡ 1 → ⊥) → (tag % 8 ≡ 2 → ⊥) → (tag % 8 ≡ 5 → ⊥) → ⊥
   never a b d f = let z : _≡_ {A = ℕ} 0 1 = cc (t .value-is, value-none s (tag % 8) (at + 3) a b d f) in omega arith
 
-  wire-low : tag % 8 < 6
+  pub wire-low : tag % 8 < 6
   wire-low = go (ltb (tag % 8) 6) refl
     where
       go : (b : Bool) → ltb (tag % 8) 6 ≡ b → tag % 8 < 6
@@ -173,7 +173,7 @@ module _ {s : List ℕ} {at first tag value start : ℕ} (t : TwoFields s at fir
           let high = ltb-false (tag % 8) 6 e in absurd
           (never (λ h. omega arith) (λ h. omega arith) (λ h. omega arith) (λ h. omega arith))
 
-  field-two : 8 ≤ tag → fieldAt s (at + 2) ≡ Field.Good (tag / 8) (tag % 8) value start (t .len) (length s)
+  pub field-two : 8 ≤ tag → fieldAt s (at + 2) ≡ Field.Good (tag / 8) (tag % 8) value start (t .len) (length s)
   field-two h =
       let next : at + 3 ≡ at + 2 + 1 = omega arith in
       sym
@@ -297,6 +297,13 @@ module _ (s : List ℕ) (at n : ℕ) where
             ∙ yes _ 0 (eq-eqb n 2 two)
 
 -- ---- what a message's rows make of one field
+
+-- the bytes of a field that stands alone
+pub lone-filled : (s : List ℕ) (at n : ℕ) {r : ℕ} → r ≡ loneIn s at n → 0 < r →
+    (n ≡ 2) × FieldOne (take (at + 2) s) at r × (at + 2 ≤ length s)
+lone-filled s at n p some =
+    let f = subst (SaysLone s at n) (sym p) (lone-says s at n) some in
+    (f .0, cut-behind (f .1), f .1 .inside)
 
 -- the code asks for a type; the rows keep it
 pub lone-kept : (s : List ℕ) (at n : ℕ) {r : ℕ} → r ≡ loneIn s at n → (rows : List (List ℕ)) (kind : ℕ) → r ≡ kind →

@@ -68,6 +68,7 @@ module _ (s : List ℕ) (at n : ℕ) where
 -- the field that fills them
 pub record Filled (s : List ℕ) (at start len : ℕ) : Type 0 where
   pub inside : at < length s
+  pub tag : getD s at 0 ≡ 10
   pub field : fieldAt s at ≡ Field.Good 1 2 len start len (length s)
 
 abbrev Says : List ℕ → ℕ → Text → Type 0
@@ -88,6 +89,7 @@ at-says s at =
         (λ q.
         record {
           inside = i;
+          tag = o;
           field =
               read
               ∙ ap (λ (v : ℕ). Field.Good 1 2 v start len next) (long (field-long s at) refl)

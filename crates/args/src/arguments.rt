@@ -1,4 +1,5 @@
-// The way through the arguments of a message, and what all of them together say.
+// The way through the arguments of a message, and what all of them together say. Whether a varint is padded is asked where
+// the message is judged, and not here: `unread` is a flag that nobody looks at.
 ghost use mathlib.Core.Path.{_≡_};
 ghost use Prim.Native.Nat.{_^_, _<_};
 ghost use Rattle.args.specs.Arguments.{
@@ -114,7 +115,7 @@ impl Arguments {
     }
 }
 
-fn seek_place(s: &[u8], at: usize) -> ArgPlace
+fn seek_place(s: &[u8], at: usize, unread: &mut bool) -> ArgPlace
     ensures { λ r. ⌜ r ≡ argPlace (now (s .entry)) at ⌝ }
 {
     let mut p = at;
@@ -126,7 +127,7 @@ fn seek_place(s: &[u8], at: usize) -> ArgPlace
             start,
             len,
             next,
-        } = wire::field::long_field(s, p)
+        } = wire::field::long_field(s, p, unread)
         else {
             return ArgPlace::Bad;
         };
@@ -156,7 +157,7 @@ fn place_of(read: Value) -> ArgPlace
 }
 
 // The same, with a short way for an args field at the very place, as the next one mostly is.
-fn next_place(s: &[u8], at: usize) -> ArgPlace
+fn next_place(s: &[u8], at: usize, unread: &mut bool) -> ArgPlace
     ensures { λ r. ⌜ r ≡ argPlace (now (s .entry)) at ⌝ }
 {
     let n = s.len();
@@ -164,18 +165,19 @@ fn next_place(s: &[u8], at: usize) -> ArgPlace
         return ArgPlace::End;
     }
     if s[at] == keys::ARGS_TAG {
-        return place_of(wire::value::length_value(s, at + 1));
+        return place_of(wire::value::length_value(s, at + 1, unread));
     }
-    seek_place(&s[..n], at)
+    seek_place(&s[..n], at, unread)
 }
 
 // The next argument of a message whose bytes end with s, at or behind the place `at`.
 pub fn next_argument(s: &[u8], at: usize) -> NextArgument
     ensures { λ r. ⌜ r ≡ nextArgument (now (s .entry)) at ⌝ }
 {
-    match next_place(s, at) {
+    let mut unread = false;
+    match next_place(s, at, &mut unread) {
         ArgPlace::At { start, len, next } => NextArgument::Found {
-            value: crate::value::read_argument(s, start, len),
+            value: crate::value::read_argument(s, start, len, &mut unread),
             next,
         },
         ArgPlace::End => NextArgument::End,

@@ -1,7 +1,10 @@
 // A message with arguments, an Execute or a StmtExecute, in one pass: its fields 1 and 3 and all its arguments.
 ghost use mathlib.Core.Path.{_≡_};
+ghost use mathlib.Core.Bool.{_||_, true};
 ghost use Prim.Native.Nat.{_^_, _<_};
 ghost use Rattle.wire.specs.Field.{fieldAt};
+ghost use Rattle.wire.specs.Padded.{fieldPadded};
+ghost use Rattle.args.specs.Padded.{boundPadded, executePadded};
 ghost use Rattle.args.specs.private.Bound.{argsOf, badBound, boundAt, boundIn, found, testsArgs, wireBy};
 ghost use Rattle.args.specs.private.Bound.{withField};
 use crate::arguments::Arguments;
@@ -31,8 +34,11 @@ pub struct Bound {
 }
 
 // The message in `n` bytes of s from `at` on.
-pub fn read_bound(s: &[u8], at: usize, n: usize, text: bool) -> Bound
-    ensures { λ r. ⌜ r ≡ boundIn text (now (s .entry)) at n ⌝ }
+pub fn read_bound(s: &[u8], at: usize, n: usize, text: bool, padded: &mut bool) -> Bound
+    ensures answer { λ r. ⌜ r ≡ boundIn text (now (s .entry)) at n ⌝ }
+    ensures told { λ r. ⌜
+        (r .hasone ≡ true → now (padded .exit) ≡ (now (padded .entry) || executePadded (now (s .entry)) at n))
+        ⌝ }
 {
     if s.len() < at {
         return bad_bound();
@@ -41,7 +47,7 @@ pub fn read_bound(s: &[u8], at: usize, n: usize, text: bool) -> Bound
         return bad_bound();
     }
     let end = at + n;
-    bound_at(&s[..end], at, text)
+    bound_at(&s[..end], at, text, padded)
 }
 
 // A message that is not good, and so has no field 1, which is required.
@@ -85,8 +91,9 @@ fn is_args(number: u64, wire: u64) -> bool
 }
 
 // The field at a place, with a short way for an args field, as most are.
-fn field_at(s: &[u8], at: usize) -> Field
-    ensures { λ r. ⌜ r ≡ fieldAt (now (s .entry)) at ⌝ }
+fn field_at(s: &[u8], at: usize, padded: &mut bool) -> Field
+    ensures answer { λ r. ⌜ r ≡ fieldAt (now (s .entry)) at ⌝ }
+    ensures told { λ r. ⌜ now (padded .exit) ≡ (now (padded .entry) || fieldPadded (now (s .entry)) at) ⌝ }
 {
     let n = s.len();
     if at < n {
@@ -94,11 +101,11 @@ fn field_at(s: &[u8], at: usize) -> Field
             return wire::field::valued(
                 keys::ARGS,
                 keys::ARGS_WIRE,
-                wire::value::length_value(s, at + 1),
+                wire::value::length_value(s, at + 1, padded),
             );
         }
     }
-    wire::field::long_field(&s[..n], at)
+    wire::field::long_field(&s[..n], at, padded)
 }
 
 impl Own {
@@ -139,8 +146,11 @@ fn bound_of(k: Own, x: Arguments) -> Bound
 }
 
 // The message whose bytes go from `from` to the end of s; `text` says that it is a StmtExecute.
-fn bound_at(s: &[u8], from: usize, text: bool) -> Bound
-    ensures { λ r. ⌜ r ≡ boundAt text (now (s .entry)) from ⌝ }
+fn bound_at(s: &[u8], from: usize, text: bool, padded: &mut bool) -> Bound
+    ensures answer { λ r. ⌜ r ≡ boundAt text (now (s .entry)) from ⌝ }
+    ensures told { λ r. ⌜
+        (r .hasone ≡ true → now (padded .exit) ≡ (now (padded .entry) || boundPadded (now (s .entry)) from))
+        ⌝ }
 {
     let own = wire_by(text);
     let mut k = Own {
@@ -159,12 +169,12 @@ fn bound_at(s: &[u8], from: usize, text: bool) -> Bound
             start,
             len,
             next,
-        } = field_at(s, p)
+        } = field_at(s, p, padded)
         else {
             return bad_bound();
         };
         if is_args(number, wire) {
-            x = x.with_type(crate::kind::argument_type(s, start, len));
+            x = x.with_type(crate::kind::argument_type(s, start, len, padded));
             if !x.good {
                 return bad_bound();
             }

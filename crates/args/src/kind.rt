@@ -1,8 +1,11 @@
 // The Any type of an argument. It is found as the argument is, by the short ways or the long one, but no value is put
-// together: what judges a frame asks for no more.
+// together: what judges a frame asks for no more. Of a bad argument, whose frame is refused, the flag says nothing.
 ghost use mathlib.Core.Path.{_≡_};
+ghost use mathlib.Core.Bool.{_||_};
+ghost use Prim.Native.Nat.{_<_};
 ghost use Rattle.args.specs.Arguments.{anyTypeOf};
 ghost use Rattle.args.specs.Value.{argumentIn, scalarIn};
+ghost use Rattle.args.specs.Padded.{argumentPadded, scalarPadded};
 use crate::arguments::any_type;
 use crate::keys;
 use crate::pair::Pair;
@@ -10,8 +13,11 @@ use protocol::anys;
 use protocol::scalars;
 
 // The Any type of the argument whose Any stands in `n` bytes of s from `at` on; 0 for a bad one.
-pub fn argument_type(s: &[u8], at: usize, n: usize) -> u64
-    ensures { λ r. ⌜ r ≡ anyTypeOf (argumentIn (now (s .entry)) at n) ⌝ }
+pub fn argument_type(s: &[u8], at: usize, n: usize, padded: &mut bool) -> u64
+    ensures answer { λ r. ⌜ r ≡ anyTypeOf (argumentIn (now (s .entry)) at n) ⌝ }
+    ensures told { λ r. ⌜
+        (0 < r → now (padded .exit) ≡ (now (padded .entry) || argumentPadded (now (s .entry)) at n))
+        ⌝ }
 {
     let all = s.len();
     let alone = crate::pair::read_lone(s, at, n);
@@ -26,18 +32,21 @@ pub fn argument_type(s: &[u8], at: usize, n: usize) -> u64
         tag,
         value,
         start,
-    } = crate::pair::read_pair(s, at, n) {
+    } = crate::pair::read_pair(s, at, n, padded) {
         if first * 256 + tag == keys::SCALAR_KEY {
-            return scalar_type(s, start, value as usize);
+            return scalar_type(s, start, value as usize, padded);
         }
     }
-    any_type(crate::value::long_argument(&s[..all], at, n))
+    any_type(crate::value::long_argument(&s[..all], at, n, padded))
 }
 
 // The Any type of the Scalar in `n` bytes of s from `at` on: 1, or 0 for a bad one. As read_scalar reads it, but its
 // value is not put together.
-fn scalar_type(s: &[u8], at: usize, n: usize) -> u64
-    ensures { λ r. ⌜ r ≡ anyTypeOf (scalarIn (now (s .entry)) at n) ⌝ }
+fn scalar_type(s: &[u8], at: usize, n: usize, padded: &mut bool) -> u64
+    ensures answer { λ r. ⌜ r ≡ anyTypeOf (scalarIn (now (s .entry)) at n) ⌝ }
+    ensures told { λ r. ⌜
+        (0 < r → now (padded .exit) ≡ (now (padded .entry) || scalarPadded (now (s .entry)) at n))
+        ⌝ }
 {
     let all = s.len();
     if crate::pair::read_lone(s, at, n) == scalars::NULL {
@@ -48,7 +57,7 @@ fn scalar_type(s: &[u8], at: usize, n: usize) -> u64
         tag,
         value,
         start,
-    } = crate::pair::read_pair(s, at, n) {
+    } = crate::pair::read_pair(s, at, n, padded) {
         let named = first * 256 + tag;
         match named {
             keys::SINT_KEY => return anys::SCALAR,
@@ -58,6 +67,7 @@ fn scalar_type(s: &[u8], at: usize, n: usize) -> u64
                 start,
                 value as usize,
                 true,
+                padded,
             )),
             keys::DOUBLE_KEY => return anys::SCALAR,
             keys::FLOAT_KEY => return anys::SCALAR,
@@ -67,9 +77,10 @@ fn scalar_type(s: &[u8], at: usize, n: usize) -> u64
                 start,
                 value as usize,
                 false,
+                padded,
             )),
             _ => {}
         }
     }
-    any_type(crate::value::long_scalar(&s[..all], at, n))
+    any_type(crate::value::long_scalar(&s[..all], at, n, padded))
 }

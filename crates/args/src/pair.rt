@@ -3,8 +3,11 @@
 // speed: they fill no arrays and look up no rows. The rows decide all the same: laws say what a message's rows make of
 // one field or two that fill it, and the callers answer by those laws.
 ghost use mathlib.Core.Path.{_≡_};
+ghost use mathlib.Core.Bool.{_||_};
 ghost use Rattle.wire.specs.Value.{valueAt};
+ghost use Rattle.wire.specs.Padded.{valuePadded};
 ghost use Rattle.args.specs.private.Pair.{loneIn, pairAt, pairIn, pairOf, textAt, textIn, textOf};
+ghost use Rattle.args.specs.private.Pair.{pairFlag, pairPadded, textFlag, textPadded};
 use protocol::fields;
 use protocol::wire_type;
 use varint::wide;
@@ -32,8 +35,9 @@ const LONE_BYTES: usize = 2;
 const NOT_ALONE: u64 = 0;
 
 // A value, with a short way for a number or a length of one byte.
-fn value_at(s: &[u8], wire: u64, at: usize) -> Value
-    ensures { λ r. ⌜ r ≡ valueAt (now (s .entry)) wire at ⌝ }
+fn value_at(s: &[u8], wire: u64, at: usize, padded: &mut bool) -> Value
+    ensures answer { λ r. ⌜ r ≡ valueAt (now (s .entry)) wire at ⌝ }
+    ensures told { λ r. ⌜ now (padded .exit) ≡ (now (padded .entry) || valuePadded (now (s .entry)) wire at) ⌝ }
 {
     let n = s.len();
     if at < n {
@@ -60,7 +64,7 @@ fn value_at(s: &[u8], wire: u64, at: usize) -> Value
             }
         }
     }
-    wire::value::read_value(&s[..n], wire, at)
+    wire::value::read_value(&s[..n], wire, at, padded)
 }
 
 // The pair, if the second field's value ends where the message does.
@@ -89,8 +93,9 @@ fn paired(first: u64, tag: u64, read: Value, end: usize) -> Pair
 }
 
 // The pair in the bytes from `at` to the end of s.
-fn pair_at(s: &[u8], at: usize) -> Pair
-    ensures { λ r. ⌜ r ≡ pairAt (now (s .entry)) at ⌝ }
+fn pair_at(s: &[u8], at: usize, padded: &mut bool) -> Pair
+    ensures answer { λ r. ⌜ r ≡ pairAt (now (s .entry)) at ⌝ }
+    ensures told { λ r. ⌜ now (padded .exit) ≡ (now (padded .entry) || pairFlag (now (s .entry)) at) ⌝ }
 {
     let end = s.len();
     if end < at {
@@ -110,12 +115,13 @@ fn pair_at(s: &[u8], at: usize) -> Pair
     if 128 <= tag {
         return Pair::Other;
     }
-    paired(first, tag, value_at(s, tag % 8, at + 3), end)
+    paired(first, tag, value_at(s, tag % 8, at + 3, padded), end)
 }
 
 // The pair in `n` bytes of s from `at` on.
-pub fn read_pair(s: &[u8], at: usize, n: usize) -> Pair
-    ensures { λ r. ⌜ r ≡ pairIn (now (s .entry)) at n ⌝ }
+pub fn read_pair(s: &[u8], at: usize, n: usize, padded: &mut bool) -> Pair
+    ensures answer { λ r. ⌜ r ≡ pairIn (now (s .entry)) at n ⌝ }
+    ensures told { λ r. ⌜ now (padded .exit) ≡ (now (padded .entry) || pairPadded (now (s .entry)) at n) ⌝ }
 {
     if s.len() < at {
         return Pair::Other;
@@ -124,7 +130,7 @@ pub fn read_pair(s: &[u8], at: usize, n: usize) -> Pair
         return Pair::Other;
     }
     let end = at + n;
-    pair_at(&s[..end], at)
+    pair_at(&s[..end], at, padded)
 }
 
 // The value of field 1, a varint of one byte, if the field fills the `n` bytes of s from `at` on.
@@ -180,8 +186,9 @@ fn alone(read: Value, end: usize) -> Text
 }
 
 // The bytes from `at` to the end of s.
-fn text_at(s: &[u8], at: usize) -> Text
-    ensures { λ r. ⌜ r ≡ textAt (now (s .entry)) at ⌝ }
+fn text_at(s: &[u8], at: usize, padded: &mut bool) -> Text
+    ensures answer { λ r. ⌜ r ≡ textAt (now (s .entry)) at ⌝ }
+    ensures told { λ r. ⌜ now (padded .exit) ≡ (now (padded .entry) || textFlag (now (s .entry)) at) ⌝ }
 {
     let end = s.len();
     if end <= at {
@@ -190,12 +197,13 @@ fn text_at(s: &[u8], at: usize) -> Text
     if s[at] != TEXT_TAG {
         return Text::Other;
     }
-    alone(wire::value::length_value(s, at + 1), end)
+    alone(wire::value::length_value(s, at + 1, padded), end)
 }
 
 // The bytes in `n` bytes of s from `at` on.
-pub fn read_text(s: &[u8], at: usize, n: usize) -> Text
-    ensures { λ r. ⌜ r ≡ textIn (now (s .entry)) at n ⌝ }
+pub fn read_text(s: &[u8], at: usize, n: usize, padded: &mut bool) -> Text
+    ensures answer { λ r. ⌜ r ≡ textIn (now (s .entry)) at n ⌝ }
+    ensures told { λ r. ⌜ now (padded .exit) ≡ (now (padded .entry) || textPadded (now (s .entry)) at n) ⌝ }
 {
     if s.len() < at {
         return Text::Other;
@@ -204,5 +212,5 @@ pub fn read_text(s: &[u8], at: usize, n: usize) -> Text
         return Text::Other;
     }
     let end = at + n;
-    text_at(&s[..end], at)
+    text_at(&s[..end], at, padded)
 }

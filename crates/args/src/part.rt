@@ -1,7 +1,9 @@
 // A message embedded in another, and the places of its fields.
 ghost use mathlib.Core.Path.{_≡_};
+ghost use mathlib.Core.Bool.{_||_};
 ghost use Rattle.layout.specs.private.Arrays.{Holds};
 ghost use Rattle.args.specs.Part.{embedded};
+ghost use Rattle.args.specs.Padded.{partPadded};
 use layout::row::COLUMNS;
 use layout::slots::SLOTS;
 
@@ -21,11 +23,13 @@ pub fn fill_part(
     seen: &mut [bool; SLOTS],
     values: &mut [u64; SLOTS],
     starts: &mut [usize; SLOTS],
+    padded: &mut bool,
 ) -> bool
-    ensures { λ r. ⌜
+    ensures holds { λ r. ⌜
         Holds (embedded (now (rows .entry)) (now (s .entry)) start len) r (now (seen .exit)) (now (values .exit))
         (now (starts .exit))
         ⌝ }
+    ensures told { λ r. ⌜ now (padded .exit) ≡ (now (padded .entry) || partPadded (now (s .entry)) start len) ⌝ }
 {
     if s.len() < start {
         layout::fields::clear(seen, values, starts);
@@ -35,5 +39,5 @@ pub fn fill_part(
         layout::fields::clear(seen, values, starts);
         return false;
     }
-    layout::fields::fill_fields(rows, s, start, start + len, seen, values, starts)
+    layout::fields::fill_fields(rows, s, start, start + len, seen, values, starts, padded)
 }

@@ -1,8 +1,9 @@
 // The value of one argument: an Any, and the Scalar in it.
 ghost use mathlib.Core.Path.{_≡_};
-ghost use mathlib.Core.Bool.{cond, true};
+ghost use mathlib.Core.Bool.{_||_, cond, true};
 ghost use Rattle.layout.specs.private.Arrays.{fromArrays};
 ghost use Rattle.args.specs.Value.{anyOf, argumentIn, bad, bytesIn, scalarIn, scalarOf};
+ghost use Rattle.args.specs.Padded.{argumentPadded, insideAny, insideScalar, partPadded, scalarPadded};
 use crate::keys;
 use crate::pair::Pair;
 use crate::pair::Text;
@@ -28,7 +29,7 @@ use scalar::argument::signed_argument;
 
 // The argument whose Any stands in `n` bytes of s from `at` on, with the short ways for an Any of one field, its type,
 // and of two, its type and its scalar. For its one caller, into which it is inlined; others go the long way.
-pub fn read_argument(s: &[u8], at: usize, n: usize) -> Argument
+pub fn read_argument(s: &[u8], at: usize, n: usize, unread: &mut bool) -> Argument
     ensures { λ r. ⌜ r ≡ argumentIn (now (s .entry)) at n ⌝ }
 {
     let all = s.len();
@@ -44,26 +45,27 @@ pub fn read_argument(s: &[u8], at: usize, n: usize) -> Argument
         tag,
         value,
         start,
-    } = crate::pair::read_pair(s, at, n) {
+    } = crate::pair::read_pair(s, at, n, unread) {
         if first * 256 + tag == keys::SCALAR_KEY {
-            return read_scalar(s, start, value as usize);
+            return read_scalar(s, start, value as usize, unread);
         }
     }
-    long_argument(&s[..all], at, n)
+    long_argument(&s[..all], at, n, unread)
 }
 
 // The long way, by the rows.
-pub fn long_argument(s: &[u8], at: usize, n: usize) -> Argument
-    ensures { λ r. ⌜ r ≡ argumentIn (now (s .entry)) at n ⌝ }
+pub fn long_argument(s: &[u8], at: usize, n: usize, padded: &mut bool) -> Argument
+    ensures answer { λ r. ⌜ r ≡ argumentIn (now (s .entry)) at n ⌝ }
+    ensures told { λ r. ⌜ now (padded .exit) ≡ (now (padded .entry) || argumentPadded (now (s .entry)) at n) ⌝ }
 {
     let rows = layout::rows::any_rows();
     let mut seen = [false; SLOTS];
     let mut values = [0; SLOTS];
     let mut starts = [0; SLOTS];
-    if !crate::part::fill_part(&rows, s, at, n, &mut seen, &mut values, &mut starts) {
+    if !crate::part::fill_part(&rows, s, at, n, &mut seen, &mut values, &mut starts, padded) {
         return Argument::Refused(reason::BAD_PAYLOAD);
     }
-    any_value(s, &seen, &values, &starts)
+    any_value(s, &seen, &values, &starts, padded)
 }
 
 // The named value must be present.
@@ -78,14 +80,15 @@ fn needed(has: bool, a: Argument) -> Argument
 }
 
 // The bytes of an octets or a string message, the long way.
-fn long_bytes(s: &[u8], at: usize, n: usize, octets: bool) -> Argument
-    ensures { λ r. ⌜ r ≡ bytesIn octets (now (s .entry)) at n ⌝ }
+fn long_bytes(s: &[u8], at: usize, n: usize, octets: bool, padded: &mut bool) -> Argument
+    ensures answer { λ r. ⌜ r ≡ bytesIn octets (now (s .entry)) at n ⌝ }
+    ensures told { λ r. ⌜ now (padded .exit) ≡ (now (padded .entry) || partPadded (now (s .entry)) at n) ⌝ }
 {
     let rows = layout::rows::bytes_rows();
     let mut seen = [false; SLOTS];
     let mut values = [0; SLOTS];
     let mut starts = [0; SLOTS];
-    if !crate::part::fill_part(&rows, s, at, n, &mut seen, &mut values, &mut starts) {
+    if !crate::part::fill_part(&rows, s, at, n, &mut seen, &mut values, &mut starts, padded) {
         return Argument::Refused(reason::BAD_PAYLOAD);
     }
     let start = starts[BYTES];
@@ -97,17 +100,18 @@ fn long_bytes(s: &[u8], at: usize, n: usize, octets: bool) -> Argument
 }
 
 // The bytes of an octets or a string message, with a short way for one that holds nothing else.
-pub(crate) fn read_bytes(s: &[u8], at: usize, n: usize, octets: bool) -> Argument
-    ensures { λ r. ⌜ r ≡ bytesIn octets (now (s .entry)) at n ⌝ }
+pub(crate) fn read_bytes(s: &[u8], at: usize, n: usize, octets: bool, padded: &mut bool) -> Argument
+    ensures answer { λ r. ⌜ r ≡ bytesIn octets (now (s .entry)) at n ⌝ }
+    ensures told { λ r. ⌜ now (padded .exit) ≡ (now (padded .entry) || partPadded (now (s .entry)) at n) ⌝ }
 {
     let all = s.len();
-    if let Text::Alone { start, len } = crate::pair::read_text(s, at, n) {
+    if let Text::Alone { start, len } = crate::pair::read_text(s, at, n, padded) {
         if octets {
             return Argument::Octets { start, len };
         }
         return Argument::String { start, len };
     }
-    long_bytes(&s[..all], at, n, octets)
+    long_bytes(&s[..all], at, n, octets, padded)
 }
 
 // The value that a Scalar's type names.
@@ -116,10 +120,16 @@ fn scalar_value(
     seen: &[bool; SLOTS],
     values: &[u64; SLOTS],
     starts: &[usize; SLOTS],
+    padded: &mut bool,
 ) -> Argument
-    ensures { λ r. ⌜
+    ensures answer { λ r. ⌜
         r
         ≡ scalarOf (now (s .entry)) (fromArrays true (now (seen .entry)) (now (values .entry)) (now (starts .entry)))
+        ⌝ }
+    ensures told { λ r. ⌜
+        now (padded .exit)
+        ≡ (now (padded .entry)
+        || insideScalar (now (s .entry)) (fromArrays true (now (seen .entry)) (now (values .entry)) (now (starts .entry))))
         ⌝ }
 {
     let t = values[TYPE] % uint32::COUNT;
@@ -129,7 +139,13 @@ fn scalar_value(
         scalars::NULL => Argument::Null,
         scalars::OCTETS => needed(
             seen[OCTETS_FIELD],
-            long_bytes(s, starts[OCTETS_FIELD], values[OCTETS_FIELD] as usize, true),
+            long_bytes(
+                s,
+                starts[OCTETS_FIELD],
+                values[OCTETS_FIELD] as usize,
+                true,
+                padded,
+            ),
         ),
         scalars::DOUBLE => needed(seen[DOUBLE_FIELD], double_argument(values[DOUBLE_FIELD])),
         scalars::FLOAT => needed(
@@ -144,6 +160,7 @@ fn scalar_value(
                 starts[STRING_FIELD],
                 values[STRING_FIELD] as usize,
                 false,
+                padded,
             ),
         ),
         _ => Argument::Refused(reason::BAD_PAYLOAD),
@@ -151,17 +168,18 @@ fn scalar_value(
 }
 
 // The Scalar in `n` bytes of s from `at` on, the long way.
-pub(crate) fn long_scalar(s: &[u8], at: usize, n: usize) -> Argument
-    ensures { λ r. ⌜ r ≡ scalarIn (now (s .entry)) at n ⌝ }
+pub(crate) fn long_scalar(s: &[u8], at: usize, n: usize, padded: &mut bool) -> Argument
+    ensures answer { λ r. ⌜ r ≡ scalarIn (now (s .entry)) at n ⌝ }
+    ensures told { λ r. ⌜ now (padded .exit) ≡ (now (padded .entry) || scalarPadded (now (s .entry)) at n) ⌝ }
 {
     let rows = layout::rows::scalar_rows();
     let mut seen = [false; SLOTS];
     let mut values = [0; SLOTS];
     let mut starts = [0; SLOTS];
-    if !crate::part::fill_part(&rows, s, at, n, &mut seen, &mut values, &mut starts) {
+    if !crate::part::fill_part(&rows, s, at, n, &mut seen, &mut values, &mut starts, padded) {
         return Argument::Refused(reason::BAD_PAYLOAD);
     }
-    scalar_value(s, &seen, &values, &starts)
+    scalar_value(s, &seen, &values, &starts, padded)
 }
 
 // The value of an Any: a scalar, an object or an array.
@@ -170,16 +188,27 @@ fn any_value(
     seen: &[bool; SLOTS],
     values: &[u64; SLOTS],
     starts: &[usize; SLOTS],
+    padded: &mut bool,
 ) -> Argument
-    ensures { λ r. ⌜
+    ensures answer { λ r. ⌜
         r ≡ anyOf (now (s .entry)) (fromArrays true (now (seen .entry)) (now (values .entry)) (now (starts .entry)))
+        ⌝ }
+    ensures told { λ r. ⌜
+        now (padded .exit)
+        ≡ (now (padded .entry)
+        || insideAny (now (s .entry)) (fromArrays true (now (seen .entry)) (now (values .entry)) (now (starts .entry))))
         ⌝ }
 {
     let t = values[TYPE] % uint32::COUNT;
     match t {
         anys::SCALAR => needed(
             seen[SCALAR_FIELD],
-            long_scalar(s, starts[SCALAR_FIELD], values[SCALAR_FIELD] as usize),
+            long_scalar(
+                s,
+                starts[SCALAR_FIELD],
+                values[SCALAR_FIELD] as usize,
+                padded,
+            ),
         ),
         anys::OBJECT => Argument::Object,
         anys::ARRAY => Argument::Array,
@@ -189,7 +218,7 @@ fn any_value(
 
 // The Scalar, with the short ways for a Scalar of one field and of two. The slice is lent anew to what is
 // not inlined, so that the short ways keep it in registers.
-fn read_scalar(s: &[u8], at: usize, n: usize) -> Argument
+fn read_scalar(s: &[u8], at: usize, n: usize, unread: &mut bool) -> Argument
     ensures { λ r. ⌜ r ≡ scalarIn (now (s .entry)) at n ⌝ }
 {
     let all = s.len();
@@ -201,18 +230,18 @@ fn read_scalar(s: &[u8], at: usize, n: usize) -> Argument
         tag,
         value,
         start,
-    } = crate::pair::read_pair(s, at, n) {
+    } = crate::pair::read_pair(s, at, n, unread) {
         let named = first * 256 + tag;
         match named {
             keys::SINT_KEY => return signed_argument(value),
             keys::UINT_KEY => return Argument::Unsigned(value),
-            keys::OCTETS_KEY => return read_bytes(&s[..all], start, value as usize, true),
+            keys::OCTETS_KEY => return read_bytes(&s[..all], start, value as usize, true, unread),
             keys::DOUBLE_KEY => return double_argument(value),
             keys::FLOAT_KEY => return float_argument((value % uint32::COUNT) as u32),
             keys::BOOL_KEY => return Argument::Bool(value != 0),
-            keys::STRING_KEY => return read_bytes(&s[..all], start, value as usize, false),
+            keys::STRING_KEY => return read_bytes(&s[..all], start, value as usize, false, unread),
             _ => {}
         }
     }
-    long_scalar(&s[..all], at, n)
+    long_scalar(&s[..all], at, n, unread)
 }

@@ -24,3 +24,8 @@ or-same a e = ap (λ (b : Bool). a || b) e
 -- two in turn
 pub or-then : (a x y : Bool) {m r z : Bool} → m ≡ (a || x) → r ≡ (m || y) → (x || y) ≡ z → r ≡ (a || z)
 or-then a x y p q e = q ∙ ap (λ (b : Bool). b || y) p ∙ or-assoc a x y ∙ or-same a e
+
+-- what the other says too
+pub or-within : (a b : Bool) → (a ≡ true → b ≡ true) → (a || b) ≡ b
+or-within true b f = sym (f refl)
+or-within false b f = refl

@@ -113,7 +113,11 @@ fn tagged(s: &[u8], n: u64, wire: u64, at: usize, padded: &mut bool) -> Field
         };
     }
     if wire == wire_type::VARINT {
-        return valued(n, wire_type::VARINT, crate::value::number_value(s, at, padded));
+        return valued(
+            n,
+            wire_type::VARINT,
+            crate::value::number_value(s, at, padded),
+        );
     }
     valued(n, wire, crate::value::read_value(s, wire, at, padded))
 }

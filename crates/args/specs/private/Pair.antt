@@ -1,11 +1,13 @@
 -- The short ways for a message of one field or two: what they find, by the bytes alone. What they do not find the long
 -- way reads. For contracts inside the library; they follow the code's tests, and what is promised does not cite them.
 use Prim.Native.Nat.{ℕ, _+_, _%_}
-use mathlib.Core.Bool.{cond}
+use mathlib.Core.Bool.{Bool, false, cond}
 use mathlib.Core.List.{List}
 use lib.ListN.{length, take, getD}
 use lib.Dec.{ltb, leb, eqb}
+use Rattle.varint.specs.Padded.{paddedAt}
 use Rattle.wire.specs.Value.{asLength, valueAt}
+use Rattle.wire.specs.Padded.{valuePadded}
 use Rattle.wire.specs.declared.value.Value.{Value}
 use Rattle.args.specs.declared.pair.Pair.{Pair}
 use Rattle.args.specs.declared.pair.Text.{Text}
@@ -55,3 +57,21 @@ textAt s at =
 -- in n bytes of s from the place `at` on
 unfoldable pub textIn : List ℕ → ℕ → ℕ → Text
 textIn s at n = cond (leb (at + n) (length s)) (textAt (take (at + n) s) at) Text.Other
+
+-- whether what they read is padded: of a pair the number or the length of the second value, of bytes alone their length
+unfoldable pub pairFlag : List ℕ → ℕ → Bool
+pairFlag s at =
+    cond (ltb (length s) (at + 3)) false
+    (cond (eqb (getD s at 0) 8)
+    (cond (ltb (getD s (at + 1) 0) 128)
+    (cond (ltb (getD s (at + 2) 0) 128) (valuePadded s (getD s (at + 2) 0 % 8) (at + 3)) false) false)
+    false)
+
+unfoldable pub pairPadded : List ℕ → ℕ → ℕ → Bool
+pairPadded s at n = cond (leb (at + n) (length s)) (pairFlag (take (at + n) s) at) false
+
+unfoldable pub textFlag : List ℕ → ℕ → Bool
+textFlag s at = cond (ltb at (length s)) (cond (eqb (getD s at 0) 10) (paddedAt s (at + 1)) false) false
+
+unfoldable pub textPadded : List ℕ → ℕ → ℕ → Bool
+textPadded s at n = cond (leb (at + n) (length s)) (textFlag (take (at + n) s) at) false

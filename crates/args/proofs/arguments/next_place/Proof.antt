@@ -13,10 +13,11 @@ use Rattle.args.proofs.arguments.next_place.Tie as tie
 
 returns-2 : tie.Need-returns-2
 returns-2 c =
-    let a = c .before .before .before .before .before .before .args in
+    let t = c .before .before .before in
+    let a = t .before .before .before .before .args in
     c .place-of .ensures
-    ∙ ap placeOf (c .before .length-value .ensures)
-    ∙ place-here (a .s .now) (a .at) (c .before .before .before .before .if1 .left) (c .before .before .if2 .taken)
+    ∙ ap placeOf (c .before .length-value .ensures .0)
+    ∙ place-here (a .s .now) (a .at) (t .before .before .if1 .left) (t .if2 .taken)
 
 pub next-place-spec : {M : Type 1} → statement M
 next-place-spec = tie.close (tie.spec
@@ -24,5 +25,5 @@ next-place-spec = tie.close (tie.spec
     (λ c. search needs) (λ c κs. search needs) (λ c κs. search needs) returns-2
     (λ c. sym (ap length (take-length (c .before .before .before .before .before .args .s .now))))
     (λ c κs. search needs)
-    (λ c. let a = c .before .before .before .before .before .before .args in c .seek-place .ensures ∙ ap
+    (λ c. let a = c .before .before .before .before .before .before .before .args in c .seek-place .ensures ∙ ap
     (λ (l : List ℕ). argPlace l (a .at)) (take-length (a .s .now))))

@@ -1,19 +1,37 @@
--- `args::pair::read_pair` meets its contract: the message is cut off behind its last byte. Assumes nothing.
+-- The message is cut off behind its last byte.
 use native.Mathlib.Omega.{arith}
 use mathlib.Core.Path.{_∙_}
 use Prim.Native.Nat.{_+_}
 use lib.ListN.{length-take}
+use Rattle.prelude.proofs.OrLaws.{or-none, or-same}
 use Rattle.args.proofs.PairLaws.{in-past, in-cut}
+use Rattle.args.proofs.PaddedLaws.{pair-past, pair-cut}
 use borrow.Author.Needs.{needs}
 use Rattle.args.proofs.pair.read_pair.Statement.{statement}
 use Rattle.args.proofs.pair.read_pair.Tie as tie
 
+returns : tie.Need-returns
+returns c =
+    let a = c .before .before .args in (
+      in-past (a .s .now) (a .at) (a .n) (omega arith),
+      or-none (a .padded .now) (pair-past (a .s .now) (a .at) (a .n) (omega arith)),
+    )
+
+returns-2 : tie.Need-returns-2
+returns-2 c =
+    let a = c .before .before .before .args in (
+      in-past (a .s .now) (a .at) (a .n) (omega arith),
+      or-none (a .padded .now) (pair-past (a .s .now) (a .at) (a .n) (omega arith)),
+    )
+
+returns-3 : tie.Need-returns-3
+returns-3 c =
+    let a = c .before .before .before .before .before .before .args in (
+      c .pair-at .ensures .0 ∙ in-cut (a .s .now) (a .at) (a .n) (omega arith),
+      c .pair-at .ensures .1 ∙ or-same (a .padded .now) (pair-cut (a .s .now) (a .at) (a .n) (omega arith)),
+    )
+
 pub read-pair-spec : {M : Type 1} → statement M
-read-pair-spec = tie.close (tie.spec
-    (λ c. let a = c .before .before .args in in-past (a .s .now) (a .at) (a .n) (omega arith)) (λ c. search needs)
-    (λ c. let a = c .before .before .before .args in in-past (a .s .now) (a .at) (a .n) (omega arith))
-    (λ c. search needs)
+read-pair-spec = tie.close (tie.spec returns (λ c. search needs) returns-2 (λ c. search needs)
     (λ c. let a = c .before .before .before .before .args in omega (arith, length-take (a .at + a .n) (a .s .now)))
-    (λ c κs. search needs)
-    (λ c. let a = c .before .before .before .before .before .args in c .pair-at .ensures ∙ in-cut (a .s .now) (a .at)
-    (a .n) (omega arith)))
+    (λ c κs. search needs) returns-3)

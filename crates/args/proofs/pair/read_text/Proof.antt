@@ -3,17 +3,35 @@ use native.Mathlib.Omega.{arith}
 use mathlib.Core.Path.{_∙_}
 use Prim.Native.Nat.{_+_}
 use lib.ListN.{length-take}
+use Rattle.prelude.proofs.OrLaws.{or-none, or-same}
 use Rattle.args.proofs.TextLaws.{text-past, text-cut}
+use Rattle.args.proofs.PaddedLaws.{text-flag-past, text-flag-cut}
 use borrow.Author.Needs.{needs}
 use Rattle.args.proofs.pair.read_text.Statement.{statement}
 use Rattle.args.proofs.pair.read_text.Tie as tie
 
+returns : tie.Need-returns
+returns c =
+    let a = c .before .before .args in (
+      text-past (a .s .now) (a .at) (a .n) (omega arith),
+      or-none (a .padded .now) (text-flag-past (a .s .now) (a .at) (a .n) (omega arith)),
+    )
+
+returns-2 : tie.Need-returns-2
+returns-2 c =
+    let a = c .before .before .before .args in (
+      text-past (a .s .now) (a .at) (a .n) (omega arith),
+      or-none (a .padded .now) (text-flag-past (a .s .now) (a .at) (a .n) (omega arith)),
+    )
+
+returns-3 : tie.Need-returns-3
+returns-3 c =
+    let a = c .before .before .before .before .before .before .args in (
+      c .text-at .ensures .0 ∙ text-cut (a .s .now) (a .at) (a .n) (omega arith),
+      c .text-at .ensures .1 ∙ or-same (a .padded .now) (text-flag-cut (a .s .now) (a .at) (a .n) (omega arith)),
+    )
+
 pub read-text-spec : {M : Type 1} → statement M
-read-text-spec = tie.close (tie.spec
-    (λ c. let a = c .before .before .args in text-past (a .s .now) (a .at) (a .n) (omega arith)) (λ c. search needs)
-    (λ c. let a = c .before .before .before .args in text-past (a .s .now) (a .at) (a .n) (omega arith))
-    (λ c. search needs)
+read-text-spec = tie.close (tie.spec returns (λ c. search needs) returns-2 (λ c. search needs)
     (λ c. let a = c .before .before .before .before .args in omega (arith, length-take (a .at + a .n) (a .s .now)))
-    (λ c κs. search needs)
-    (λ c. let a = c .before .before .before .before .before .args in c .text-at .ensures ∙ text-cut (a .s .now) (a .at)
-    (a .n) (omega arith)))
+    (λ c κs. search needs) returns-3)

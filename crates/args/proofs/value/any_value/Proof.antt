@@ -2,12 +2,14 @@
 use Prim.Native.Nat.{ℕ}
 use mathlib.Core.Bool.{true}
 use mathlib.Core.Path.{_≡_, refl, sym, ap, _∙_}
+use Rattle.prelude.proofs.OrLaws.{or-none, or-same}
 use Rattle.layout.specs.private.Arrays.{fromArrays}
 use Rattle.layout.specs.declared.slots.Slots.{Slots}
 use Rattle.args.specs.Part.{valueOf, low32}
 use Rattle.args.specs.Value.{ofAnyType, anyOf}
 use Rattle.args.proofs.ValueLaws.{any-good, any-type-none}
 use Rattle.args.proofs.ArrayLaws.{seen-needed}
+use Rattle.args.proofs.InsideLaws.{any-by-type, any-none}
 use borrow.Author.Needs.{needs}
 use Rattle.args.proofs.value.any_value.Statement.{statement}
 use Rattle.args.proofs.value.any_value.Tie as tie
@@ -20,13 +22,41 @@ module _ (st : tie.Start) where
   by : (t : ℕ) → low32 (valueOf slots 1) ≡ t → ofAnyType (st .args .s .now) slots t ≡ anyOf (st .args .s .now) slots
   by t e = ap (ofAnyType (st .args .s .now) slots) (sym e) ∙ any-good (st .args .s .now) slots refl
 
-pub any-value-spec : {M : Type 1} → statement M
+returns : tie.Need-returns
 unfolding ofAnyType
+returns c =
+    let k = c .before .before .before .before .before .before in
+    let st = k .before .before .before in
+    let one = k .match .keys1 in (
+      seen-needed (st .args .seen .now) 2 (c .needed .ensures) (c .before .long-scalar .ensures .0) ∙ by st 1 one,
+      c .before .long-scalar .ensures .1
+          ∙ or-same (st .args .padded .now) (any-by-type (st .args .s .now) (slots st) refl 1 one),
+    )
+
+returns-2 : tie.Need-returns-2
+unfolding ofAnyType
+returns-2 c =
+    let st = c .before .before .before in (
+      by st 2 (c .match .keys2),
+      or-none (st .args .padded .now) (sym (any-by-type (st .args .s .now) (slots st) refl 2 (c .match .keys2))),
+    )
+
+returns-3 : tie.Need-returns-3
+unfolding ofAnyType
+returns-3 c =
+    let st = c .before .before .before in (
+      by st 3 (c .match .keys3),
+      or-none (st .args .padded .now) (sym (any-by-type (st .args .s .now) (slots st) refl 3 (c .match .keys3))),
+    )
+
+returns-4 : tie.Need-returns-4
+returns-4 c =
+    let st = c .before .before .before in
+    let m = c .match in (
+      any-type-none (st .args .s .now) (slots st) _ (m .rest .0 .0 .1) (m .rest .0 .1) (m .rest .1) ∙ by st _ refl,
+      or-none (st .args .padded .now) (any-none (st .args .s .now) (slots st) refl _ refl (m .rest .0 .0 .1)),
+    )
+
+pub any-value-spec : {M : Type 1} → statement M
 any-value-spec = tie.close (tie.spec (λ c. search needs) (λ c. search needs) (λ c. search needs) (λ c. search needs)
-    (λ c κs. search needs) (λ c κs. search needs)
-    (λ c. let st = c .before .before .before .before .before .before .before .before in seen-needed
-    (st .args .seen .now) 2 (c .needed .ensures) (c .before .long-scalar .ensures) ∙ by st 1
-    (c .before .before .before .before .before .match .keys1)) (λ c. by (c .before .before .before) 2 (c .match .keys2))
-    (λ c. by (c .before .before .before) 3 (c .match .keys3))
-    (λ c. let st = c .before .before .before in any-type-none (st .args .s .now) (slots st) _ (c .match .rest .0 .0 .1)
-    (c .match .rest .0 .1) (c .match .rest .1) ∙ by st _ refl))
+    (λ c κs. search needs) (λ c κs. search needs) returns returns-2 returns-3 returns-4)

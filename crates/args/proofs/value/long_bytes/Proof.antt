@@ -8,28 +8,40 @@ use borrow.Author.Needs.{needs}
 use Rattle.args.proofs.value.long_bytes.Statement.{statement}
 use Rattle.args.proofs.value.long_bytes.Tie as tie
 
+abbrev rows : tie.After-fill-part → tie.After-bytes-rows
+rows f = f .before .before .before .before .before .before
+
 returns : tie.Need-returns
 returns c =
-    let r = c .before .before .before .before .before .before in
-    let a = r .before .before .args in
-    bytes-refused (a .s .now) (a .at) (a .n) (a .octets)
-    (rw (r .bytes-rows .ensures) at (c .before .fill-part .ensures)) (not-true _ (c .if1 .taken))
+    let f = c .before in
+    let r = rows f in
+    let a = r .before .before .args in (
+      bytes-refused (a .s .now) (a .at) (a .n) (a .octets)
+          (rw (r .bytes-rows .ensures) at (f .fill-part .ensures .0)) (not-true _ (c .if1 .taken)),
+      f .fill-part .ensures .1,
+    )
 
 returns-2 : tie.Need-returns-2
 returns-2 c =
-    let r = c .before .before .before .before .before .before .before in
-    let a = r .before .before .args in
-    yes _ _ (c .if2 .taken)
-    ∙ bytes-held (a .s .now) (a .at) (a .n) (a .octets)
-    (rw (r .bytes-rows .ensures) at (c .before .before .fill-part .ensures)) (not-false _ (c .before .if1 .left))
+    let f = c .before .before in
+    let r = rows f in
+    let a = r .before .before .args in (
+      yes _ _ (c .if2 .taken)
+          ∙ bytes-held (a .s .now) (a .at) (a .n) (a .octets)
+          (rw (r .bytes-rows .ensures) at (f .fill-part .ensures .0)) (not-false _ (c .before .if1 .left)),
+      f .fill-part .ensures .1,
+    )
 
 returns-3 : tie.Need-returns-3
 returns-3 c =
-    let r = c .before .before .before .before .before .before .before in
-    let a = r .before .before .args in
-    without _ _ (c .if2 .left)
-    ∙ bytes-held (a .s .now) (a .at) (a .n) (a .octets)
-    (rw (r .bytes-rows .ensures) at (c .before .before .fill-part .ensures)) (not-false _ (c .before .if1 .left))
+    let f = c .before .before in
+    let r = rows f in
+    let a = r .before .before .args in (
+      without _ _ (c .if2 .left)
+          ∙ bytes-held (a .s .now) (a .at) (a .n) (a .octets)
+          (rw (r .bytes-rows .ensures) at (f .fill-part .ensures .0)) (not-false _ (c .before .if1 .left)),
+      f .fill-part .ensures .1,
+    )
 
 pub long-bytes-spec : {M : Type 1} → statement M
 long-bytes-spec = tie.close (tie.spec (λ c κs. search needs) (λ c. search needs) (λ c κs. search needs) returns

@@ -1,40 +1,76 @@
 -- By the law on the field alone the short way answers what the rows do; the rest goes the long way.
 use Prim.Native.Nat.{ℕ}
-use mathlib.Core.Path.{refl, sym, ap, _∙_}
+use mathlib.Core.Path.{_≡_, refl, sym, ap, _∙_}
+use mathlib.Core.Bool.{_||_}
 use mathlib.Core.List.{List}
 use lib.ListN.{length}
 use lib.Seq.{take-length}
 use Rattle.prelude.proofs.Cases.{yes, no as without}
+use Rattle.prelude.proofs.OrLaws.{or-then, or-same}
 use Rattle.layout.specs.Table.{rowsOf, bytes}
 use Rattle.layout.specs.Row.{rowFor}
 use Rattle.layout.specs.Fields.{hasRequired}
 use Rattle.args.specs.Value.{bytesOf, bytesIn}
+use Rattle.args.specs.Padded.{partPadded}
+use Rattle.args.specs.private.Pair.{textPadded}
 use Rattle.args.proofs.TextLaws.{text-kept}
+use Rattle.args.proofs.PaddedLaws.{text-part, text-absorbed}
 use borrow.Author.Needs.{needs}
 use Rattle.args.proofs.value.read_bytes.Statement.{statement}
 use Rattle.args.proofs.value.read_bytes.Tie as tie
 
+abbrev start : tie.After-read-text → tie.Start
+start r = r .before .before .before
+
+-- bytes alone: the flag is that of the message
+told : (k : tie.After-start) →
+    let a = start (k .before .before) .args in
+    k .before .before .read-text .last .1 .1 .1 .0 ≡ (a .padded .now || partPadded (a .s .now) (a .at) (a .n))
+told k =
+    let r = k .before .before in
+    let a = start r .args in
+    r .read-text .ensures .1
+    ∙ or-same (a .padded .now)
+    (text-part (a .s .now) (a .at) (a .n) (sym (r .read-text .ensures .0) ∙ k .start .given .1))
+
 returns : tie.Need-returns
 unfolding rowsOf rowFor hasRequired
 returns c =
-    let a = c .before .before .before .before .before .before .args in
-    yes _ _ (c .if1 .taken)
-    ∙ ap (bytesOf (a .octets))
-    (text-kept (a .s .now) (a .at) (a .n) (c .before .before .start .given .1)
-    (c .before .before .before .before .read-text .ensures) (rowsOf bytes) refl)
+    let k = c .before .before in
+    let a = start (k .before .before) .args in (
+      yes _ _ (c .if1 .taken)
+          ∙ ap (bytesOf (a .octets))
+          (text-kept (a .s .now) (a .at) (a .n) (k .start .given .1) (k .before .before .read-text .ensures .0)
+          (rowsOf bytes) refl),
+      told k,
+    )
 
 returns-2 : tie.Need-returns-2
 unfolding rowsOf rowFor hasRequired
 returns-2 c =
-    let a = c .before .before .before .before .before .before .args in
-    without _ _ (c .if1 .left)
-    ∙ ap (bytesOf (a .octets))
-    (text-kept (a .s .now) (a .at) (a .n) (c .before .before .start .given .1)
-    (c .before .before .before .before .read-text .ensures) (rowsOf bytes) refl)
+    let k = c .before .before in
+    let a = start (k .before .before) .args in (
+      without _ _ (c .if1 .left)
+          ∙ ap (bytesOf (a .octets))
+          (text-kept (a .s .now) (a .at) (a .n) (k .start .given .1) (k .before .before .read-text .ensures .0)
+          (rowsOf bytes) refl),
+      told k,
+    )
+
+returns-3 : tie.Need-returns-3
+returns-3 c =
+    let r = c .before .before .before .before .before in
+    let a = start r .args in
+    let s = a .s .now in (
+      c .long-bytes .ensures .0 ∙ ap (λ (l : List ℕ). bytesIn (a .octets) l (a .at) (a .n)) (take-length s),
+      or-then (a .padded .now) (textPadded s (a .at) (a .n)) (partPadded s (a .at) (a .n)) (r .read-text .ensures .1)
+          (c .long-bytes .ensures .1
+          ∙ or-same (r .read-text .last .1 .1 .1 .0)
+          (ap (λ (l : List ℕ). partPadded l (a .at) (a .n)) (take-length s)))
+          (text-absorbed s (a .at) (a .n)),
+    )
 
 pub read-bytes-spec : {M : Type 1} → statement M
 read-bytes-spec = tie.close (tie.spec (λ c κs. search needs) (λ c. search needs) returns returns-2 (λ c. search needs)
-    (λ c. sym (ap length (take-length (c .before .before .before .before .before .args .s .now))))
-    (λ c κs. search needs)
-    (λ c. let a = c .before .before .before .before .before .before .args in c .long-bytes .ensures ∙ ap
-    (λ (l : List ℕ). bytesIn (a .octets) l (a .at) (a .n)) (take-length (a .s .now))))
+    (λ c. sym (ap length (take-length (start (c .before .before .before) .args .s .now)))) (λ c κs. search needs)
+    returns-3)

@@ -12,11 +12,11 @@ use Rattle.args.proofs.value.read_scalar.Tie as tie
 -- where a pair is read, the bytes hold it
 module _ (f : tie.After-first) where
   abbrev start : tie.Start
-  start = f .before .before .before .before .before .before
+  start = f .before .before .before .before .before .before .before
 
   held : Held (start .args .s .now) (start .args .at) (start .args .n) (f .first .given .0 .0)
       (f .first .given .0 .1 .0) (f .first .given .0 .1 .1 .0) (f .first .given .0 .1 .1 .1 .0)
-  held = record { is = sym (f .before .before .read-pair .ensures) ∙ f .first .given .1 }
+  held = record { is = sym (f .before .before .read-pair .ensures .0) ∙ f .first .given .1 }
 
 pub read-scalar-spec : {M : Type 1} → statement M
 read-scalar-spec = tie.close (tie.spec (λ c κs. search needs)
@@ -27,16 +27,16 @@ read-scalar-spec = tie.close (tie.spec (λ c κs. search needs)
     (λ c. c .signed-argument .ensures ∙ sint-read (held (c .before .before .before)) (c .before .match2 .keys1))
     (λ c. uint-read (held (c .before .before)) (c .match2 .keys2))
     (λ c. sym (ap length (take-length (start (c .before .before .before) .args .s .now)))) (λ c κs. search needs)
-    (λ c. octets-read (held (c .before .before .before .before)) (c .before .before .match2 .keys3)
-    (c .read-bytes .ensures)) (λ c κs. search needs)
+    (λ c. octets-read (held (c .before .before .before .before .before)) (c .before .before .before .match2 .keys3)
+    (c .read-bytes .ensures .0)) (λ c κs. search needs)
     (λ c. c .double-argument .ensures ∙ double-read (held (c .before .before .before)) (c .before .match2 .keys4))
     (λ c. search needs) (λ c κs. search needs)
     (λ c. c .float-argument .ensures ∙ float-read (held (c .before .before .before)) (c .before .match2 .keys5))
     (λ c. bool-read (held (c .before .before)) (c .match2 .keys6))
     (λ c. sym (ap length (take-length (start (c .before .before .before) .args .s .now)))) (λ c κs. search needs)
-    (λ c. string-read (held (c .before .before .before .before)) (c .before .before .match2 .keys7)
-    (c .read-bytes2 .ensures)) (λ c. search needs)
-    (λ c. sym (ap length (take-length (c .before .before .before .before .before .before .args .s .now))))
+    (λ c. string-read (held (c .before .before .before .before .before)) (c .before .before .before .match2 .keys7)
+    (c .read-bytes2 .ensures .0)) (λ c. search needs)
+    (λ c. sym (ap length (take-length (c .before .before .before .before .before .before .before .args .s .now))))
     (λ c κs. search needs)
-    (λ c. let a = c .before .before .before .before .before .before .before .args in long-scalar-read (a .s .now)
-    (a .at) (a .n) (c .long-scalar .ensures)))
+    (λ c. let a = c .before .before .before .before .before .before .before .before .before .args in long-scalar-read
+    (a .s .now) (a .at) (a .n) (c .long-scalar .ensures .0)))

@@ -2,12 +2,15 @@
 use Prim.Native.Nat.{ℕ}
 use mathlib.Core.Bool.{true}
 use mathlib.Core.Path.{_≡_, refl, sym, ap, _∙_}
+use Rattle.prelude.proofs.OrLaws.{or-none, or-same}
 use Rattle.layout.specs.private.Arrays.{fromArrays}
 use Rattle.layout.specs.declared.slots.Slots.{Slots}
 use Rattle.args.specs.Part.{valueOf, low32}
 use Rattle.args.specs.Value.{ofType, scalarOf}
+use Rattle.args.specs.Padded.{bytesPadded, insideScalar}
 use Rattle.args.proofs.ValueLaws.{scalar-good, type-none}
 use Rattle.args.proofs.ArrayLaws.{seen-needed}
+use Rattle.args.proofs.InsideLaws.{bytes-none, scalar-by-type}
 use borrow.Author.Needs.{needs}
 use Rattle.args.proofs.value.scalar_value.Statement.{statement}
 use Rattle.args.proofs.value.scalar_value.Tie as tie
@@ -20,13 +23,22 @@ module _ (st : tie.Start) where
   by : (t : ℕ) → low32 (valueOf slots 1) ≡ t → ofType (st .args .s .now) slots t ≡ scalarOf (st .args .s .now) slots
   by t e = ap (ofType (st .args .s .now) slots) (sym e) ∙ scalar-good (st .args .s .now) slots refl
 
+  -- and whether anything inside is padded
+  flag : (t : ℕ) → low32 (valueOf slots 1) ≡ t →
+      insideScalar (st .args .s .now) slots ≡ bytesPadded (st .args .s .now) slots t
+  flag t e = sym (scalar-by-type (st .args .s .now) slots refl t e)
+
 returns-9 : tie.Need-returns-9
 returns-9 c =
     let st = c .before .before .before in
-    let m = c .match in
-    type-none (st .args .s .now) (slots st) _ (m .rest .0 .0 .0 .0 .0 .0 .0 .1) (m .rest .0 .0 .0 .0 .0 .0 .1)
-    (m .rest .0 .0 .0 .0 .0 .1) (m .rest .0 .0 .0 .0 .1) (m .rest .0 .0 .0 .1) (m .rest .0 .0 .1) (m .rest .0 .1)
-    (m .rest .1) ∙ by st _ refl
+    let m = c .match in (
+      type-none (st .args .s .now) (slots st) _ (m .rest .0 .0 .0 .0 .0 .0 .0 .1) (m .rest .0 .0 .0 .0 .0 .0 .1)
+          (m .rest .0 .0 .0 .0 .0 .1) (m .rest .0 .0 .0 .0 .1) (m .rest .0 .0 .0 .1) (m .rest .0 .0 .1) (m .rest .0 .1)
+          (m .rest .1) ∙ by st _ refl,
+      or-none (st .args .padded .now)
+          (flag st _ refl
+          ∙ bytes-none (st .args .s .now) (slots st) _ (m .rest .0 .0 .0 .0 .1) (m .rest .1)),
+    )
 
 pub scalar-value-spec : {M : Type 1} → statement M
 unfolding ofType
@@ -37,23 +49,47 @@ scalar-value-spec = tie.close (tie.spec (λ c. search needs) (λ c. search needs
     (λ c. search needs) (λ c. search needs) (λ c κs. search needs) (λ c κs. search needs) (λ c. search needs)
     (λ c. search needs) (λ c κs. search needs) (λ c. search needs) (λ c. search needs) (λ c. search needs)
     (λ c κs. search needs) (λ c κs. search needs)
-    (λ c. let st = c .before .before .before .before .before .before .before in seen-needed (st .args .seen .now) 2
-    (c .needed .ensures) (c .before .signed-argument .ensures) ∙ by st 1
-    (c .before .before .before .before .match .keys1))
-    (λ c. let st = c .before .before .before .before .before .before in seen-needed (st .args .seen .now) 3
-    (c .needed2 .ensures) refl ∙ by st 2 (c .before .before .before .match .keys2))
-    (λ c. by (c .before .before .before) 3 (c .match .keys3))
-    (λ c. let st = c .before .before .before .before .before .before .before .before in seen-needed
-    (st .args .seen .now) 5 (c .needed3 .ensures) (c .before .long-bytes .ensures) ∙ by st 4
-    (c .before .before .before .before .before .match .keys4))
-    (λ c. let st = c .before .before .before .before .before .before .before in seen-needed (st .args .seen .now) 6
-    (c .needed4 .ensures) (c .before .double-argument .ensures) ∙ by st 5
-    (c .before .before .before .before .match .keys5))
-    (λ c. let st = c .before .before .before .before .before .before .before in seen-needed (st .args .seen .now) 7
-    (c .needed5 .ensures) (c .before .float-argument .ensures) ∙ by st 6
-    (c .before .before .before .before .match .keys6))
-    (λ c. let st = c .before .before .before .before .before .before in seen-needed (st .args .seen .now) 8
-    (c .needed6 .ensures) refl ∙ by st 7 (c .before .before .before .match .keys7))
-    (λ c. let st = c .before .before .before .before .before .before .before .before in seen-needed
-    (st .args .seen .now) 9 (c .needed7 .ensures) (c .before .long-bytes2 .ensures) ∙ by st 8
-    (c .before .before .before .before .before .match .keys8)) returns-9)
+    (λ c. let k = c .before .before .before .before in let st = k .before .before .before in (
+      seen-needed
+          (st .args .seen .now) 2 (c .needed .ensures) (c .before .signed-argument .ensures) ∙ by st 1 (k .match .keys1),
+      or-none (st .args .padded .now) (flag st 1 (k .match .keys1)),
+    ))
+    (λ c. let k = c .before .before .before in let st = k .before .before .before in (
+      seen-needed
+          (st .args .seen .now) 3 (c .needed2 .ensures) refl ∙ by st 2 (k .match .keys2),
+      or-none (st .args .padded .now)
+          (flag st 2 (k .match .keys2)),
+    ))
+    (λ c. let st = c .before .before .before in (
+      by st 3 (c .match .keys3),
+      or-none (st .args .padded .now)
+          (flag st 3 (c .match .keys3)),
+    ))
+    (λ c. let k = c .before .before .before .before .before .before in let st = k .before .before .before in (
+      seen-needed (st .args .seen .now) 5 (c .needed3 .ensures) (c .before .long-bytes .ensures .0) ∙ by st 4
+          (k .match .keys4),
+      c .before .long-bytes .ensures .1 ∙ or-same (st .args .padded .now)
+          (sym (flag st 4 (k .match .keys4))),
+    ))
+    (λ c. let k = c .before .before .before .before in let st = k .before .before .before in (
+      seen-needed
+          (st .args .seen .now) 6 (c .needed4 .ensures) (c .before .double-argument .ensures) ∙ by st 5 (k .match .keys5),
+      or-none (st .args .padded .now) (flag st 5 (k .match .keys5)),
+    ))
+    (λ c. let k = c .before .before .before .before in let st = k .before .before .before in (
+      seen-needed
+          (st .args .seen .now) 7 (c .needed5 .ensures) (c .before .float-argument .ensures) ∙ by st 6 (k .match .keys6),
+      or-none (st .args .padded .now) (flag st 6 (k .match .keys6)),
+    ))
+    (λ c. let k = c .before .before .before in let st = k .before .before .before in (
+      seen-needed
+          (st .args .seen .now) 8 (c .needed6 .ensures) refl ∙ by st 7 (k .match .keys7),
+      or-none (st .args .padded .now)
+          (flag st 7 (k .match .keys7)),
+    ))
+    (λ c. let k = c .before .before .before .before .before .before in let st = k .before .before .before in (
+      seen-needed (st .args .seen .now) 9 (c .needed7 .ensures) (c .before .long-bytes2 .ensures .0) ∙ by st 8
+          (k .match .keys8),
+      c .before .long-bytes2 .ensures .1 ∙ or-same (st .args .padded .now)
+          (sym (flag st 8 (k .match .keys8))),
+    )) returns-9)

@@ -15,8 +15,7 @@ use Rattle.layout.proofs.fields.fill_fields.Tie as tie
 
 returns : tie.Need-returns
 returns c =
-    let a = c .before .before .before .before .before .before .args in
-    (
+    let a = c .before .before .before .before .before .before .args in (
       holds-outside (a .rows .now) (a .s .now) (a .from) (a .end) (c .if1 .taken) (c .before .clear .ensures),
       or-none (a .padded .now) (padded-outside (a .s .now) (a .from) (a .end) (c .if1 .taken)),
     )
@@ -41,8 +40,7 @@ returns-2 : tie.Need-returns-2
 returns-2 c =
     let t = c .before .before .before .before in
     let l = t .before in
-    let a = start l .args in
-    (
+    let a = start l .args in (
       holds-bad (a .rows .now) (a .s .now) (a .from) (a .end) (within l .if1 .left) (l .list-fields .ensures .0)
           (not-true _ (t .if2 .taken)) (c .clear2 .ensures),
       told l,
@@ -54,8 +52,7 @@ returns-3 c =
     let h = t .before in
     let e = h .before .before .before in
     let l = e .before in
-    let a = start l .args in
-    (
+    let a = start l .args in (
       holds-missing (a .rows .now) (a .s .now) (a .from) (a .end) (within l .if1 .left) (l .list-fields .ensures .0)
           (not-false _ (e .if2 .left)) (sym (h .has-required .ensures) ∙ not-true _ (t .if3 .taken))
           (c .clear3 .ensures),
@@ -67,8 +64,7 @@ returns-4 c =
     let h = c .before in
     let e = h .before .before .before in
     let l = e .before in
-    let a = start l .args in
-    (
+    let a = start l .args in (
       holds-good (a .rows .now) (a .s .now) (a .from) (a .end) (within l .if1 .left) (l .list-fields .ensures .0)
           (not-false _ (e .if2 .left)) (sym (h .has-required .ensures) ∙ not-false _ (c .if3 .left)),
       told l,

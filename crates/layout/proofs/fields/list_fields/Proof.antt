@@ -71,31 +71,45 @@ returns : tie.Need-returns Inv-loop μ-loop
 returns c =
     let r = c .before .before in
     let t = r .before .before in
-    let bad = read r (c .enum-told .given .1) in
-    (
+    let bad = read r (c .enum-told .given .1) in (
       spoiled (t .before .loop .inv .0) (t .loop-test .taken) bad,
       marks-bad (t .before .loop .inv .1) (t .loop-test .taken) bad refl (r .read-field .ensures .1),
     )
 
 pub list-fields-spec : {M : Type 1} → statement M
 list-fields-spec = tie.close (tie.spec Inv-loop μ-loop
-    (λ c. let a = c .before .args in (filling (a .rows .now) (a .s .now) (a .from) (c .before .pre), marks nothingInside
-    (a .s .now) (a .from) (a .padded .now))) (λ c κs. tt) (λ c. search needs) (λ c. search needs) returns
+    (λ c. let a = c .before .args in (
+      filling (a .rows .now) (a .s .now) (a .from) (c .before .pre),
+      marks nothingInside
+          (a .s .now) (a .from) (a .padded .now),
+    )) (λ c κs. tt) (λ c. search needs) (λ c. search needs) returns
     (λ c κs. field-number (start (c .before .before .before) .args .s .now) _
     (read (c .before .before .before) (c .before .number .given .1))) (λ c. search needs)
     (λ c. search needs) (λ c. counted-in c) (λ c. search needs) (λ c. kept-in c) (λ c. omega (arith, kept-in c))
     (λ c. kept-in c) (λ c. omega (arith, kept-in c)) (λ c. kept-in c)
     (λ c. let w = onward (c .before .before .before .before) in omega (arith, w .0, w .1))
-    (λ c. let f = c .before .before .before .before in let t = f .before .before .before .before in (fills-unknown
-    (t .before .loop .inv .0) (t .loop-test .taken) (read (f .before .before) (f .number .given .1))
-    (sym (c .enum-told2 .given .1) ∙ c .before .before .use-of .ensures), told f))
+    (λ c. let f = c .before .before .before .before in let t = f .before .before .before .before in (
+      fills-unknown
+          (t .before .loop .inv .0) (t .loop-test .taken) (read (f .before .before) (f .number .given .1))
+          (sym (c .enum-told2 .given .1) ∙ c .before .before .use-of .ensures),
+      told f,
+    ))
     (λ c. let w = onward (c .before .before .before .before) in omega (arith, w .0, w .1))
-    (λ c. let f = c .before .before .before .before in let t = f .before .before .before .before in (fills-counted
-    (t .before .loop .inv .0) (t .loop-test .taken) (read (f .before .before) (f .number .given .1))
-    (sym (c .enum-told3 .given .1) ∙ c .before .before .use-of .ensures), told f))
+    (λ c. let f = c .before .before .before .before in let t = f .before .before .before .before in (
+      fills-counted
+          (t .before .loop .inv .0) (t .loop-test .taken) (read (f .before .before) (f .number .given .1))
+          (sym (c .enum-told3 .given .1) ∙ c .before .before .use-of .ensures),
+      told f,
+    ))
     (λ c. let w = onward (c .before .before .before .before) in omega (arith, w .0, w .1))
-    (λ c. let f = c .before .before .before .before in let t = f .before .before .before .before in (fills-kept
-    (t .before .loop .inv .0) (t .loop-test .taken) (read (f .before .before) (f .number .given .1))
-    (sym (c .enum-told4 .given .1) ∙ c .before .before .use-of .ensures), told f))
-    (λ c. (filled (c .before .loop .inv .0) (c .loop-test .left), marked (c .before .loop .inv .1)
-    (c .loop-test .left))))
+    (λ c. let f = c .before .before .before .before in let t = f .before .before .before .before in (
+      fills-kept
+          (t .before .loop .inv .0) (t .loop-test .taken) (read (f .before .before) (f .number .given .1))
+          (sym (c .enum-told4 .given .1) ∙ c .before .before .use-of .ensures),
+      told f,
+    ))
+    (λ c. (
+      filled (c .before .loop .inv .0) (c .loop-test .left),
+      marked (c .before .loop .inv .1)
+          (c .loop-test .left),
+    )))

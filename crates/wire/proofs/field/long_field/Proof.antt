@@ -41,8 +41,7 @@ returns c =
     let k = n .before .before in
     let a = start k .args in
     let s = a .s .now in
-    let f = n .number .given in
-    (
+    let f = n .number .given in (
       c .tagged .ensures .0
           ∙ ap (λ (l : List ℕ). fieldOf l (f .0 .0) (f .0 .1 .0) (f .0 .1 .1 .0)) (take-length s)
           ∙ sym (field-tagged s (a .at) _ (tag-read k (f .1))),
@@ -57,8 +56,7 @@ returns-2 : tie.Need-returns-2
 returns-2 c =
     let k = c .before .before in
     let a = start k .args in
-    let s = a .s .now in
-    (
+    let s = a .s .now in (
       sym (field-tagged s (a .at) _ (tag-read k (c .enum-told .given .1))),
       tag-told k
           ∙ or-same (a .padded .now)

@@ -17,8 +17,7 @@ use Rattle.wire.proofs.field.read_field.Tie as tie
 
 returns : tie.Need-returns
 returns c =
-    let a = c .before .before .args in
-    (
+    let a = c .before .before .args in (
       quick-none (a .s .now) (a .at) (c .if1 .taken),
       or-none (a .padded .now) (quick-flag-none (a .s .now) (a .at) (c .if1 .taken)),
     )
@@ -31,8 +30,7 @@ returns-2 c =
     let w = c .before in
     let a = start w .args in
     let b = w .wide in
-    let inside = w .before .before .if1 .left in
-    (
+    let inside = w .before .before .if1 .left in (
       quick-low (a .s .now) (a .at) (b .result) inside (b .ensures) (omega arith) (c .if2 .taken),
       or-none (a .padded .now)
           (quick-flag-low (a .s .now) (a .at) (b .result) inside (b .ensures) (omega arith) (c .if2 .taken)),
@@ -45,8 +43,7 @@ returns-3 c =
     let w = h .before .before in
     let a = start w .args in
     let b = w .wide in
-    let inside = w .before .before .if1 .left in
-    (
+    let inside = w .before .before .if1 .left in (
       c .valued .ensures
           ∙ ap (ofValue (b .result / 8) 0) (c .before .number-value .ensures .0)
           ∙ quick-wire (a .s .now) (a .at) (b .result) inside (b .ensures) (h .if3 .taken) 0 (h .before .if2 .left)
@@ -64,8 +61,7 @@ returns-4 c =
     let w = h .before .before in
     let a = start w .args in
     let b = w .wide in
-    let inside = w .before .before .if1 .left in
-    (
+    let inside = w .before .before .if1 .left in (
       c .valued2 .ensures
           ∙ ap (ofValue (b .result / 8) 2) (c .before .length-value .ensures .0)
           ∙ quick-wire (a .s .now) (a .at) (b .result) inside (b .ensures) (h .if3 .taken) 2 (h .before .if2 .left)
@@ -79,8 +75,7 @@ returns-4 c =
 returns-5 : tie.Need-returns-5
 returns-5 c =
     let a = start (c .before .before .before .before .before) .args in
-    let whole = take-length (a .s .now) in
-    (
+    let whole = take-length (a .s .now) in (
       c .long-field .ensures .0 ∙ ap (λ (l : List ℕ). fieldAt l (a .at)) whole,
       c .long-field .ensures .1 ∙ or-same (a .padded .now) (ap (λ (l : List ℕ). fieldPadded l (a .at)) whole),
     )

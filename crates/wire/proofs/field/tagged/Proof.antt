@@ -16,8 +16,7 @@ returns : tie.Need-returns
 returns c =
     let k = c .before .before .before in
     let t = k .before .before in
-    let a = t .before .before .args in
-    (
+    let a = t .before .before .args in (
       ap (ofGroup (a .n) (a .at)) (sym (c .before .next .given .1) ∙ k .skip-group .ensures)
           ∙ field-group (a .s .now) (a .n) (a .wire) (a .at) (t .if1 .taken),
       or-none (a .padded .now) (group-flag (a .s .now) (a .wire) (a .at) (t .if1 .taken)),
@@ -27,8 +26,7 @@ returns-2 : tie.Need-returns-2
 returns-2 c =
     let k = c .before .before in
     let t = k .before .before in
-    let a = t .before .before .args in
-    (
+    let a = t .before .before .args in (
       ap (ofGroup (a .n) (a .at)) (sym (c .enum-told .given .1) ∙ k .skip-group .ensures)
           ∙ field-group (a .s .now) (a .n) (a .wire) (a .at) (t .if1 .taken),
       or-none (a .padded .now) (group-flag (a .s .now) (a .wire) (a .at) (t .if1 .taken)),
@@ -38,8 +36,7 @@ returns-3 : tie.Need-returns-3
 returns-3 c =
     let t = c .before .before .before in
     let a = t .before .before .before .args in
-    let w = t .if2 .taken in
-    (
+    let w = t .if2 .taken in (
       c .valued .ensures
           ∙ ap (ofValue (a .n) 0) (c .before .number-value .ensures .0 ∙ value-number (a .s .now) (a .wire) (a .at) w)
           ∙ ap (λ (k : ℕ). ofValue (a .n) k (valueAt (a .s .now) (a .wire) (a .at))) (sym w)
@@ -50,8 +47,7 @@ returns-3 c =
 returns-4 : tie.Need-returns-4
 returns-4 c =
     let e = c .before .before .before in
-    let a = e .before .before .before .args in
-    (
+    let a = e .before .before .before .args in (
       c .valued2 .ensures
           ∙ ap (ofValue (a .n) (a .wire)) (c .before .read-value .ensures .0)
           ∙ field-value (a .s .now) (a .n) (a .wire) (a .at) (e .before .if1 .left),

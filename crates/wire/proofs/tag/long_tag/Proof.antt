@@ -21,8 +21,7 @@ returns-2 c =
 returns-3 : tie.Need-returns-3
 returns-3 c =
     let k = c .before .before .before .before in
-    let r = k .before .before .read-behind .ensures in
-    (
+    let r = k .before .before .read-behind .ensures in (
       tag-unlisted _ _ (c .before .before .if1 .left) (c .before .if2 .left) (c .if3 .taken)
           ∙ ap tagOf (sym (k .value .given .1) ∙ r .0),
       r .1,
@@ -36,8 +35,7 @@ returns-4 c =
 returns-5 : tie.Need-returns-5
 returns-5 c =
     let k = c .before .before .before .before in
-    let r = k .before .before .read-behind .ensures in
-    (
+    let r = k .before .before .read-behind .ensures in (
       tag-good _ _ (c .before .before .if1 .left) (c .before .if2 .left) (c .if3 .left)
           ∙ ap tagOf (sym (k .value .given .1) ∙ r .0),
       r .1,

@@ -15,8 +15,7 @@ use Rattle.wire.proofs.tag.read_tag.Tie as tie
 
 returns : tie.Need-returns
 returns c =
-    let a = c .before .before .args in
-    (
+    let a = c .before .before .args in (
       tag-none (a .s .now) (a .at) (c .if1 .taken),
       or-none (a .padded .now) (padded-none (a .s .now) (a .at) (c .if1 .taken)),
     )
@@ -28,8 +27,7 @@ returns-2 c =
     let a = w .before .before .before .before .args in
     let s = a .s .now in
     let inside = w .before .before .if1 .left in
-    let more : 128 ≤ getD s (a .at) 0 = rw (w .wide .ensures) at (t .if2 .taken) in
-    (
+    let more : 128 ≤ getD s (a .at) 0 = rw (w .wide .ensures) at (t .if2 .taken) in (
       c .long-tag .ensures .0 ∙ ap tagOf (behind-answer s (a .at) inside more (take-length s)),
       c .long-tag .ensures .1 more ∙ or-same (a .padded .now) (behind-flag s (a .at) inside more (take-length s)),
     )
@@ -42,8 +40,7 @@ returns-3 c =
     let e = c .before in
     let a = start e .args in
     let b = e .before .wide in
-    let inside = e .before .before .before .if1 .left in
-    (
+    let inside = e .before .before .before .if1 .left in (
       short-low (a .s .now) (a .at) (b .result) inside (b .ensures) (e .if2 .left) (c .if3 .taken),
       or-none (a .padded .now) (one-flag (a .s .now) (a .at) (b .result) inside (b .ensures) (e .if2 .left)),
     )
@@ -53,8 +50,7 @@ returns-4 c =
     let e = c .before .before in
     let a = start e .args in
     let b = e .before .wide in
-    let inside = e .before .before .before .if1 .left in
-    (
+    let inside = e .before .before .before .if1 .left in (
       short-unlisted (a .s .now) (a .at) (b .result) inside (b .ensures) (e .if2 .left) (c .before .if3 .left)
           (c .if4 .taken),
       or-none (a .padded .now) (one-flag (a .s .now) (a .at) (b .result) inside (b .ensures) (e .if2 .left)),
@@ -65,8 +61,7 @@ returns-5 c =
     let e = c .before .before in
     let a = start e .args in
     let b = e .before .wide in
-    let inside = e .before .before .before .if1 .left in
-    (
+    let inside = e .before .before .before .if1 .left in (
       short-good (a .s .now) (a .at) (b .result) inside (b .ensures) (e .if2 .left) (c .before .if3 .left)
           (c .if4 .left),
       or-none (a .padded .now) (one-flag (a .s .now) (a .at) (b .result) inside (b .ensures) (e .if2 .left)),

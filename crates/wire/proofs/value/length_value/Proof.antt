@@ -10,8 +10,7 @@ use Rattle.wire.proofs.value.length_value.Tie as tie
 returns : tie.Need-returns
 returns c =
     let r = c .before .before .before .before in
-    let s = r .before .before .before .args .s .now in
-    (
+    let s = r .before .before .before .args .s .now in (
       length-long s _ _ (c .if1 .taken) ∙ ap (ofLength s)
           (sym (c .before .before .value .given .1) ∙ r .read-varint .ensures .0),
       r .read-varint .ensures .1,
@@ -20,8 +19,7 @@ returns c =
 returns-2 : tie.Need-returns-2
 returns-2 c =
     let r = c .before .before .before .before in
-    let s = r .before .before .before .args .s .now in
-    (
+    let s = r .before .before .before .args .s .now in (
       length-good s _ _ (c .if1 .left) ∙ ap (ofLength s)
           (sym (c .before .before .value .given .1) ∙ r .read-varint .ensures .0),
       r .read-varint .ensures .1,
@@ -29,8 +27,7 @@ returns-2 c =
 
 returns-3 : tie.Need-returns-3
 returns-3 c =
-    let r = c .before .before in
-    (
+    let r = c .before .before in (
       ap (ofLength (r .before .before .before .args .s .now)) (sym (c .enum-told .given .1) ∙ r .read-varint .ensures .0),
       r .read-varint .ensures .1,
     )

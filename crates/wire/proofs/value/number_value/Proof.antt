@@ -9,16 +9,14 @@ use Rattle.wire.proofs.value.number_value.Tie as tie
 
 returns : tie.Need-returns
 returns c =
-    let r = c .before .before .before in
-    (
+    let r = c .before .before .before in (
       ap (ofVarint (r .before .before .before .args .at)) (sym (c .before .value .given .1) ∙ r .read-varint .ensures .0),
       r .read-varint .ensures .1,
     )
 
 returns-2 : tie.Need-returns-2
 returns-2 c =
-    let r = c .before .before in
-    (
+    let r = c .before .before in (
       ap (ofVarint (r .before .before .before .args .at)) (sym (c .enum-told .given .1) ∙ r .read-varint .ensures .0),
       r .read-varint .ensures .1,
     )

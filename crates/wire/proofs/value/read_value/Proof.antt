@@ -12,8 +12,7 @@ use Rattle.wire.proofs.value.read_value.Tie as tie
 returns : tie.Need-returns
 returns c =
     let t = c .before .before in
-    let a = t .before .before .args in
-    (
+    let a = t .before .before .args in (
       c .number-value .ensures .0 ∙ value-number _ _ _ (t .if1 .taken),
       c .number-value .ensures .1 ∙ or-same (a .padded .now) (number-flag (a .s .now) (a .wire) (a .at) (t .if1 .taken)),
     )
@@ -21,8 +20,7 @@ returns c =
 returns-2 : tie.Need-returns-2
 returns-2 c =
     let t = c .before .before in
-    let a = t .before .before .before .args in
-    (
+    let a = t .before .before .before .args in (
       c .fixed-value .ensures
           ∙ ap (ofFixed 8 (a .at)) (c .before .read-fixed64 .ensures)
           ∙ value-eight _ _ _ (t .before .if1 .left) (t .if2 .taken),
@@ -33,8 +31,7 @@ returns-2 c =
 returns-3 : tie.Need-returns-3
 returns-3 c =
     let t = c .before .before in
-    let a = t .before .before .before .before .args in
-    (
+    let a = t .before .before .before .before .args in (
       c .length-value .ensures .0
           ∙ value-length _ _ _ (t .before .before .if1 .left) (t .before .if2 .left) (t .if3 .taken),
       c .length-value .ensures .1 ∙ or-same (a .padded .now) (length-flag (a .s .now) (a .wire) (a .at) (t .if3 .taken)),
@@ -44,8 +41,7 @@ returns-4 : tie.Need-returns-4
 returns-4 c =
     let t = c .before .before in
     let a = t .before .before .before .before .before .args in
-    let zero = t .before .before .before .if1 .left in
-    (
+    let zero = t .before .before .before .if1 .left in (
       c .fixed-value2 .ensures
           ∙ ap (ofFixed 4 (a .at)) (c .before .read-fixed32 .ensures)
           ∙ value-four _ _ _ zero (t .before .before .if2 .left) (t .before .if3 .left) (t .if4 .taken),
@@ -55,8 +51,7 @@ returns-4 c =
 returns-5 : tie.Need-returns-5
 returns-5 c =
     let a = c .before .before .before .before .before .args in
-    let zero = c .before .before .before .if1 .left in
-    (
+    let zero = c .before .before .before .if1 .left in (
       value-none _ _ _ zero (c .before .before .if2 .left) (c .before .if3 .left) (c .if4 .left),
       or-none (a .padded .now) (no-flag (a .s .now) (a .wire) (a .at) zero (c .before .if3 .left)),
     )
