@@ -83,7 +83,7 @@ module _ (s : List ℕ) (id : ℕ) (rows : Optional) (at n : ℕ) {g : Bool} {v 
   abbrev unopened : Frame
   unopened = Frame.BadPayload (length s) Client.open'
 
-  run-long : lenOf stmt 2 ≡ valueOf stmt 2
+  pub run-long : lenOf stmt 2 ≡ valueOf stmt 2
   unfolding rowsOf rowFor
   run-long = bytes-long-to (rowsOf openStmt) 2 refl s at (at + n)
 
@@ -107,7 +107,7 @@ module _ (s : List ℕ) {g : Bool} {v : List Bool} {w u : List ℕ}
   abbrev opened : Slots
   opened = fieldsAt (rowsOf Client.open') s payload
 
-  opened-long : lenOf opened 4 ≡ valueOf opened 4
+  pub opened-long : lenOf opened 4 ≡ valueOf opened 4
   unfolding rowsOf rowFor
   opened-long = bytes-long (rowsOf Client.open') 4 refl s payload
 
@@ -192,7 +192,7 @@ module _ (s : List ℕ) {g : Bool} {v : List Bool} {w u : List ℕ}
   abbrev prepared : Slots
   prepared = fieldsAt (rowsOf Client.prepare) s payload
 
-  prepared-long : lenOf prepared 2 ≡ valueOf prepared 2
+  pub prepared-long : lenOf prepared 2 ≡ valueOf prepared 2
   unfolding rowsOf rowFor
   prepared-long = bytes-long (rowsOf Client.prepare) 2 refl s payload
 

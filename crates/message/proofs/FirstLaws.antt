@@ -38,6 +38,8 @@ starts-at s there is {tag} {id} {end} e inside t =
     record {
       len = end - (payload + 1);
       end = end;
+      there = there;
+      id-is = is;
       one =
           sym (quick-wire s payload idTag there (sym is) (omega arith) 0 (omega arith) refl (omega arith))
           ∙ ap (λ (v : Varint). ofValue 1 0 (ofVarint (payload + 1) v)) e;

@@ -10,3 +10,4 @@ pub mod UnchosenLaws
 pub mod OuterLaws
 pub mod OneFieldLaws
 pub mod NestedLaws
+pub mod PaddedLaws

@@ -57,7 +57,7 @@ module _ {s : List ℕ} {id behind : ℕ} (b : Starts s 34 id behind) {v start l
   -- and fetch_rows
   module _ (more : next < length s) (at : getD s next 0 ≡ 40) {rows end : ℕ}
       (f : varintAt s (next + 1) ≡ Varint.Number rows end) where
-    rows-field : fieldAt s next ≡ Field.Good 5 0 rows (next + 1) (end - (next + 1)) end
+    pub rows-field : fieldAt s next ≡ Field.Good 5 0 rows (next + 1) (end - (next + 1)) end
     rows-field =
         sym (quick-wire s next 40 more (sym at) (omega arith) 0 (omega arith) refl (omega arith))
         ∙ ap (λ (x : Varint). ofValue 5 0 (ofVarint (next + 1) x)) f

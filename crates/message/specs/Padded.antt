@@ -2,9 +2,10 @@
 -- statement count, and nothing of its body; an Open's own fields, those of its statement, its Execute and the
 -- arguments. A frame that holds no request is not padded.
 use Prim.Native.Nat.{ℕ, _-_}
-use mathlib.Core.Bool.{Bool, false, _||_}
+use mathlib.Core.Bool.{Bool, false, cond, _||_}
 use mathlib.Core.List.{List}
 use lib.ListN.{length, take}
+use lib.Dec.{eqb}
 use Rattle.protocol.specs.Client as Client
 use Rattle.protocol.specs.Fields as Fields
 use Rattle.layout.specs.Table.{rowsOf, openStmt}
@@ -13,11 +14,10 @@ use Rattle.layout.specs.Padded.{listPadded}
 use Rattle.layout.specs.declared.slots.Slots.{Slots}
 use Rattle.args.specs.Part.{embedded, startOf, lenOf}
 use Rattle.args.specs.Padded.{partPadded, slotPadded, executePadded}
+use Rattle.message.specs.Head.{headOf}
 use Rattle.message.specs.Payload.{payload}
 use Rattle.message.specs.Frame.{frameOf}
-use Rattle.message.specs.declared.request.Request.{Request}
-use Rattle.message.specs.declared.request.Request.the-variants.{Reset, SessionClose, Prepare, Execute}
-use Rattle.message.specs.declared.request.Request.the-variants.{Deallocate, Open, Close, Fetch}
+use Rattle.message.specs.declared.head.Head.{Head}
 use Rattle.message.specs.declared.request.Frame.{Frame}
 use Rattle.message.specs.declared.request.Frame.the-variants.{NotAllThere, BadLength, UnknownType, BadPayload}
 use Rattle.message.specs.declared.request.Frame.the-variants.{Good}
@@ -40,24 +40,25 @@ openStmtPadded s at n = partPadded s at n || openExecutePadded s (embedded (rows
 abbrev pub openPadded : List ℕ → Slots → Bool
 openPadded s x = ownPadded s || openStmtPadded s (startOf x Fields.openStmt) (lenOf x Fields.openStmt)
 
--- the frame s, whole and with nothing behind it, that holds a request
-unfoldable pub requestPadded : List ℕ → Request → Bool
-requestPadded s Reset = ownPadded s
-requestPadded s SessionClose = ownPadded s
-requestPadded s (Prepare p) = preparePadded s (fieldsAt (rowsOf Client.prepare) s payload)
-requestPadded s (Execute x) = executePadded s payload (length s - payload)
-requestPadded s (Deallocate stmt) = ownPadded s
-requestPadded s (Open o) = openPadded s (fieldsAt (rowsOf Client.open') s payload)
-requestPadded s (Close cursor) = ownPadded s
-requestPadded s (Fetch f) = ownPadded s
+-- the frame s, whole and with nothing behind it, by its message type
+unfoldable pub kindPadded : List ℕ → ℕ → Bool
+kindPadded s kind =
+    cond (eqb kind Client.prepare) (preparePadded s (fieldsAt (rowsOf Client.prepare) s payload))
+    (cond (eqb kind Client.execute) (executePadded s payload (length s - payload))
+    (cond (eqb kind Client.open') (openPadded s (fieldsAt (rowsOf Client.open') s payload)) (ownPadded s)))
 
-abbrev pub paddedIn : List ℕ → Frame → Bool
-paddedIn s NotAllThere = false
-paddedIn s BadLength = false
-paddedIn s (UnknownType used) = false
-paddedIn s (BadPayload used kind) = false
-paddedIn s (Good used q) = requestPadded (take used s) q
+-- a frame that holds no request is not padded
+abbrev pub whereGood : Frame → Bool → Bool
+whereGood NotAllThere padded = false
+whereGood BadLength padded = false
+whereGood (UnknownType used) padded = false
+whereGood (BadPayload used kind) padded = false
+whereGood (Good used q) padded = padded
+
+abbrev pub headPadded : List ℕ → Head → Bool
+headPadded s (Head.Frame kind end) = kindPadded (take end s) kind
+headPadded s (Head.Refused reason) = false
 
 -- the frame that a byte string begins with
 unfoldable pub paddedOf : List ℕ → Bool
-paddedOf s = paddedIn s (frameOf s)
+paddedOf s = whereGood (frameOf s) (headPadded s (headOf s))

@@ -1,3 +1,4 @@
 pub mod First
 pub mod Outer
 pub mod Parts
+pub mod Marks

@@ -1,9 +1,16 @@
 // Execute, and Open with the Execute in it. Where an Open's parts stand is found first, as in a Prepare.
 ghost use mathlib.Core.Path.{_≡_};
+ghost use mathlib.Core.Bool.{_||_, false};
 ghost use Prim.Native.Nat.{_-_};
 ghost use lib.ListN.{length};
+ghost use Rattle.protocol.specs.Client as Client;
+ghost use Rattle.layout.specs.Table.{rowsOf};
+ghost use Rattle.layout.specs.Fields.{fieldsAt};
+ghost use Rattle.args.specs.Padded.{executePadded};
 ghost use Rattle.message.specs.Execute.{executeFrame, executeFrom, executeIn, openFrame, openFrom, openInside};
+ghost use Rattle.message.specs.Padded.{openPadded, openStmtPadded};
 ghost use Rattle.message.specs.Payload.{optionalBy, payload};
+ghost use Rattle.message.specs.private.Marks.{Tells, TellsInner, TellsOpening};
 ghost use Rattle.message.specs.private.Parts.{Runs, executeBy, ofOpening};
 use crate::outer::Outer;
 use crate::payload::PAYLOAD;
@@ -43,10 +50,14 @@ pub enum Inner {
     Bad,
 }
 
-pub fn read_execute(s: &[u8]) -> Frame
-    ensures { λ r. ⌜ r ≡ executeFrame (now (s .entry)) ⌝ }
+pub fn read_execute(s: &[u8], padded: &mut bool) -> Frame
+    ensures answer { λ r. ⌜ r ≡ executeFrame (now (s .entry)) ⌝ }
+    ensures told { λ r. ⌜
+        Tells r (now (padded .exit)) (executePadded (now (s .entry)) payload (length (now (s .entry)) - payload))
+        ⌝ }
 {
-    execute_from(s, rest(s))
+    *padded = false;
+    execute_from(s, rest(s), padded)
 }
 
 // The bytes of the payload; none where the frame is shorter than its head.
@@ -60,10 +71,11 @@ fn rest(s: &[u8]) -> usize
 }
 
 // An Execute in the `n` bytes of the payload. Field 1, stmt_id, tells whether it is good.
-fn execute_from(s: &[u8], n: usize) -> Frame
-    ensures { λ r. ⌜ r ≡ executeFrom (now (s .entry)) (executeIn (now (s .entry)) payload n) ⌝ }
+fn execute_from(s: &[u8], n: usize, padded: &mut bool) -> Frame
+    ensures answer { λ r. ⌜ r ≡ executeFrom (now (s .entry)) (executeIn (now (s .entry)) payload n) ⌝ }
+    ensures told { λ r. ⌜ Tells r (now (padded .exit)) (now (padded .entry) || executePadded (now (s .entry)) payload n) ⌝ }
 {
-    let b = args::bound::read_bound(s, PAYLOAD, n, false);
+    let b = args::bound::read_bound(s, PAYLOAD, n, false, padded);
     if !b.hasone {
         return Frame::BadPayload {
             used: s.len(),
@@ -88,17 +100,21 @@ fn execute_of(b: Bound, start: usize, end: usize) -> Execute
     }
 }
 
-pub fn read_open(s: &[u8]) -> Frame
-    ensures { λ r. ⌜ r ≡ openFrame (now (s .entry)) ⌝ }
+pub fn read_open(s: &[u8], padded: &mut bool) -> Frame
+    ensures answer { λ r. ⌜ r ≡ openFrame (now (s .entry)) ⌝ }
+    ensures told { λ r. ⌜
+        Tells r (now (padded .exit))
+        (openPadded (now (s .entry)) (fieldsAt (rowsOf Client.open') (now (s .entry)) payload))
+        ⌝ }
 {
-    match find_opening(s) {
+    match find_opening(s, padded) {
         Opening::Of {
             id,
             start,
             len,
             has,
             rows,
-        } => open_inside(s, id, has, rows, start, len),
+        } => open_inside(s, id, has, rows, start, len, padded),
         Opening::Bad => Frame::BadPayload {
             used: s.len(),
             kind: client::OPEN,
@@ -107,11 +123,20 @@ pub fn read_open(s: &[u8]) -> Frame
 }
 
 // An Open with this cursor id and fetch_rows, and its statement in `n` bytes of s from `at` on.
-fn open_inside(s: &[u8], id: u64, has: bool, asked: u64, at: usize, n: usize) -> Frame
-    ensures { λ r. ⌜ r ≡ openInside (now (s .entry)) id (optionalBy has asked) at n ⌝ }
+fn open_inside(
+    s: &[u8],
+    id: u64,
+    has: bool,
+    asked: u64,
+    at: usize,
+    n: usize,
+    padded: &mut bool,
+) -> Frame
+    ensures answer { λ r. ⌜ r ≡ openInside (now (s .entry)) id (optionalBy has asked) at n ⌝ }
+    ensures told { λ r. ⌜ Tells r (now (padded .exit)) (now (padded .entry) || openStmtPadded (now (s .entry)) at n) ⌝ }
 {
-    match find_execute(s, at, n) {
-        Inner::At { start, len } => open_from(s, id, has, asked, start, len),
+    match find_execute(s, at, n, padded) {
+        Inner::At { start, len } => open_from(s, id, has, asked, start, len, padded),
         Inner::Bad => Frame::BadPayload {
             used: s.len(),
             kind: client::OPEN,
@@ -120,14 +145,23 @@ fn open_inside(s: &[u8], id: u64, has: bool, asked: u64, at: usize, n: usize) ->
 }
 
 // An Open with this cursor id and fetch_rows, and its Execute in `len` bytes of s from `start` on.
-fn open_from(s: &[u8], id: u64, has: bool, asked: u64, start: usize, len: usize) -> Frame
-    ensures { λ r. ⌜
+fn open_from(
+    s: &[u8],
+    id: u64,
+    has: bool,
+    asked: u64,
+    start: usize,
+    len: usize,
+    padded: &mut bool,
+) -> Frame
+    ensures answer { λ r. ⌜
         r
         ≡ openFrom (now (s .entry)) id (optionalBy has asked) (record { start = start; len = len })
         (executeIn (now (s .entry)) start len)
         ⌝ }
+    ensures told { λ r. ⌜ Tells r (now (padded .exit)) (now (padded .entry) || executePadded (now (s .entry)) start len) ⌝ }
 {
-    let b = args::bound::read_bound(s, start, len, false);
+    let b = args::bound::read_bound(s, start, len, false, padded);
     if !b.hasone {
         return Frame::BadPayload {
             used: s.len(),
@@ -147,14 +181,16 @@ fn open_from(s: &[u8], id: u64, has: bool, asked: u64, start: usize, len: usize)
 }
 
 // The long way, by the rows.
-fn long_opening(s: &[u8]) -> Opening
-    ensures { λ r. ⌜ ofOpening (now (s .entry)) r ≡ openFrame (now (s .entry)) ⌝ }
+fn long_opening(s: &[u8], padded: &mut bool) -> Opening
+    requires { ⌜ now padded ≡ false ⌝ }
+    ensures answer { λ r. ⌜ ofOpening (now (s .entry)) r ≡ openFrame (now (s .entry)) ⌝ }
+    ensures told { λ r. ⌜ TellsOpening (now (s .entry)) r (now (padded .exit)) ⌝ }
 {
     let rows = layout::rows::open_rows();
     let mut seen = [false; SLOTS];
     let mut values = [0; SLOTS];
     let mut starts = [0; SLOTS];
-    if !fill_payload(&rows, s, &mut seen, &mut values, &mut starts) {
+    if !fill_payload(&rows, s, &mut seen, &mut values, &mut starts, padded) {
         return Opening::Bad;
     }
     Opening::Of {
@@ -167,9 +203,11 @@ fn long_opening(s: &[u8]) -> Opening
 }
 
 // With the short way for its own fields.
-fn find_opening(s: &[u8]) -> Opening
-    ensures { λ r. ⌜ ofOpening (now (s .entry)) r ≡ openFrame (now (s .entry)) ⌝ }
+fn find_opening(s: &[u8], padded: &mut bool) -> Opening
+    ensures answer { λ r. ⌜ ofOpening (now (s .entry)) r ≡ openFrame (now (s .entry)) ⌝ }
+    ensures told { λ r. ⌜ TellsOpening (now (s .entry)) r (now (padded .exit)) ⌝ }
 {
+    *padded = false;
     let n = s.len();
     if let Outer::Fields {
         id,
@@ -177,7 +215,7 @@ fn find_opening(s: &[u8]) -> Opening
         len,
         has,
         rows,
-    } = crate::outer::read_outer(s) {
+    } = crate::outer::read_outer(s, padded) {
         return Opening::Of {
             id,
             start,
@@ -186,18 +224,20 @@ fn find_opening(s: &[u8]) -> Opening
             rows,
         };
     }
-    long_opening(&s[..n])
+    *padded = false;
+    long_opening(&s[..n], padded)
 }
 
 // The long way, by the rows.
-fn long_inner(s: &[u8], at: usize, n: usize) -> Inner
-    ensures { λ r. ⌜ Runs (now (s .entry)) at n r ⌝ }
+fn long_inner(s: &[u8], at: usize, n: usize, padded: &mut bool) -> Inner
+    ensures answer { λ r. ⌜ Runs (now (s .entry)) at n r ⌝ }
+    ensures told { λ r. ⌜ TellsInner (now (s .entry)) at n r (now (padded .entry)) (now (padded .exit)) ⌝ }
 {
     let rows = layout::rows::open_stmt_rows();
     let mut seen = [false; SLOTS];
     let mut values = [0; SLOTS];
     let mut starts = [0; SLOTS];
-    if !fill_part(&rows, s, at, n, &mut seen, &mut values, &mut starts) {
+    if !fill_part(&rows, s, at, n, &mut seen, &mut values, &mut starts, padded) {
         return Inner::Bad;
     }
     if !seen[fields::OPEN_EXECUTE] {
@@ -213,8 +253,9 @@ fn long_inner(s: &[u8], at: usize, n: usize) -> Inner
 const CHOSEN_EXECUTE: u64 = fields::OPEN_EXECUTE as u64 * 8 + wire_type::LEN;
 
 // The statement in `n` bytes of s from `at` on, with a short way for one of two fields, its type and its Execute.
-fn find_execute(s: &[u8], at: usize, n: usize) -> Inner
-    ensures { λ r. ⌜ Runs (now (s .entry)) at n r ⌝ }
+fn find_execute(s: &[u8], at: usize, n: usize, padded: &mut bool) -> Inner
+    ensures answer { λ r. ⌜ Runs (now (s .entry)) at n r ⌝ }
+    ensures told { λ r. ⌜ TellsInner (now (s .entry)) at n r (now (padded .entry)) (now (padded .exit)) ⌝ }
 {
     let all = s.len();
     if let Pair::Two {
@@ -222,7 +263,7 @@ fn find_execute(s: &[u8], at: usize, n: usize) -> Inner
         tag,
         value,
         start,
-    } = args::pair::read_pair(s, at, n) {
+    } = args::pair::read_pair(s, at, n, padded) {
         if first * 256 + tag == CHOSEN_EXECUTE {
             return Inner::At {
                 start,
@@ -230,5 +271,5 @@ fn find_execute(s: &[u8], at: usize, n: usize) -> Inner
             };
         }
     }
-    long_inner(&s[..all], at, n)
+    long_inner(&s[..all], at, n, padded)
 }

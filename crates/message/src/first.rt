@@ -2,6 +2,7 @@
 // mostly follows it. Like args `Pair` it fills no arrays and looks up no rows.
 ghost use mathlib.Core.Path.{_≡_};
 ghost use Rattle.message.specs.private.First.{Begins};
+ghost use Rattle.message.specs.private.Marks.{TellsFirst};
 use crate::payload::PAYLOAD;
 use protocol::fields;
 use protocol::wire_type;
@@ -16,8 +17,9 @@ pub enum First {
 const ID_TAG: u8 = (fields::ID as u64 * 8 + wire_type::VARINT) as u8;
 
 // The id where this tag follows it.
-pub fn read_first(s: &[u8], tag: u8) -> First
-    ensures { λ r. ⌜ Begins (now (s .entry)) tag r ⌝ }
+pub fn read_first(s: &[u8], tag: u8, padded: &mut bool) -> First
+    ensures answer { λ r. ⌜ Begins (now (s .entry)) tag r ⌝ }
+    ensures told { λ r. ⌜ TellsFirst (now (s .entry)) r (now (padded .entry)) (now (padded .exit)) ⌝ }
 {
     let n = s.len();
     if n <= PAYLOAD {
@@ -26,7 +28,7 @@ pub fn read_first(s: &[u8], tag: u8) -> First
     if s[PAYLOAD] != ID_TAG {
         return First::Other;
     }
-    let Varint::Number { value, next } = varint::read_short(s, PAYLOAD + 1) else {
+    let Varint::Number { value, next } = varint::read_short(s, PAYLOAD + 1, padded) else {
         return First::Other;
     };
     if n <= next {

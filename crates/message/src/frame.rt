@@ -2,6 +2,8 @@
 ghost use mathlib.Core.Path.{_≡_};
 ghost use Prim.Native.Nat.{_+_};
 ghost use lib.ListN.{length};
+ghost use Rattle.message.specs.Padded.{kindPadded, paddedOf};
+ghost use Rattle.message.specs.private.Marks.{Tells};
 ghost use Rattle.message.specs.Frame.{argumentOf, bodyOf, chosenPart, frameIn, frameOf, refusedHead};
 use crate::head::Head;
 use crate::request::Frame;
@@ -12,18 +14,19 @@ use scalar::argument::Argument;
 use varint::wide;
 
 // The frame s, whole and with nothing behind it, by its message type.
-fn read_kind(s: &[u8], kind: u64) -> Frame
-    ensures { λ r. ⌜ r ≡ frameIn (now (s .entry)) kind ⌝ }
+fn read_kind(s: &[u8], kind: u64, padded: &mut bool) -> Frame
+    ensures answer { λ r. ⌜ r ≡ frameIn (now (s .entry)) kind ⌝ }
+    ensures told { λ r. ⌜ Tells r (now (padded .exit)) (kindPadded (now (s .entry)) kind) ⌝ }
 {
     match kind {
-        client::RESET => crate::simple::read_reset(s),
-        client::SESSION_CLOSE => crate::simple::read_session_close(s),
-        client::PREPARE => crate::prepare::read_prepare(s),
-        client::EXECUTE => crate::execute::read_execute(s),
-        client::DEALLOCATE => crate::simple::read_deallocate(s),
-        client::OPEN => crate::execute::read_open(s),
-        client::CLOSE => crate::simple::read_close(s),
-        client::FETCH => crate::simple::read_fetch(s),
+        client::RESET => crate::simple::read_reset(s, padded),
+        client::SESSION_CLOSE => crate::simple::read_session_close(s, padded),
+        client::PREPARE => crate::prepare::read_prepare(s, padded),
+        client::EXECUTE => crate::execute::read_execute(s, padded),
+        client::DEALLOCATE => crate::simple::read_deallocate(s, padded),
+        client::OPEN => crate::execute::read_open(s, padded),
+        client::CLOSE => crate::simple::read_close(s, padded),
+        client::FETCH => crate::simple::read_fetch(s, padded),
         _ => Frame::UnknownType { used: s.len() },
     }
 }
@@ -38,12 +41,14 @@ fn refused_head(reason: u64) -> Frame
     Frame::NotAllThere
 }
 
-// The frame that a byte string begins with; bytes past it are not read.
-pub fn read_frame(s: &[u8]) -> Frame
-    ensures { λ r. ⌜ r ≡ frameOf (now (s .entry)) ⌝ }
+// The frame that a byte string begins with; bytes past it are not read. Where it holds a request the flag says whether a
+// varint that was read in its payload is padded, whatever it said before; else nothing is said of it.
+pub fn read_frame(s: &[u8], padded: &mut bool) -> Frame
+    ensures answer { λ r. ⌜ r ≡ frameOf (now (s .entry)) ⌝ }
+    ensures told { λ r. ⌜ Tells r (now (padded .exit)) (paddedOf (now (s .entry))) ⌝ }
 {
     match crate::head::read_head(s) {
-        Head::Frame { kind, end } => read_kind(&s[..end], wide(kind)),
+        Head::Frame { kind, end } => read_kind(&s[..end], wide(kind), padded),
         Head::Refused(reason) => refused_head(reason),
     }
 }
@@ -53,7 +58,8 @@ pub fn read_frame(s: &[u8]) -> Frame
 pub fn chosen_part(s: &[u8]) -> Part
     ensures { λ r. ⌜ r ≡ chosenPart (now (s .entry)) ⌝ }
 {
-    match read_frame(s) {
+    let mut unread = false;
+    match read_frame(s, &mut unread) {
         Frame::NotAllThere => Part { start: 0, len: 0 },
         Frame::BadLength => Part { start: 0, len: 0 },
         Frame::UnknownType { used: _ } => Part { start: 0, len: 0 },
@@ -81,7 +87,8 @@ pub fn chosen_body(s: &[u8]) -> &[u8]
 pub fn argument(s: &[u8], index: usize) -> Argument
     ensures { λ r. ⌜ r ≡ argumentOf (now (s .entry)) index ⌝ }
 {
-    match read_frame(s) {
+    let mut unread = false;
+    match read_frame(s, &mut unread) {
         Frame::NotAllThere => Argument::Refused(reason::NOT_ALL_THERE),
         Frame::BadLength => Argument::Refused(reason::BAD_LENGTH),
         Frame::UnknownType { used: _ } => Argument::Refused(reason::UNKNOWN_TYPE),

@@ -2,6 +2,7 @@
 // where it is there. Like args `Pair` it fills no arrays and looks up no rows.
 ghost use mathlib.Core.Path.{_≡_};
 ghost use Rattle.message.specs.declared.outer.Outer.the-variants.{Fields};
+ghost use Rattle.message.specs.private.Marks.{TellsOuter};
 ghost use Rattle.message.specs.private.Outer.{Says};
 use crate::first::First;
 use protocol::fields;
@@ -40,10 +41,11 @@ fn fields(id: u64, start: usize, len: usize, has: bool, rows: u64) -> Outer
     }
 }
 
-pub fn read_outer(s: &[u8]) -> Outer
-    ensures { λ r. ⌜ Says (now (s .entry)) r ⌝ }
+pub fn read_outer(s: &[u8], padded: &mut bool) -> Outer
+    ensures answer { λ r. ⌜ Says (now (s .entry)) r ⌝ }
+    ensures told { λ r. ⌜ TellsOuter (now (s .entry)) r (now (padded .entry)) (now (padded .exit)) ⌝ }
 {
-    let First::At { id, next: behind } = crate::first::read_first(s, STMT_TAG) else {
+    let First::At { id, next: behind } = crate::first::read_first(s, STMT_TAG, padded) else {
         return Outer::Other;
     };
     let Value::Good {
@@ -51,7 +53,7 @@ pub fn read_outer(s: &[u8]) -> Outer
         start,
         len,
         next,
-    } = wire::value::length_value(s, behind)
+    } = wire::value::length_value(s, behind, padded)
     else {
         return Outer::Other;
     };
@@ -65,7 +67,7 @@ pub fn read_outer(s: &[u8]) -> Outer
     let Varint::Number {
         value: rows,
         next: end,
-    } = varint::read_varint(&s[..n], next + 1)
+    } = varint::read_varint(&s[..n], next + 1, padded)
     else {
         return Outer::Other;
     };

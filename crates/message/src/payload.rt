@@ -1,8 +1,10 @@
 // What every payload needs: its place, ids of 32 bits, optional fields.
 ghost use mathlib.Core.Path.{_≡_};
+ghost use mathlib.Core.Bool.{_||_};
 ghost use Rattle.layout.specs.Fields.{fieldsAt};
 ghost use Rattle.layout.specs.private.Arrays.{Holds};
 ghost use Rattle.args.specs.Part.{low32};
+ghost use Rattle.message.specs.Padded.{ownPadded};
 ghost use Rattle.message.specs.Payload.{optionalBy, payload, truthOf};
 use crate::request::Optional;
 use layout::row::COLUMNS;
@@ -19,13 +21,15 @@ pub(crate) fn fill_payload(
     seen: &mut [bool; SLOTS],
     values: &mut [u64; SLOTS],
     starts: &mut [usize; SLOTS],
+    padded: &mut bool,
 ) -> bool
-    ensures { λ r. ⌜
+    ensures holds { λ r. ⌜
         Holds (fieldsAt (now (rows .entry)) (now (s .entry)) payload) r (now (seen .exit)) (now (values .exit))
         (now (starts .exit))
         ⌝ }
+    ensures told { λ r. ⌜ now (padded .exit) ≡ (now (padded .entry) || ownPadded (now (s .entry))) ⌝ }
 {
-    layout::fields::fill_fields(rows, s, PAYLOAD, s.len(), seen, values, starts)
+    layout::fields::fill_fields(rows, s, PAYLOAD, s.len(), seen, values, starts, padded)
 }
 
 // The lowest 32 bits.

@@ -1,8 +1,16 @@
 // Prepare, with the body that its type chooses. Where its parts stand is found first, by the short ways or the rows,
 // and the frame is put together in one place: one that comes back from a call is copied whole, for which a processor
-// waits.
+// waits. Padded varints in the body do not count: there `unread` is a flag that nobody looks at.
 ghost use mathlib.Core.Path.{_≡_};
+ghost use mathlib.Core.Bool.{_||_, false};
+ghost use Rattle.protocol.specs.Client as Client;
+ghost use Rattle.layout.specs.Table.{rowsOf};
+ghost use Rattle.layout.specs.Fields.{fieldsAt};
+ghost use Rattle.args.specs.Padded.{partPadded};
+ghost use Rattle.message.specs.Padded.{preparePadded};
+ghost use Rattle.message.specs.Payload.{payload};
 ghost use Rattle.message.specs.Prepare.{bodyIn, prepareFrame, prepareFrom, prepareInside};
+ghost use Rattle.message.specs.private.Marks.{Tells, TellsChosen, TellsStmt};
 ghost use Rattle.message.specs.private.Parts.{Chooses, ofStmt};
 use crate::first::First;
 use crate::operation;
@@ -39,11 +47,15 @@ pub enum Chosen {
     Bad,
 }
 
-pub fn read_prepare(s: &[u8]) -> Frame
-    ensures { λ r. ⌜ r ≡ prepareFrame (now (s .entry)) ⌝ }
+pub fn read_prepare(s: &[u8], padded: &mut bool) -> Frame
+    ensures answer { λ r. ⌜ r ≡ prepareFrame (now (s .entry)) ⌝ }
+    ensures told { λ r. ⌜
+        Tells r (now (padded .exit))
+        (preparePadded (now (s .entry)) (fieldsAt (rowsOf Client.prepare) (now (s .entry)) payload))
+        ⌝ }
 {
-    match find_stmt(s) {
-        Stmt::At { id, start, len } => prepare_inside(s, id, start, len),
+    match find_stmt(s, padded) {
+        Stmt::At { id, start, len } => prepare_inside(s, id, start, len, padded),
         Stmt::Bad => Frame::BadPayload {
             used: s.len(),
             kind: client::PREPARE,
@@ -52,10 +64,11 @@ pub fn read_prepare(s: &[u8]) -> Frame
 }
 
 // A Prepare with this id, and its statement in `n` bytes of s from `at` on.
-fn prepare_inside(s: &[u8], id: u64, at: usize, n: usize) -> Frame
-    ensures { λ r. ⌜ r ≡ prepareInside (now (s .entry)) id at n ⌝ }
+fn prepare_inside(s: &[u8], id: u64, at: usize, n: usize, padded: &mut bool) -> Frame
+    ensures answer { λ r. ⌜ r ≡ prepareInside (now (s .entry)) id at n ⌝ }
+    ensures told { λ r. ⌜ Tells r (now (padded .exit)) (now (padded .entry) || partPadded (now (s .entry)) at n) ⌝ }
 {
-    match find_body(s, at, n) {
+    match find_body(s, at, n, padded) {
         Chosen::Body {
             operation,
             start,
@@ -96,14 +109,16 @@ fn prepare_from(s: &[u8], id: u64, operation: u64, start: usize, len: usize) -> 
 }
 
 // The long way, by the rows.
-fn long_stmt(s: &[u8]) -> Stmt
-    ensures { λ r. ⌜ ofStmt (now (s .entry)) r ≡ prepareFrame (now (s .entry)) ⌝ }
+fn long_stmt(s: &[u8], padded: &mut bool) -> Stmt
+    requires { ⌜ now padded ≡ false ⌝ }
+    ensures answer { λ r. ⌜ ofStmt (now (s .entry)) r ≡ prepareFrame (now (s .entry)) ⌝ }
+    ensures told { λ r. ⌜ TellsStmt (now (s .entry)) r (now (padded .exit)) ⌝ }
 {
     let rows = layout::rows::prepare_rows();
     let mut seen = [false; SLOTS];
     let mut values = [0; SLOTS];
     let mut starts = [0; SLOTS];
-    if !fill_payload(&rows, s, &mut seen, &mut values, &mut starts) {
+    if !fill_payload(&rows, s, &mut seen, &mut values, &mut starts, padded) {
         return Stmt::Bad;
     }
     Stmt::At {
@@ -117,34 +132,38 @@ fn long_stmt(s: &[u8]) -> Stmt
 const STMT_TAG: u8 = (fields::PREPARE_STMT as u64 * 8 + wire_type::LEN) as u8;
 
 // With a short way for a Prepare of its two fields alone, as most are.
-fn find_stmt(s: &[u8]) -> Stmt
-    ensures { λ r. ⌜ ofStmt (now (s .entry)) r ≡ prepareFrame (now (s .entry)) ⌝ }
+fn find_stmt(s: &[u8], padded: &mut bool) -> Stmt
+    ensures answer { λ r. ⌜ ofStmt (now (s .entry)) r ≡ prepareFrame (now (s .entry)) ⌝ }
+    ensures told { λ r. ⌜ TellsStmt (now (s .entry)) r (now (padded .exit)) ⌝ }
 {
+    *padded = false;
     let n = s.len();
-    if let First::At { id, next } = crate::first::read_first(s, STMT_TAG) {
+    if let First::At { id, next } = crate::first::read_first(s, STMT_TAG, padded) {
         if let Value::Good {
             number: _,
             start,
             len,
             next: end,
-        } = wire::value::length_value(s, next) {
+        } = wire::value::length_value(s, next, padded) {
             if end == n {
                 return Stmt::At { id, start, len };
             }
         }
     }
-    long_stmt(&s[..n])
+    *padded = false;
+    long_stmt(&s[..n], padded)
 }
 
 // The long way, by the rows.
-fn long_chosen(s: &[u8], at: usize, n: usize) -> Chosen
-    ensures { λ r. ⌜ Chooses (now (s .entry)) at n r ⌝ }
+fn long_chosen(s: &[u8], at: usize, n: usize, padded: &mut bool) -> Chosen
+    ensures answer { λ r. ⌜ Chooses (now (s .entry)) at n r ⌝ }
+    ensures told { λ r. ⌜ TellsChosen (now (s .entry)) at n r (now (padded .entry)) (now (padded .exit)) ⌝ }
 {
     let rows = layout::rows::prepare_stmt_rows();
     let mut seen = [false; SLOTS];
     let mut values = [0; SLOTS];
     let mut starts = [0; SLOTS];
-    if !fill_part(&rows, s, at, n, &mut seen, &mut values, &mut starts) {
+    if !fill_part(&rows, s, at, n, &mut seen, &mut values, &mut starts, padded) {
         return Chosen::Bad;
     }
     let operation = values[fields::TYPE] % uint32::COUNT;
@@ -166,8 +185,9 @@ const CHOSEN_EXECUTE: u64 = operation::STMT_EXECUTE * 256
 
 // The statement in `n` bytes of s from `at` on, with a short way for one of two fields, its type and its body, a
 // StmtExecute.
-fn find_body(s: &[u8], at: usize, n: usize) -> Chosen
-    ensures { λ r. ⌜ Chooses (now (s .entry)) at n r ⌝ }
+fn find_body(s: &[u8], at: usize, n: usize, padded: &mut bool) -> Chosen
+    ensures answer { λ r. ⌜ Chooses (now (s .entry)) at n r ⌝ }
+    ensures told { λ r. ⌜ TellsChosen (now (s .entry)) at n r (now (padded .entry)) (now (padded .exit)) ⌝ }
 {
     let all = s.len();
     if let Pair::Two {
@@ -175,7 +195,7 @@ fn find_body(s: &[u8], at: usize, n: usize) -> Chosen
         tag,
         value,
         start,
-    } = args::pair::read_pair(s, at, n) {
+    } = args::pair::read_pair(s, at, n, padded) {
         if first * 256 + tag == CHOSEN_EXECUTE {
             return Chosen::Body {
                 operation: operation::STMT_EXECUTE,
@@ -184,16 +204,17 @@ fn find_body(s: &[u8], at: usize, n: usize) -> Chosen
             };
         }
     }
-    long_chosen(&s[..all], at, n)
+    long_chosen(&s[..all], at, n, padded)
 }
 
 // The long way, in one pass or by the rows.
 pub fn long_body(s: &[u8], operation: u64, at: usize, n: usize) -> Arguments
     ensures { λ r. ⌜ r ≡ bodyIn (now (s .entry)) operation at n ⌝ }
 {
+    let mut unread = false;
     if operation == operation::STMT_EXECUTE {
         // Field 1 is the text.
-        let b = args::bound::read_bound(s, at, n, true);
+        let b = args::bound::read_bound(s, at, n, true, &mut unread);
         if !b.hasone {
             return Arguments::bad();
         }
@@ -203,7 +224,16 @@ pub fn long_body(s: &[u8], operation: u64, at: usize, n: usize) -> Arguments
     let mut seen = [false; SLOTS];
     let mut values = [0; SLOTS];
     let mut starts = [0; SLOTS];
-    if !fill_part(&rows[..0], s, at, n, &mut seen, &mut values, &mut starts) {
+    if !fill_part(
+        &rows[..0],
+        s,
+        at,
+        n,
+        &mut seen,
+        &mut values,
+        &mut starts,
+        &mut unread,
+    ) {
         return Arguments::bad();
     }
     Arguments::none(0, 0)
@@ -215,8 +245,9 @@ fn read_body(s: &[u8], operation: u64, at: usize, n: usize) -> Arguments
     ensures { λ r. ⌜ r ≡ bodyIn (now (s .entry)) operation at n ⌝ }
 {
     let all = s.len();
+    let mut unread = false;
     if operation == operation::STMT_EXECUTE {
-        if let Text::Alone { start: _, len: _ } = args::pair::read_text(s, at, n) {
+        if let Text::Alone { start: _, len: _ } = args::pair::read_text(s, at, n, &mut unread) {
             return Arguments::none(at, at + n);
         }
     }

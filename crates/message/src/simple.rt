@@ -1,9 +1,13 @@
-// The messages with no message inside: Reset, Session close, Deallocate, Close, Fetch.
+// The messages with no message inside: Reset, Session close, Deallocate, Close, Fetch. Each sets the flag anew; where a
+// short way gives up, what it has set is forgotten.
 ghost use mathlib.Core.Path.{_≡_};
+ghost use mathlib.Core.Bool.{_||_};
 ghost use mathlib.Core.List.{[]};
 ghost use Rattle.layout.specs.Fields.{fieldsAt};
+ghost use Rattle.message.specs.Padded.{ownPadded};
 ghost use Rattle.message.specs.Payload.{payload};
 ghost use Rattle.message.specs.Simple.{closeFrame, deallocateFrame, fetchFrame, resetFrame, sessionCloseFrame};
+ghost use Rattle.message.specs.private.Marks.{Tells};
 ghost use Rattle.message.specs.private.Parts.{fetchOf};
 use crate::first::First;
 use crate::payload::fill_payload;
@@ -19,20 +23,23 @@ use protocol::wire_type;
 use varint::Varint;
 
 // A payload of no fields of its own is good.
-fn is_plain(s: &[u8]) -> bool
-    ensures { λ r. ⌜ r ≡ fieldsAt [] (now (s .entry)) payload .good ⌝ }
+fn is_plain(s: &[u8], padded: &mut bool) -> bool
+    ensures answer { λ r. ⌜ r ≡ fieldsAt [] (now (s .entry)) payload .good ⌝ }
+    ensures told { λ r. ⌜ now (padded .exit) ≡ (now (padded .entry) || ownPadded (now (s .entry))) ⌝ }
 {
     let rows = layout::rows::close_rows();
     let mut seen = [false; SLOTS];
     let mut values = [0; SLOTS];
     let mut starts = [0; SLOTS];
-    fill_payload(&rows[..0], s, &mut seen, &mut values, &mut starts)
+    fill_payload(&rows[..0], s, &mut seen, &mut values, &mut starts, padded)
 }
 
-pub fn read_reset(s: &[u8]) -> Frame
-    ensures { λ r. ⌜ r ≡ resetFrame (now (s .entry)) ⌝ }
+pub fn read_reset(s: &[u8], padded: &mut bool) -> Frame
+    ensures answer { λ r. ⌜ r ≡ resetFrame (now (s .entry)) ⌝ }
+    ensures told { λ r. ⌜ Tells r (now (padded .exit)) (ownPadded (now (s .entry))) ⌝ }
 {
-    if !is_plain(s) {
+    *padded = false;
+    if !is_plain(s, padded) {
         return Frame::BadPayload {
             used: s.len(),
             kind: client::RESET,
@@ -44,10 +51,12 @@ pub fn read_reset(s: &[u8]) -> Frame
     }
 }
 
-pub fn read_session_close(s: &[u8]) -> Frame
-    ensures { λ r. ⌜ r ≡ sessionCloseFrame (now (s .entry)) ⌝ }
+pub fn read_session_close(s: &[u8], padded: &mut bool) -> Frame
+    ensures answer { λ r. ⌜ r ≡ sessionCloseFrame (now (s .entry)) ⌝ }
+    ensures told { λ r. ⌜ Tells r (now (padded .exit)) (ownPadded (now (s .entry))) ⌝ }
 {
-    if !is_plain(s) {
+    *padded = false;
+    if !is_plain(s, padded) {
         return Frame::BadPayload {
             used: s.len(),
             kind: client::SESSION_CLOSE,
@@ -59,14 +68,16 @@ pub fn read_session_close(s: &[u8]) -> Frame
     }
 }
 
-pub fn read_deallocate(s: &[u8]) -> Frame
-    ensures { λ r. ⌜ r ≡ deallocateFrame (now (s .entry)) ⌝ }
+pub fn read_deallocate(s: &[u8], padded: &mut bool) -> Frame
+    ensures answer { λ r. ⌜ r ≡ deallocateFrame (now (s .entry)) ⌝ }
+    ensures told { λ r. ⌜ Tells r (now (padded .exit)) (ownPadded (now (s .entry))) ⌝ }
 {
+    *padded = false;
     let rows = layout::rows::deallocate_rows();
     let mut seen = [false; SLOTS];
     let mut values = [0; SLOTS];
     let mut starts = [0; SLOTS];
-    if !fill_payload(&rows, s, &mut seen, &mut values, &mut starts) {
+    if !fill_payload(&rows, s, &mut seen, &mut values, &mut starts, padded) {
         return Frame::BadPayload {
             used: s.len(),
             kind: client::DEALLOCATE,
@@ -78,14 +89,16 @@ pub fn read_deallocate(s: &[u8]) -> Frame
     }
 }
 
-pub fn read_close(s: &[u8]) -> Frame
-    ensures { λ r. ⌜ r ≡ closeFrame (now (s .entry)) ⌝ }
+pub fn read_close(s: &[u8], padded: &mut bool) -> Frame
+    ensures answer { λ r. ⌜ r ≡ closeFrame (now (s .entry)) ⌝ }
+    ensures told { λ r. ⌜ Tells r (now (padded .exit)) (ownPadded (now (s .entry))) ⌝ }
 {
+    *padded = false;
     let rows = layout::rows::close_rows();
     let mut seen = [false; SLOTS];
     let mut values = [0; SLOTS];
     let mut starts = [0; SLOTS];
-    if !fill_payload(&rows, s, &mut seen, &mut values, &mut starts) {
+    if !fill_payload(&rows, s, &mut seen, &mut values, &mut starts, padded) {
         return Frame::BadPayload {
             used: s.len(),
             kind: client::CLOSE,
@@ -112,14 +125,15 @@ fn fetch_of(n: usize, id: u64, has: bool, asked: u64) -> Frame
 }
 
 // The long way, by the rows.
-fn long_fetch(s: &[u8]) -> Frame
-    ensures { λ r. ⌜ r ≡ fetchFrame (now (s .entry)) ⌝ }
+fn long_fetch(s: &[u8], padded: &mut bool) -> Frame
+    ensures answer { λ r. ⌜ r ≡ fetchFrame (now (s .entry)) ⌝ }
+    ensures told { λ r. ⌜ Tells r (now (padded .exit)) (now (padded .entry) || ownPadded (now (s .entry))) ⌝ }
 {
     let rows = layout::rows::fetch_rows();
     let mut seen = [false; SLOTS];
     let mut values = [0; SLOTS];
     let mut starts = [0; SLOTS];
-    if !fill_payload(&rows, s, &mut seen, &mut values, &mut starts) {
+    if !fill_payload(&rows, s, &mut seen, &mut values, &mut starts, padded) {
         return Frame::BadPayload {
             used: s.len(),
             kind: client::FETCH,
@@ -137,16 +151,19 @@ fn long_fetch(s: &[u8]) -> Frame
 const ROWS_TAG: u8 = (fields::FETCH_ROWS as u64 * 8 + wire_type::VARINT) as u8;
 
 // With a short way for a Fetch of its two fields alone, as most are.
-pub fn read_fetch(s: &[u8]) -> Frame
-    ensures { λ r. ⌜ r ≡ fetchFrame (now (s .entry)) ⌝ }
+pub fn read_fetch(s: &[u8], padded: &mut bool) -> Frame
+    ensures answer { λ r. ⌜ r ≡ fetchFrame (now (s .entry)) ⌝ }
+    ensures told { λ r. ⌜ Tells r (now (padded .exit)) (ownPadded (now (s .entry))) ⌝ }
 {
+    *padded = false;
     let n = s.len();
-    if let First::At { id, next } = crate::first::read_first(s, ROWS_TAG) {
-        if let Varint::Number { value, next: end } = varint::read_short(s, next) {
+    if let First::At { id, next } = crate::first::read_first(s, ROWS_TAG, padded) {
+        if let Varint::Number { value, next: end } = varint::read_short(s, next, padded) {
             if end == n {
                 return fetch_of(n, id, true, value);
             }
         }
     }
-    long_fetch(&s[..n])
+    *padded = false;
+    long_fetch(&s[..n], padded)
 }

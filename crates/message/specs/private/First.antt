@@ -16,6 +16,8 @@ idTag = 8
 pub record Starts (s : List ℕ) (tag id next : ℕ) : Type 0 where
   pub len : ℕ
   pub end : ℕ
+  pub there : payload < length s
+  pub id-is : getD s payload 0 ≡ idTag
   pub one : fieldAt s payload ≡ Field.Good 1 0 id (payload + 1) len end
   pub inside : end < length s
   pub tag-is : getD s end 0 ≡ tag

@@ -1,37 +1,109 @@
 -- Two short fields are read by their bytes alone, to the slots that the rows give; anything else goes the long way.
-use Prim.Native.Nat.{ℕ, _+_, _*_, _^_, _<_}
+use Prim.Native.Nat.{ℕ}
 use native.Mathlib.Omega.{arith}
-use mathlib.Core.Path.{refl, sym, ap, subst}
+use mathlib.Core.Path.{_≡_, refl, sym, ap, subst, _∙_}
 use mathlib.Core.List.{List}
 use lib.ListN.{length}
 use lib.Seq.{take-length}
+use Rattle.prelude.proofs.OrLaws.{or-same}
 use Rattle.layout.specs.Table.{rowsOf, openStmt}
 use Rattle.layout.specs.Row.{rowFor}
 use Rattle.layout.specs.Fields.{hasRequired}
-use Rattle.args.proofs.PairLaws.{named-short, pair-bytes}
-use Rattle.message.specs.Execute.{openChosen}
-use Rattle.message.specs.private.Parts.{Runs}
+use Rattle.layout.specs.declared.slots.Slots.{Slots}
+use Rattle.args.proofs.PairLaws.{pair-bytes}
+use Rattle.args.proofs.ScalarLaws.{Held, named-fits}
+use Rattle.args.proofs.PaddedLaws.{held-short, pair-part}
+use Rattle.message.specs.Execute.{openChosen, openInside}
+use Rattle.message.specs.private.Parts.{ofInner, Runs}
+use mathlib.Core.Bool.{true}
+use Rattle.args.specs.Part.{embedded}
+use Rattle.args.specs.Padded.{executePadded}
+use Rattle.message.specs.declared.execute.Inner.{Inner}
+use Rattle.message.specs.declared.request.Optional.{Optional}
+use Rattle.message.specs.private.Marks.{TellsInner}
+use Rattle.message.specs.Padded.{openExecutePadded}
+use Rattle.message.proofs.PaddedLaws.{inner-again, inner-flag}
 use borrow.Author.Needs.{needs}
 use Rattle.message.proofs.execute.find_execute.Statement.{statement}
 use Rattle.message.proofs.execute.find_execute.Tie as tie
 
--- the type and the tag in one number
-fits : (f : tie.After-first) → f .first .given .0 .0 * 256 + f .first .given .0 .1 .0 < 2 ^ 16
-fits f = let r = f .before .before in let a = r .before .before .args in
-    named-short (a .s .now) (a .at) (a .n) (f .first .given .1) (r .read-pair .ensures)
+abbrev start : tie.After-read-pair → tie.Start
+start r = r .before .before .before
+
+-- where a pair is read, the bytes hold it
+held : (f : tie.After-first) →
+    let a = start (f .before .before) .args in
+    Held (a .s .now) (a .at) (a .n) (f .first .given .0 .0) (f .first .given .0 .1 .0) (f .first .given .0 .1 .1 .0)
+    (f .first .given .0 .1 .1 .1 .0)
+held f = record { is = sym (f .before .before .read-pair .ensures .0) ∙ f .first .given .1 }
+
+-- the slots that the rows give
+abbrev slots : tie.Then1 → Slots
+slots c = let a = start (c .before .before .before .before) .args in
+    embedded (rowsOf openStmt) (a .s .now) (a .at) (a .n)
+
+module _ (c : tie.Then1) where
+  abbrev f : tie.After-first
+  f = c .before .before
+
+  abbrev r : tie.After-read-pair
+  r = f .before .before
+
+  answer : (id : ℕ) (rows : Optional) →
+      ofInner (start r .args .s .now) id rows (Inner.At (f .first .given .0 .1 .1 .1 .0) (f .first .given .0 .1 .1 .0))
+      ≡ openInside (start r .args .s .now) id rows (start r .args .at) (start r .args .n)
+  unfolding rowsOf rowFor hasRequired
+  answer id rows =
+      let a = start r .args in
+      ap (openChosen (a .s .now) id rows)
+      (pair-bytes (a .s .now) (a .at) (a .n) (f .first .given .1) (r .read-pair .ensures .0) (rowsOf openStmt) 0 18
+      (c .if1 .taken) (omega arith) refl refl refl)
+
+  good : slots c .good ≡ true
+  unfolding rowsOf rowFor hasRequired
+  good =
+      let a = start r .args in
+      sym (ap (λ (x : Slots). x .good)
+      (pair-bytes (a .s .now) (a .at) (a .n) (f .first .given .1) (r .read-pair .ensures .0) (rowsOf openStmt) 0 18
+      (c .if1 .taken) (omega arith) refl refl refl))
+
+  run : executePadded (start r .args .s .now) (f .first .given .0 .1 .1 .1 .0) (f .first .given .0 .1 .1 .0)
+      ≡ openExecutePadded (start r .args .s .now) (slots c)
+  unfolding rowsOf rowFor hasRequired
+  run =
+      let a = start r .args in
+      ap (openExecutePadded (a .s .now))
+      (pair-bytes (a .s .now) (a .at) (a .n) (f .first .given .1) (r .read-pair .ensures .0) (rowsOf openStmt) 0 18
+      (c .if1 .taken) (omega arith) refl refl refl)
 
 returns : tie.Need-returns
-unfolding rowsOf rowFor hasRequired
-returns c id rows =
-    let a = c .before .before .before .before .before .before .args in
-    ap (openChosen (a .s .now) id rows)
-    (pair-bytes (a .s .now) (a .at) (a .n) (c .before .before .first .given .1)
-    (c .before .before .before .before .read-pair .ensures)
-    (rowsOf openStmt) 0 18 (c .if1 .taken) (omega arith) refl refl refl)
+returns c =
+    let a = start (r c) .args in (
+      answer c,
+      (
+        inner-flag (a .s .now) (a .at) (a .n) (a .padded .now)
+            (r c .read-pair .ensures .1
+            ∙ or-same (a .padded .now)
+            (pair-part (held (f c)) (omega (arith, held-short (held (f c)), c .if1 .taken))))
+            (run c),
+        good c,
+      ),
+    )
+
+returns-2 : tie.Need-returns-2
+returns-2 c =
+    let r = c .before .before .before .before in
+    let a = start r .args in
+    let whole = take-length (a .s .now) in
+    let mid = r .read-pair .last .1 .1 .1 .0 in
+    let flag = c .long-inner .last .1 .1 .1 .0 in (
+      subst (λ (l : List ℕ). Runs l (a .at) (a .n) (c .long-inner .result)) whole (c .long-inner .ensures .0),
+      inner-again (a .s .now) (a .at) (a .n) (c .long-inner .result) (a .padded .now) mid flag (r .read-pair .ensures .1)
+          (subst (λ (l : List ℕ). TellsInner l (a .at) (a .n) (c .long-inner .result) mid flag) whole (c .long-inner .ensures .1)),
+    )
 
 pub find-execute-spec : {M : Type 1} → statement M
 find-execute-spec = tie.close (tie.spec (λ c κs. search needs) (λ c. search needs)
-    (λ c. omega (arith, fits (c .before))) (λ c. omega (arith, fits (c .before))) returns (λ c. search needs)
-    (λ c. sym (ap length (take-length (c .before .before .before .before .args .s .now)))) (λ c κs. search needs)
-    (λ c. let a = c .before .before .before .before .before .args in subst
-    (λ (l : List ℕ). Runs l (a .at) (a .n) (c .long-inner .result)) (take-length (a .s .now)) (c .long-inner .ensures)))
+    (λ c. omega (arith, named-fits (held (c .before)))) (λ c. omega (arith, named-fits (held (c .before)))) returns
+    (λ c. search needs) (λ c. sym (ap length (take-length (start (c .before .before) .args .s .now))))
+    (λ c κs. search needs) returns-2)

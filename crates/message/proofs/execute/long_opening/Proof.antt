@@ -1,25 +1,34 @@
 -- The arrays hold the message's fields; the statement stands in field 4.
+use mathlib.Core.Path.{ap, _∙_}
+use mathlib.Core.Bool.{Bool, _||_}
 use borrow.Author.Tests.{not-true, not-false}
 use Rattle.message.proofs.ArrayLaws.{open-refused, open-whole}
+use Rattle.message.specs.Padded.{ownPadded}
+use Rattle.message.proofs.PaddedLaws.{opening-held}
 use borrow.Author.Needs.{needs}
 use Rattle.message.proofs.execute.long_opening.Statement.{statement}
 use Rattle.message.proofs.execute.long_opening.Tie as tie
 
+abbrev rows : tie.After-fill-payload → tie.After-open-rows
+rows f = f .before .before .before .before .before .before
+
 returns : tie.Need-returns
 returns c =
     let f = c .before in
-    let r = f .before .before .before .before .before in
-    let s = r .before .before .args .s .now in
-    open-refused s (rw (r .open-rows .ensures) at (f .fill-payload .ensures))
-    (not-true _ (c .if1 .taken))
+    let s = rows f .before .before .args .s .now in (
+      open-refused s (rw (rows f .open-rows .ensures) at (f .fill-payload .ensures .0)) (not-true _ (c .if1 .taken)),
+      tt,
+    )
 
 returns-2 : tie.Need-returns-2
 returns-2 c =
     let f = c .before in
-    let r = f .before .before .before .before .before in
-    let s = r .before .before .args .s .now in
-    open-whole s (rw (r .open-rows .ensures) at (f .fill-payload .ensures))
-    (not-false _ (c .if1 .left))
+    let st = rows f .before .before in
+    let s = st .args .s .now in
+    let held = rw (rows f .open-rows .ensures) at (f .fill-payload .ensures .0) in (
+      open-whole s held (not-false _ (c .if1 .left)),
+      opening-held s held (f .fill-payload .ensures .1 ∙ ap (λ (b : Bool). b || ownPadded s) (st .pre)),
+    )
 
 pub long-opening-spec : {M : Type 1} → statement M
 long-opening-spec = tie.close (tie.spec (λ c κs. search needs) (λ c. search needs) (λ c κs. search needs) returns

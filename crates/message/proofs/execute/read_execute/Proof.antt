@@ -3,6 +3,8 @@ use Prim.Native.Nat.{ℕ}
 use mathlib.Core.Path.{ap, _∙_}
 use Rattle.message.specs.Payload.{payload}
 use Rattle.message.specs.Execute.{executeIn, executeFrom, executeFrame}
+use Rattle.args.specs.Padded.{executePadded}
+use Rattle.message.proofs.PaddedLaws.{tells-as}
 use borrow.Author.Needs.{needs}
 use Rattle.message.proofs.execute.read_execute.Statement.{statement}
 use Rattle.message.proofs.execute.read_execute.Tie as tie
@@ -10,8 +12,12 @@ use Rattle.message.proofs.execute.read_execute.Tie as tie
 returns : tie.Need-returns
 unfolding executeFrame
 returns c =
-    let s = c .before .before .before .args .s .now in
-    c .execute-from .ensures ∙ ap (λ (k : ℕ). executeFrom s (executeIn s payload k)) (c .before .rest .ensures)
+    let n = c .before .before in
+    let s = n .before .before .args .s .now in (
+      c .execute-from .ensures .0 ∙ ap (λ (k : ℕ). executeFrom s (executeIn s payload k)) (n .rest .ensures),
+      tells-as (c .execute-from .result) (c .execute-from .last .1 .1 .0) (ap (executePadded s payload) (n .rest .ensures))
+          (c .execute-from .ensures .1),
+    )
 
 pub read-execute-spec : {M : Type 1} → statement M
 read-execute-spec = tie.close (tie.spec (λ c κs. search needs) (λ c κs. search needs) returns)

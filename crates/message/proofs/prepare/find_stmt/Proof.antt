@@ -3,23 +3,37 @@ use native.Mathlib.Omega.{arith}
 use mathlib.Core.Path.{sym, ap, subst, _∙_}
 use lib.ListN.{length}
 use lib.Seq.{take-length}
+use mathlib.Core.Bool.{false}
 use Rattle.message.specs.private.First.{Begins}
+use Rattle.message.specs.private.Marks.{TellsFirst}
+use Rattle.message.specs.declared.first.First.{First}
 use Rattle.message.proofs.FirstLaws.{prepare-found}
+use Rattle.message.proofs.PaddedLaws.{prepare-flag}
 use borrow.Author.Needs.{needs}
 use Rattle.message.proofs.prepare.find_stmt.Statement.{statement}
 use Rattle.message.proofs.prepare.find_stmt.Tie as tie
 
+abbrev start : tie.After-read-first → tie.Start
+start f = f .before .before .before
+
 returns : tie.Need-returns
 returns c =
-    let v = c .before .before .before .before in
-    let f = v .before .before .before .before in
-    let s = f .before .before .args .s .now in
-    prepare-found (omega (arith, c .if1 .taken))
-    (subst (Begins s 18) (v .before .before .id .given .1) (f .read-first .ensures))
-    (sym (v .length-value .ensures) ∙ c .before .before .start .given .1)
+    let k = c .before .before in
+    let v = k .before .before in
+    let i = v .before .before .before in
+    let f = i .before .before in
+    let s = start f .args .s .now in
+    let begins = subst (Begins s 18) (i .id .given .1) (f .read-first .ensures .0) in
+    let stmt = sym (v .length-value .ensures .0) ∙ k .start .given .1 in (
+      prepare-found (omega (arith, c .if1 .taken)) begins stmt,
+      prepare-flag (omega (arith, c .if1 .taken)) begins stmt
+          (subst (λ (r : First). TellsFirst s r false (f .read-first .last .1 .1 .0)) (i .id .given .1)
+          (f .read-first .ensures .1)) (v .length-value .ensures .1),
+    )
 
 pub find-stmt-spec : {M : Type 1} → statement M
 find-stmt-spec = tie.close (tie.spec (λ c κs. search needs) (λ c. search needs) (λ c κs. search needs)
     (λ c. search needs) returns (λ c. search needs) (λ c. search needs)
-    (λ c. sym (ap length (take-length (c .before .before .before .before .args .s .now)))) (λ c κs. search needs)
-    (λ c. rw (take-length (c .before .before .before .before .before .args .s .now)) at (c .long-stmt .ensures)))
+    (λ c. sym (ap length (take-length (start (c .before .before) .args .s .now)))) (λ c κs. search needs)
+    (λ c. let whole = take-length (start (c .before .before .before .before) .args .s .now) in
+    (rw whole at (c .long-stmt .ensures .0), rw whole at (c .long-stmt .ensures .1))))

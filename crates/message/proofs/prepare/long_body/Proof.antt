@@ -15,46 +15,49 @@ use Rattle.message.proofs.prepare.long_body.Tie as tie
 
 returns : tie.Need-returns
 returns c =
-    let b = c .before .before .before .read-bound in
-    let a = c .before .before .before .before .before .before .args in
+    let k = c .before .before .before in
+    let b = k .read-bound in
+    let a = k .before .before .before .before .args in
     c .bad .ensures
-    ∙ body-lost (a .s .now) (a .operation) (a .at) (a .n) (c .before .before .before .before .if1 .taken) (b .result)
-    (b .ensures)
+    ∙ body-lost (a .s .now) (a .operation) (a .at) (a .n) (k .before .before .if1 .taken) (b .result)
+    (b .ensures .0)
     (not-true _ (c .before .if2 .taken))
 
 add-arguments : tie.Need-add-arguments
 add-arguments c =
-    let b = c .before .before .read-bound in
-    let a = c .before .before .before .before .before .args in
-    let f = bound-found true (a .s .now) (a .at) (a .n) (b .result) (b .ensures) (not-false _ (c .if2 .left)) in
+    let k = c .before .before in
+    let b = k .read-bound in
+    let a = k .before .before .before .before .args in
+    let f = bound-found true (a .s .now) (a .at) (a .n) (b .result) (b .ensures .0) (not-false _ (c .if2 .left)) in
     record { fits = omega (arith, f .inside) }
 
 returns-2 : tie.Need-returns-2
 returns-2 c =
-    let b = c .before .before .before .read-bound in
-    let a = c .before .before .before .before .before .before .args in
+    let k = c .before .before .before in
+    let b = k .read-bound in
+    let a = k .before .before .before .before .args in
     c .arguments .ensures
-    ∙ body-found (a .s .now) (a .operation) (a .at) (a .n) (c .before .before .before .before .if1 .taken)
-    (b .result) (b .ensures)
+    ∙ body-found (a .s .now) (a .operation) (a .at) (a .n) (k .before .before .if1 .taken)
+    (b .result) (b .ensures .0)
     (not-false _ (c .before .if2 .left))
 
 returns-3 : tie.Need-returns-3
 returns-3 c =
     let f = c .before .before in
-    let a = f .before .before .before .before .before .before .before .before .args in
+    let a = f .before .before .before .before .before .before .before .before .before .args in
     c .bad2 .ensures
     ∙ body-list-bad (a .s .now) (a .operation) (a .at) (a .n) (embedded [] (a .s .now) (a .at) (a .n))
-    (f .before .before .before .before .before .before .if1 .left) refl
-    (held-good (f .fill-part .ensures) (not-true _ (c .before .if3 .taken)))
+    (f .before .before .before .before .before .before .before .if1 .left) refl
+    (held-good (f .fill-part .ensures .0) (not-true _ (c .before .if3 .taken)))
 
 returns-4 : tie.Need-returns-4
 returns-4 c =
     let f = c .before .before in
-    let a = f .before .before .before .before .before .before .before .before .args in
+    let a = f .before .before .before .before .before .before .before .before .before .args in
     c .none .ensures
     ∙ body-list (a .s .now) (a .operation) (a .at) (a .n) (embedded [] (a .s .now) (a .at) (a .n))
-    (f .before .before .before .before .before .before .if1 .left) refl
-    (held-good (f .fill-part .ensures) (not-false _ (c .before .if3 .left)))
+    (f .before .before .before .before .before .before .before .if1 .left) refl
+    (held-good (f .fill-part .ensures .0) (not-false _ (c .before .if3 .left)))
 
 pub long-body-spec : {M : Type 1} → statement M
 long-body-spec = tie.close (tie.spec (λ c κs. search needs) (λ c κs. search needs) returns add-arguments

@@ -1,19 +1,35 @@
 -- Each arm is one clause of ofChosen.
-use mathlib.Core.Path.{sym, ap, _∙_}
+use mathlib.Core.Path.{sym, ap, subst, _∙_}
 use Rattle.message.specs.private.Parts.{ofChosen}
+use Rattle.message.specs.private.Marks.{TellsChosen}
+use Rattle.message.specs.declared.prepare.Chosen.{Chosen}
+use Rattle.message.proofs.PaddedLaws.{tells}
 use borrow.Author.Needs.{needs}
 use Rattle.message.proofs.prepare.prepare_inside.Statement.{statement}
 use Rattle.message.proofs.prepare.prepare_inside.Tie as tie
 
+abbrev start : tie.After-find-body → tie.Start
+start f = f .before .before .before
+
 returns : tie.Need-returns
 returns c =
-    let a = c .before .before .before .before .before .before .args in
-    c .prepare-from .ensures
-    ∙ ap (ofChosen (a .s .now) (a .id)) (sym (c .before .before .operation .given .1))
-    ∙ c .before .before .before .before .find-body .ensures (a .id)
+    let o = c .before .before in
+    let f = o .before .before in
+    let a = start f .args in (
+      c .prepare-from .ensures
+          ∙ ap (ofChosen (a .s .now) (a .id)) (sym (o .operation .given .1))
+          ∙ f .find-body .ensures .0 (a .id),
+      tells (c .prepare-from .result)
+          (subst (λ (r : Chosen). TellsChosen (a .s .now) (a .at) (a .n) r (a .padded .now)
+          (f .find-body .last .1 .1 .1 .0)) (o .operation .given .1) (f .find-body .ensures .1) .0),
+    )
+
+returns-2 : tie.Need-returns-2
+returns-2 c =
+    let f = c .before .before in
+    let a = start f .args in
+    (ap (ofChosen (a .s .now) (a .id)) (sym (c .enum-told .given .1)) ∙ f .find-body .ensures .0 (a .id), tt)
 
 pub prepare-inside-spec : {M : Type 1} → statement M
 prepare-inside-spec = tie.close (tie.spec (λ c κs. search needs) (λ c. search needs) (λ c κs. search needs)
-    (λ c. search needs) returns
-    (λ c. let a = c .before .before .before .before .args in ap (ofChosen (a .s .now) (a .id))
-    (sym (c .enum-told .given .1)) ∙ c .before .before .find-body .ensures (a .id)))
+    (λ c. search needs) returns returns-2)

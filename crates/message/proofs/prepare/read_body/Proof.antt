@@ -15,15 +15,15 @@ use Rattle.message.proofs.prepare.read_body.Tie as tie
 returns : tie.Need-returns
 returns c =
     let t = c .before .before .before in
-    let a = t .before .before .before .args in
+    let a = t .before .before .before .before .args in
     c .none .ensures
-    ∙ body-text (a .s .now) (a .operation) (a .at) (a .n) (t .before .if1 .taken) (c .before .enum-told .given .1)
-    (t .read-text .ensures)
+    ∙ body-text (a .s .now) (a .operation) (a .at) (a .n) (t .before .before .if1 .taken)
+    (c .before .enum-told .given .1) (t .read-text .ensures .0)
 
 pub read-body-spec : {M : Type 1} → statement M
 read-body-spec = tie.close (tie.spec (λ c κs. search needs) (λ c. search needs)
-    (λ c. let t = c .before .before in let a = t .before .before .before .args in let x = told (a .s .now) (a .at)
-    (a .n) (c .enum-told .given .1) (t .read-text .ensures) in record { fits = omega (arith, x .0) })
+    (λ c. let t = c .before .before in let a = t .before .before .before .before .args in let x = told (a .s .now) (a .at)
+    (a .n) (c .enum-told .given .1) (t .read-text .ensures .0) in record { fits = omega (arith, x .0) })
     (λ c κs. search needs) returns (λ c. search needs)
     (λ c. sym (ap length (take-length (c .before .before .before .args .s .now)))) (λ c κs. search needs)
     (λ c κs. search needs)

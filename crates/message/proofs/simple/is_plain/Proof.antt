@@ -5,4 +5,4 @@ use Rattle.message.proofs.simple.is_plain.Tie as tie
 
 pub is-plain-spec : {M : Type 1} → statement M
 is-plain-spec = tie.close (tie.spec (λ c κs. search needs) (λ c. search needs) (λ c. search needs)
-    (λ c κs. search needs) (λ c. c .fill-payload .ensures .answer))
+    (λ c κs. search needs) (λ c. (c .fill-payload .ensures .0 .answer, c .fill-payload .ensures .1)))

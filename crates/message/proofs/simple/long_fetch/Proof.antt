@@ -7,24 +7,28 @@ use borrow.Author.Needs.{needs}
 use Rattle.message.proofs.simple.long_fetch.Statement.{statement}
 use Rattle.message.proofs.simple.long_fetch.Tie as tie
 
+abbrev rows : tie.After-fill-payload → tie.After-fetch-rows
+rows f = f .before .before .before .before .before .before
+
 returns : tie.Need-returns
 unfolding fetchFrame
 returns c =
     let f = c .before in
-    let r = f .before .before .before .before .before in
-    let s = r .before .before .args .s .now in
-    fetch-spoiled s (rw (r .fetch-rows .ensures) at (f .fill-payload .ensures))
-    (not-true _ (c .if1 .taken))
+    let s = rows f .before .before .args .s .now in (
+      fetch-spoiled s (rw (rows f .fetch-rows .ensures) at (f .fill-payload .ensures .0)) (not-true _ (c .if1 .taken)),
+      tt,
+    )
 
 returns-2 : tie.Need-returns-2
 unfolding fetchFrame
 returns-2 c =
     let f = c .before .before in
-    let r = f .before .before .before .before .before in
-    let s = r .before .before .args .s .now in
-    c .fetch-of .ensures
-    ∙ fetch-held s (rw (r .fetch-rows .ensures) at (f .fill-payload .ensures))
-    (not-false _ (c .before .if1 .left))
+    let s = rows f .before .before .args .s .now in (
+      c .fetch-of .ensures
+          ∙ fetch-held s (rw (rows f .fetch-rows .ensures) at (f .fill-payload .ensures .0))
+          (not-false _ (c .before .if1 .left)),
+      rw (c .fetch-of .ensures) (f .fill-payload .ensures .1),
+    )
 
 pub long-fetch-spec : {M : Type 1} → statement M
 long-fetch-spec = tie.close (tie.spec (λ c κs. search needs) (λ c. search needs) (λ c κs. search needs) returns

@@ -3,26 +3,46 @@ use native.Mathlib.Omega.{arith}
 use mathlib.Core.Path.{sym, ap, subst, _∙_}
 use lib.ListN.{length}
 use lib.Seq.{take-length}
+use mathlib.Core.Bool.{false}
 use Rattle.message.specs.Simple.{fetchFrame}
+use Rattle.message.specs.Padded.{ownPadded}
+use Rattle.message.specs.declared.first.First.{First}
 use Rattle.message.specs.private.First.{Begins}
+use Rattle.message.specs.private.Marks.{TellsFirst}
 use Rattle.message.proofs.FirstLaws.{fetch-found}
+use Rattle.message.proofs.PaddedLaws.{fetch-flag, tells-as}
 use borrow.Author.Needs.{needs}
 use Rattle.message.proofs.simple.read_fetch.Statement.{statement}
 use Rattle.message.proofs.simple.read_fetch.Tie as tie
 
+abbrev start : tie.After-read-first → tie.Start
+start f = f .before .before .before
+
 returns : tie.Need-returns
 returns c =
-    let v = c .before .before .before .before .before in
-    let f = v .before .before .before .before in
-    let s = f .before .before .args .s .now in
-    c .fetch-of .ensures
-    ∙ fetch-found (omega (arith, c .before .if1 .taken))
-    (subst (Begins s 16) (v .before .before .id .given .1) (f .read-first .ensures))
-    (sym (v .read-short .ensures) ∙ c .before .before .before .value .given .1)
+    let k = c .before .before .before in
+    let v = k .before .before in
+    let i = v .before .before .before in
+    let f = i .before .before in
+    let s = start f .args .s .now in
+    let begins = subst (Begins s 16) (i .id .given .1) (f .read-first .ensures .0) in
+    let number = sym (v .read-short .ensures .0) ∙ k .value .given .1 in (
+      c .fetch-of .ensures ∙ fetch-found (omega (arith, c .before .if1 .taken)) begins number,
+      rw (c .fetch-of .ensures)
+          (fetch-flag (omega (arith, c .before .if1 .taken)) begins number
+          (subst (λ (r : First). TellsFirst s r false (f .read-first .last .1 .1 .0)) (i .id .given .1)
+          (f .read-first .ensures .1)) (v .read-short .ensures .1)),
+    )
+
+returns-2 : tie.Need-returns-2
+returns-2 c =
+    let s = start (c .before .before .before .before) .args .s .now in (
+      c .long-fetch .ensures .0 ∙ ap fetchFrame (take-length s),
+      tells-as (c .long-fetch .result) (c .long-fetch .last .1 .0) (ap ownPadded (take-length s))
+          (c .long-fetch .ensures .1),
+    )
 
 pub read-fetch-spec : {M : Type 1} → statement M
 read-fetch-spec = tie.close (tie.spec (λ c κs. search needs) (λ c. search needs) (λ c κs. search needs)
     (λ c. search needs) (λ c κs. search needs) returns (λ c. search needs) (λ c. search needs)
-    (λ c. sym (ap length (take-length (c .before .before .before .before .args .s .now)))) (λ c κs. search needs)
-    (λ c. let s = c .before .before .before .before .before .args .s .now in c .long-fetch .ensures ∙ ap fetchFrame
-    (take-length s)))
+    (λ c. sym (ap length (take-length (start (c .before .before) .args .s .now)))) (λ c κs. search needs) returns-2)

@@ -9,10 +9,23 @@ use borrow.Author.Needs.{needs}
 use Rattle.message.proofs.simple.read_reset.Statement.{statement}
 use Rattle.message.proofs.simple.read_reset.Tie as tie
 
-pub read-reset-spec : {M : Type 1} → statement M
+returns : tie.Need-returns
 unfolding resetFrame
-read-reset-spec = tie.close (tie.spec (λ c κs. search needs)
-    (λ c. payload-bad (c .before .before .before .args .s .now) Client.reset Request.Reset
-    (sym (c .before .is-plain .ensures) ∙ not-true _ (c .if1 .taken)))
-    (λ c. payload-good (c .before .before .before .args .s .now) Client.reset Request.Reset
-    (sym (c .before .is-plain .ensures) ∙ not-false _ (c .if1 .left))))
+returns c =
+    let p = c .before in (
+      payload-bad (p .before .before .before .args .s .now) Client.reset Request.Reset
+          (sym (p .is-plain .ensures .0) ∙ not-true _ (c .if1 .taken)),
+      tt,
+    )
+
+returns-2 : tie.Need-returns-2
+unfolding resetFrame
+returns-2 c =
+    let p = c .before in (
+      payload-good (p .before .before .before .args .s .now) Client.reset Request.Reset
+          (sym (p .is-plain .ensures .0) ∙ not-false _ (c .if1 .left)),
+      p .is-plain .ensures .1,
+    )
+
+pub read-reset-spec : {M : Type 1} → statement M
+read-reset-spec = tie.close (tie.spec (λ c κs. search needs) returns returns-2)
