@@ -2,6 +2,7 @@
 -- was decided, whatever the buffer. Assumes nothing.
 use Prim.Native.Nat.{ℕ, _≤_}
 use native.Mathlib.Nat.{le-trans}
+use mathlib.Core.Bool.{Bool}
 use mathlib.Core.Path.{_≡_, sym, ap, _∙_}
 use mathlib.Core.List.{List}
 use lib.ListN.{length}
@@ -10,6 +11,7 @@ use borrow.Author.Tests.{le-ltb}
 use Rattle.prelude.proofs.Cases.{both}
 use Rattle.protocol.specs.Reason as Reason
 use Rattle.message.specs.Frame.{frameOf}
+use Rattle.message.specs.Padded.{paddedOf}
 use Rattle.message.specs.declared.request.Request.{Request}
 use Rattle.message.specs.declared.request.Request.the-variants.{Reset, SessionClose, Prepare, Execute, Deallocate, Open}
 use Rattle.message.specs.declared.request.Request.the-variants.{Close, Fetch}
@@ -25,7 +27,7 @@ use Rattle.rules.specs.Kind.{onGood}
 use Rattle.rules.specs.Refusal.{stepReason}
 use Rattle.rules.specs.Rows.{sendsColumns, leftAfter}
 use Rattle.rules.specs.Decision.{Decision, endOf, replyTo, refusalOf, refusedReply, refused, accepted, decisionOf}
-use Rattle.rules.specs.Step.{answerOf, stepOn}
+use Rattle.rules.specs.Step.{answerOf, stepOn, answerSays}
 use Rattle.rules.specs.Read.{ReadIn}
 use Rattle.rules.specs.StepRules.{Outcome, outcome, BufferMakesNoDifference}
 use Rattle.rules.proofs.ReadLaws.{frames-are-read}
@@ -86,8 +88,12 @@ step-outcome s x r buffer read room =
     rw (le-ltb (length buffer) minBuffer room)
     (ap (withReply x d) (reply-front buffer (replyBytes (d .reply)) (le-trans (decision-fits s x r read) room)))
 
+-- what is said of padding is no part of the buffer
+abbrev outcomeSays : Bool → Outcome → Outcome
+outcomeSays padded o = record { answer = answerSays padded (o .answer); session = o .session; reply = o .reply }
+
 pub buffer-makes-no-difference : BufferMakesNoDifference
 buffer-makes-no-difference s frame r buffer other h g =
     let x = frameOf frame in
     let read = frames-are-read frame in
-    step-outcome s x r buffer read h ∙ sym (step-outcome s x r other read g)
+    ap (outcomeSays (paddedOf frame)) (step-outcome s x r buffer read h ∙ sym (step-outcome s x r other read g))

@@ -4,6 +4,7 @@ pub mod RefusalLaws
 pub mod ReadLaws
 pub mod StepLaws
 pub mod LookLaws
+pub mod PaddedLaws
 pub mod BufferLaws
 pub mod SoundLaws
 pub mod EndingLaws

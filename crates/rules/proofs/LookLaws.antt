@@ -9,6 +9,7 @@ use lib.Dec.{eqb}
 use borrow.Author.Tests.{eqb-true, ne-eqb, lt-ltb, ltb-true, le-ltb}
 use Rattle.protocol.specs.Reason as Reason
 use Rattle.message.specs.Frame.{frameOf}
+use Rattle.message.specs.Padded.{paddedOf}
 use Rattle.message.specs.declared.request.Request.{Request}
 use Rattle.message.specs.declared.request.Request.the-variants.{Reset, SessionClose, Prepare, Execute, Deallocate, Open}
 use Rattle.message.specs.declared.request.Request.the-variants.{Close, Fetch}
@@ -25,7 +26,7 @@ use Rattle.rules.specs.Refusal.{lookReason, reportReason, stepReason}
 use Rattle.rules.specs.Rows.{rowCount, sendsColumns}
 use Rattle.rules.specs.Decision.{sessionAfter, replyTo, wireCode, refusedReply, refused, accepted, decidedBy}
 use Rattle.rules.specs.Decision.{decisionOf, looked, lookRefused, lookOf}
-use Rattle.rules.specs.Step.{short, stepBy, stepOn, lookAt, tooShort}
+use Rattle.rules.specs.Step.{short, stepBy, stepOn, lookAt, stepSays, tooShort}
 use Rattle.rules.specs.StepRules.{RefusesAlike, RefusesFew, ShortFirst, ReportNotConsulted}
 use Rattle.rules.proofs.RefusalLaws.{took-look, look-small, not-three, idle, few, report-few}
 use Rattle.rules.proofs.StepLaws.{step-has}
@@ -161,5 +162,5 @@ pub report-not-consulted : ReportNotConsulted
 unfolding stepOn lookAt
 report-not-consulted s frame r other buffer none =
     let x = frameOf frame in
-    ap (λ d. cond (short buffer) (tooShort s buffer) (stepBy x buffer d))
+    ap (λ d. stepSays (paddedOf frame) (cond (short buffer) (tooShort s buffer) (stepBy x buffer d)))
     (decided-same s x r other (eqb (lookReason s x) 0) refl none)

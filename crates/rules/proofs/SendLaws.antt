@@ -12,6 +12,7 @@ use Rattle.prelude.proofs.Cases.{both}
 use Rattle.protocol.specs.Reason as Reason
 use Rattle.message.specs.Head.{lengthBytes, lengthOf, maxLength, headOf}
 use Rattle.message.specs.Frame.{reasonOf, usedOf, frameOf, refusedHead, ofHead, frameIn}
+use Rattle.message.specs.Padded.{paddedOf}
 use Rattle.message.specs.declared.head.Head.{Head}
 use Rattle.message.specs.declared.request.Request.{Request}
 use Rattle.message.specs.declared.request.Request.the-variants.{Reset, SessionClose, Prepare, Execute, Deallocate, Open}
@@ -28,7 +29,7 @@ use Rattle.rules.specs.Report.{noWork, toFetch, workOf}
 use Rattle.rules.specs.Refusal.{lookReason, reportReason, stepReason}
 use Rattle.rules.specs.Rows.{firstRow, rowCount, sendsColumns}
 use Rattle.rules.specs.Decision.{accepted, decisionOf, looked, lookOf}
-use Rattle.rules.specs.Step.{stepBy, stepOn, lookAt, stepOf}
+use Rattle.rules.specs.Step.{stepBy, stepOn, lookAt, answerSays, stepOf}
 use Rattle.rules.specs.SendRules.{AcceptsIdle, SendsAsLooked, AsAsked, SendsAsAsked, Uses}
 use Rattle.rules.specs.SendRules.{UsesFrame, WritesWhole}
 use Rattle.rules.specs.SendRules.{WithAny, AsReported, SendsColumns}
@@ -156,10 +157,11 @@ as-reported (Fetch f) r a e = e
 
 pub sends-columns : SendsColumns
 sends-columns s frame r buffer used q e =
-    step-has (λ y. y .answer .reason ≡ Reason.accepted → AsReported q r (y .answer)) s (frameOf frame) r buffer
+    step-has (λ y. y .answer .reason ≡ Reason.accepted → AsReported q r (answerSays (paddedOf frame) (y .answer))) s
+    (frameOf frame) r buffer
     (λ _ z. absurd (omega arith))
     (λ used′ p _ t _.
-    as-reported q r (stepBy (Good used′ p) buffer (accepted s r p) .answer)
+    as-reported q r (answerSays (paddedOf frame) (stepBy (Good used′ p) buffer (accepted s r p) .answer))
     (ap (λ (v : Request). sendsColumns v r) (good-same (sym (t .good) ∙ e))))
     (λ _ some z. absurd (some z))
 
@@ -218,7 +220,9 @@ uses-by s frame r buffer (Head.Refused n) e a b c = absurd (head-refused s n r b
 
 pub uses-frame : UsesFrame
 unfolding frameOf
-uses-frame s frame r buffer = uses-by s frame r buffer (headOf frame) (head-ends frame)
+uses-frame s frame r buffer a b c =
+    let u = uses-by s frame r buffer (headOf frame) (head-ends frame) a b c in
+    record { own = u .own; within = u .within }
 
 -- ---- the reply
 

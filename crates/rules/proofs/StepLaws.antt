@@ -15,6 +15,7 @@ use Rattle.encode.specs.Put.{written}
 use Rattle.protocol.specs.Reason as Reason
 use Rattle.message.specs.Request.{stmtOf, cursorOf, argsOf}
 use Rattle.message.specs.Frame.{frameOf}
+use Rattle.message.specs.Padded.{paddedOf}
 use Rattle.message.specs.declared.request.Request.{Request}
 use Rattle.message.specs.declared.request.Frame.{Frame}
 use Rattle.message.specs.declared.request.Frame.the-variants.{NotAllThere, BadLength, UnknownType, BadPayload, Good}
@@ -30,7 +31,7 @@ use Rattle.rules.specs.Kind.{onGood}
 use Rattle.rules.specs.Refusal.{stepReason}
 use Rattle.rules.specs.Decision.{named, wireCode, refusalOf, refusedReply, refused, accepted}
 use Rattle.rules.specs.Decision.{decisionOf}
-use Rattle.rules.specs.Step.{Step, short, tooShort, stepBy, stepOn}
+use Rattle.rules.specs.Step.{Step, short, tooShort, stepBy, stepOn, stepSays}
 use Rattle.rules.specs.Read.{Read, ReadIn}
 use Rattle.rules.specs.StepRules.{Unchanged, Silent, Replies, errorBytes, Refused, RefusedChangesNothing}
 use Rattle.rules.proofs.ReadLaws.{frames-are-read}
@@ -174,10 +175,23 @@ refused-short s x r buffer =
       used = λ h. absurd (omega arith);
     }
 
+-- what is said of padding touches none of it
+refused-says : (s : Session) (x : Frame) (r : Report) (buffer : List ℕ) (padded : Bool) (after : Step) →
+    Refused s x r buffer after → Refused s x r buffer (stepSays padded after)
+refused-says s x r buffer padded after h =
+    let u = h .unchanged in
+    record {
+      unchanged = record { session = u .session; columns = u .columns; first = u .first; count = u .count };
+      silent = λ e. let q = h .silent e in record { used = q .used; reply = q .reply; kept = q .kept };
+      error = λ e. let w = h .error e in record { reply = w .reply; written = w .written };
+      used = h .used;
+    }
+
 pub refused-changes-nothing : RefusedChangesNothing
-refused-changes-nothing s frame r buffer =
+refused-changes-nothing s frame r buffer some =
     let x = frameOf frame in
+    refused-says s x r buffer (paddedOf frame) (stepOn s x r buffer) (
     step-has (λ after. (after .answer .reason ≡ 0 → ⊥) → Refused s x r buffer after) s x r buffer
     (λ _ _. refused-short s x r buffer)
     (λ _ _ _ _ some. absurd (some refl))
-    (λ room some _. refused-step s x r buffer (frames-are-read frame) room some)
+    (λ room some _. refused-step s x r buffer (frames-are-read frame) room some) some)

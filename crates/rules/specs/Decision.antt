@@ -120,7 +120,8 @@ decidedBy s x r reason =
 unfoldable pub decisionOf : Session → Frame → Report → Decision
 decisionOf s x r = decidedBy s x r (stepReason s x r)
 
--- "A look at a frame answers a refusal, or the work wanted"; "of a Fetch also the first row and count to send" (K3, K4)
+-- "A look at a frame answers a refusal, or the work wanted"; "of a Fetch also the first row and count to send" (K3,
+-- K4). What the bytes say of padding comes behind (specs/Step.antt)
 abbrev pub looked : Session → Request → Look
 looked s q =
     record {
@@ -128,10 +129,11 @@ looked s q =
       work = workOf q;
       first = firstRow s q;
       count = cond (isA fetch q) (fetchCount (Tables.liveCursor s (cursorOf q)) (rowsOf q)) 0;
+      padded = false;
     }
 
 abbrev pub lookRefused : ℕ → Look
-lookRefused reason = record { reason = reason; work = noWork; first = 0; count = 0 }
+lookRefused reason = record { reason = reason; work = noWork; first = 0; count = 0; padded = false }
 
 abbrev pub lookBy : Session → Frame → ℕ → Look
 lookBy s x reason = cond (eqb reason Reason.accepted) (onGood (lookRefused reason) (looked s) x) (lookRefused reason)

@@ -7,6 +7,7 @@ pub mod Decision
 pub mod Step
 pub mod Read
 pub mod StepRules
+pub mod PaddedRules
 pub mod SendRules
 pub mod RefusalRules
 pub mod Inspect

@@ -43,23 +43,26 @@ pub struct Report {
     pub code: u64,
 }
 
-// What a look answers: a refusal, or the work wanted, and of a Fetch the rows to send.
+// What a look answers: a refusal, or the work wanted, of a Fetch the rows to send, and whether a varint read in the
+// frame is padded.
 #[repr(C)]
 pub struct Look {
     pub reason: u64,
     pub work: u64,
     pub first: u64,
     pub count: u64,
+    pub padded: bool,
 }
 
-// What a step answers: the refusal or 0, the bytes used, the reply's length, whether columns go out, and
-// which rows.
+// What a step answers: the refusal or 0, the bytes used, the reply's length, whether columns go out, whether a varint
+// read in the frame is padded, and which rows.
 #[repr(C)]
 pub struct Answer {
     pub reason: u64,
     pub used: usize,
     pub reply: usize,
     pub columns: bool,
+    pub padded: bool,
     pub first: u64,
     pub count: u64,
 }

@@ -1,0 +1,70 @@
+-- What a look and a step say of padded varints: no where they refuse 1 to 6, and otherwise what was read, both alike.
+-- Assumes nothing.
+use Prim.Native.Nat.{ℕ, _≤_, _<_}
+use native.Mathlib.Omega.{arith}
+use mathlib.Core.Path.{_≡_, refl, sym, ap, _∙_}
+use mathlib.Core.Bool.{Bool, true, false, cond, not, _&&_}
+use mathlib.Core.List.{List}
+use lib.ListN.{length}
+use lib.Dec.{eqb, leb}
+use borrow.Author.Tests.{eqb-true, le-leb, le-ltb, lt-leb, not-true}
+use Rattle.prelude.proofs.Cases.{both, no}
+use Rattle.protocol.specs.Reason as Reason
+use Rattle.message.specs.Frame.{frameOf}
+use Rattle.message.specs.Padded.{paddedOf}
+use Rattle.message.specs.declared.request.Frame.{Frame}
+use Rattle.session.specs.Session.{Session}
+use Rattle.reply.specs.ReplyRules.{minBuffer}
+use Rattle.rules.specs.declared.Report.{Report}
+use Rattle.rules.specs.Refusal.{lookReason, reportReason, stepReason}
+use Rattle.rules.specs.Step.{saysNo, said, lookAt}
+use Rattle.rules.specs.PaddedRules.{Says, LookSays, StepSays, SaysAlike}
+use Rattle.rules.proofs.RefusalLaws.{report-passes}
+use Rattle.rules.proofs.LookLaws.{look-reason, step-reason}
+
+-- nothing read, nothing said
+pub said-none : (reason : ℕ) → said reason false ≡ false
+said-none reason = both (λ (b : Bool). b ≡ false) (saysNo reason) false false (λ _. refl) (λ _. refl)
+
+said-read : (reason : ℕ) (padded : Bool) → saysNo reason ≡ false → said reason padded ≡ padded
+said-read reason padded e = sym (no false padded e)
+
+says : (frame : List ℕ) (reason : ℕ) → Says frame reason (said reason (paddedOf frame))
+says frame reason =
+    record {
+      no = λ low high. rw (le-leb Reason.notAllThere reason low, le-leb reason Reason.badPayload high);
+      accepted = λ e. ap (λ n. said n (paddedOf frame)) e;
+      later = λ h.
+          said-read reason (paddedOf frame) (rw
+          (le-leb Reason.notAllThere reason (omega arith), lt-leb reason Reason.badPayload h));
+    }
+
+pub look-says : LookSays
+unfolding lookAt
+look-says s frame = says frame (lookAt s frame .reason)
+
+pub step-says : StepSays
+step-says s frame r buffer = says frame _
+
+-- ---- both alike
+
+-- a report is refused late, or not at all
+report-read : (x : Frame) (r : Report) → saysNo (reportReason x r) ≡ false
+report-read x r =
+    not-true (saysNo (reportReason x r)) (report-passes (λ n. not (saysNo n)) refl refl refl x r)
+
+said-alike : (s : Session) (x : Frame) (r : Report) (padded : Bool) →
+    said (stepReason s x r) padded ≡ said (lookReason s x) padded
+said-alike s x r padded =
+    both (λ n. said n padded ≡ said (lookReason s x) padded) (eqb (lookReason s x) 0) (reportReason x r)
+    (lookReason s x)
+    (λ e. said-read (reportReason x r) padded (report-read x r)
+    ∙ ap (λ n. said n padded) (sym (eqb-true (lookReason s x) 0 e)))
+    (λ _. refl)
+
+pub says-alike : SaysAlike
+unfolding lookAt
+says-alike s frame r buffer room =
+    let x = frameOf frame in
+    ap (λ n. said n (paddedOf frame)) (step-reason s x r buffer (le-ltb (length buffer) minBuffer room))
+    ∙ said-alike s x r (paddedOf frame) ∙ ap (λ n. said n (paddedOf frame)) (sym (look-reason s x))
