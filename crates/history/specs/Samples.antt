@@ -98,6 +98,7 @@ tells i first count reply =
             used = length (i .frame);
             reply = length reply;
             columns = false;
+            padded = false;
             first = first;
             count = count;
           };

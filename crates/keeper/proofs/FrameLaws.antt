@@ -24,7 +24,7 @@ use Rattle.rules.specs.declared.Report.{Report}
 use Rattle.rules.specs.Refusal.{lookReason, reportReason, stepReason}
 use Rattle.rules.specs.Read.{ReadIn}
 use Rattle.rules.specs.Decision.{refusalOf, refusedReply, refused, decisionOf}
-use Rattle.rules.specs.Step.{Step, stepBy, stepOn}
+use Rattle.rules.specs.Step.{Step, stepBy, stepOn, stepSays}
 use Rattle.rules.proofs.ReadLaws.{frames-are-read}
 use Rattle.rules.proofs.StepLaws.{error-fits, written-none}
 use Rattle.keeper.proofs.AnswerLaws.{put-behind}
@@ -35,9 +35,10 @@ use Rattle.keeper.specs.private.Does.{kindNamed, errorOf}
 -- ---- nothing is read
 
 module _ (s : Session) (r : Report) (b : List ℕ) where
-  pub short-step : (x : Frame) → length b < minBuffer → Does (stepOn s x r b) (refusing 0 Reason.noRoom) s b
+  pub short-step : (x : Frame) (padded : Bool) → length b < minBuffer →
+      Does (stepSays padded (stepOn s x r b)) (refusing 0 Reason.noRoom) s b
   unfolding stepOn
-  short-step x h = rw (lt-ltb (length b) minBuffer h) (record { answered = refl; kept = refl; replied = refl })
+  short-step x padded h = rw (lt-ltb (length b) minBuffer h) (record { answered = refl; kept = refl; replied = refl })
 
   pub cut-step : minBuffer ≤ length b → Does (stepOn s NotAllThere r b) (refusing 0 Reason.notAllThere) s b
   unfolding stepOn decisionOf lookReason reportReason refusedReply replyBytes
@@ -144,12 +145,6 @@ module _ (s : Session) (used : ℕ) (r : Report) (b : List ℕ) (room : minBuffe
       (subst (λ (k : ℕ). Answers (refusing used k) (Reply.Error (errorOf k noNames r)) b a after) e h)
 
 -- ---- what was read
-
--- what a step comes to on the frame that was read
-pub does-read : (s : Session) (frame : List ℕ) (r : Report) (b : List ℕ) {x y : Frame} {a : Answer} {s' : Session}
-    {after : List ℕ} → x ≡ frameOf frame → x ≡ y →
-    Does (stepOn s y r b) a s' after → Does (stepOn s (frameOf frame) r b) a s' after
-does-read s frame r b {x} {y} {a} {s'} {after} e f h = subst (λ z. Does (stepOn s z r b) a s' after) (sym f ∙ e) h
 
 pub readable : (frame b : List ℕ) {x : Frame} {used : ℕ} {q : Request} → x ≡ frameOf frame → x ≡ Good used q →
     minBuffer ≤ length b → Readable q b

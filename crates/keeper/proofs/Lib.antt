@@ -6,3 +6,4 @@ pub mod RequestLaws
 pub mod FrameLaws
 pub mod LookLaws
 pub mod InspectLaws
+pub mod PaddedLaws

@@ -64,12 +64,6 @@ module _ (s : Session) where
   unfolding lookOf lookReason
   look-any used q = refl
 
--- what was read
-pub look-read : (s : Session) (frame : List ℕ) {x y : Frame} {l : Look} → x ≡ frameOf frame → x ≡ y → l ≡ lookOf s y →
-    l ≡ lookAt s frame
-unfolding lookAt
-look-read s frame e f g = g ∙ ap (lookOf s) (sym f ∙ e)
-
 -- ---- a request
 
 module _ (s : Session) (q : Request) where
@@ -136,10 +130,10 @@ module _ (s : Session) (f : Fetch) (unclosed : isClosed s ≡ false) {c : Cursor
   fetch-refused h = without wanted (lookRefused n) (ne-eqb n 0 h) ∙ by-reason
 
   pub fetch-wanted : n ≡ 0 → {count : ℕ} → count ≡ fetchCount c (f .rows) →
-      record { reason = Reason.accepted; work = toFetch; first = c .sent; count = count } ≡ lookOf s
+      record { reason = Reason.accepted; work = toFetch; first = c .sent; count = count; padded = false } ≡ lookOf s
       (Good 0 (Request.Fetch f))
   fetch-wanted h k =
-      ap (λ (i : ℕ). record { reason = Reason.accepted; work = toFetch; first = c .sent; count = i }) k
+      ap (λ (i : ℕ). record { reason = Reason.accepted; work = toFetch; first = c .sent; count = i; padded = false }) k
       ∙ yes wanted (lookRefused n) (eq-eqb n 0 h) ∙ by-reason
 
 -- ---- closed or not
@@ -178,10 +172,10 @@ pub rows-not : (n : ℕ) (c : Cursor) (rows : Optional) → (n ≡ 0 → ⊥) �
 rows-not n c rows h = without (lookRows c rows) (lookRefused n) (ne-eqb n 0 h)
 
 pub rows-wanted : (n : ℕ) (c : Cursor) (rows : Optional) {count : ℕ} → count ≡ fetchCount c rows → n ≡ 0 →
-    record { reason = Reason.accepted; work = toFetch; first = c .sent; count = count }
+    record { reason = Reason.accepted; work = toFetch; first = c .sent; count = count; padded = false }
     ≡ cond (eqb n Reason.accepted) (lookRows c rows) (lookRefused n)
 rows-wanted n c rows e h =
-    ap (λ (k : ℕ). record { reason = Reason.accepted; work = toFetch; first = c .sent; count = k }) e
+    ap (λ (k : ℕ). record { reason = Reason.accepted; work = toFetch; first = c .sent; count = k; padded = false }) e
     ∙ yes (lookRows c rows) (lookRefused n) (eq-eqb n 0 h)
 
 pub found-not : (n work : ℕ) → (n ≡ 0 → ⊥) → lookRefused n ≡ cond (eqb n Reason.accepted) (lookWork work)

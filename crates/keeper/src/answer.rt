@@ -93,6 +93,7 @@ pub(crate) fn accept(buf: &mut [u8], used: usize, sends: Sends) -> Answer
         used,
         reply: n,
         columns: sends.columns,
+        padded: false,
         first: sends.first,
         count: sends.count,
     }
@@ -107,6 +108,7 @@ pub(crate) fn refuse_silently(reason: u64) -> Answer
         used: 0,
         reply: 0,
         columns: false,
+        padded: false,
         first: 0,
         count: 0,
     }
@@ -171,6 +173,7 @@ pub(crate) fn refuse(
         used,
         reply: n,
         columns: false,
+        padded: false,
         first: 0,
         count: 0,
     }

@@ -39,7 +39,7 @@ pub struct Inspected {
     pub touches: Touches,
 }
 
-// A frame that holds no request touches nothing.
+// A frame that holds no request touches nothing. Of padding the look says nothing yet: that is in the bytes.
 pub fn inspect(words: &[u32; WORDS], frame: Frame) -> Inspected
     ensures look { λ r. ⌜ r .look ≡ lookOf (sessionOf (now (words .entry))) frame ⌝ }
     ensures touches { λ r. ⌜ r .touches ≡ touchesIn (sessionOf (now (words .entry))) frame ⌝ }
@@ -153,6 +153,7 @@ fn fetch_look(refusal: u64, cursor: Cursor, asked: Optional) -> Look
         work: rules::FETCH,
         first: cursor.sent as u64,
         count: rows::fetch_count(cursor, asked),
+        padded: false,
     }
 }
 

@@ -3,6 +3,7 @@
 mod answer;
 pub mod inspect;
 pub mod look;
+pub mod padded;
 mod refusal;
 mod rows;
 pub mod step;

@@ -10,6 +10,7 @@ ghost use Rattle.session.specs.Words.{sessionOf};
 ghost use Rattle.rules.specs.Decision.{lookOf, lookRefused};
 ghost use Rattle.rules.specs.Step.{lookAt};
 ghost use Rattle.keeper.specs.private.Reasons.{lookWork};
+use crate::padded;
 use crate::refusal;
 use crate::rows;
 use message::request::Fetch;
@@ -23,18 +24,23 @@ use session::WORDS;
 pub fn look(words: &[u32; WORDS], frame: &[u8]) -> Look
     ensures { λ r. ⌜ r ≡ lookAt (sessionOf (now (words .entry))) (now (frame .entry)) ⌝ }
 {
-    match message::frame::read_frame(frame) {
+    let mut padded = false;
+    match message::frame::read_frame(frame, &mut padded) {
         Frame::NotAllThere => refused(reason::NOT_ALL_THERE),
         Frame::BadLength => refused(reason::BAD_LENGTH),
         Frame::UnknownType { used: _ } => refused(refusal::closed_or(words, reason::UNKNOWN_TYPE)),
         Frame::BadPayload { used: _, kind: _ } => {
             refused(refusal::closed_or(words, reason::BAD_PAYLOAD))
         }
-        Frame::Good { used: _, request } => look_at(words, request),
+        Frame::Good { used: _, request } => {
+            let mut look = look_at(words, request);
+            look.padded = padded::said(look.reason, padded);
+            look
+        }
     }
 }
 
-// The look at a request, of whatever frame.
+// The look at a request, of whatever frame; nothing is said of padding yet.
 fn look_at(words: &[u32; WORDS], request: Request) -> Look
     ensures { λ r. ⌜ r ≡ lookOf (sessionOf (now (words .entry))) (Frame.Good 0 request) ⌝ }
 {
@@ -89,6 +95,7 @@ fn look_fetch(words: &[u32; WORDS], f: Fetch) -> Look
         work: rules::FETCH,
         first: cursor.sent as u64,
         count: rows::fetch_count(cursor, asked),
+        padded: false,
     }
 }
 
@@ -100,6 +107,7 @@ pub(crate) fn refused(reason: u64) -> Look
         work: rules::NO_WORK,
         first: 0,
         count: 0,
+        padded: false,
     }
 }
 
@@ -115,5 +123,6 @@ pub(crate) fn found(reason: u64, work: u64) -> Look
         work,
         first: 0,
         count: 0,
+        padded: false,
     }
 }

@@ -8,6 +8,7 @@ ghost use Rattle.keeper.specs.private.Does.{Readable, Ready, Steps};
 use crate::answer;
 use crate::answer::Names;
 use crate::answer::Sends;
+use crate::padded;
 use crate::refusal;
 use crate::rows;
 use message::request::Execute;
@@ -39,7 +40,8 @@ pub fn step(words: &mut [u32; WORDS], frame: &[u8], report: Report, reply: &mut 
     if reply.len() < rules::MIN_BUFFER {
         return answer::refuse_silently(reason::NO_ROOM);
     }
-    match message::frame::read_frame(frame) {
+    let mut padded = false;
+    match message::frame::read_frame(frame, &mut padded) {
         Frame::NotAllThere => answer::refuse_silently(reason::NOT_ALL_THERE),
         Frame::BadLength => answer::refuse_silently(reason::BAD_LENGTH),
         Frame::UnknownType { used } => {
@@ -50,11 +52,15 @@ pub fn step(words: &mut [u32; WORDS], frame: &[u8], report: Report, reply: &mut 
             let refusal = refusal::closed_or(words, reason::BAD_PAYLOAD);
             answer::refuse(reply, used, refusal, answer::NO_NAMES, report)
         }
-        Frame::Good { used, request } => step_on(words, used, request, report, reply),
+        Frame::Good { used, request } => {
+            let mut answer = step_on(words, used, request, report, reply);
+            answer.padded = padded::said(answer.reason, padded);
+            answer
+        }
     }
 }
 
-// The step on a request. What a closed session refuses names nothing.
+// The step on a request; nothing is said of padding yet. What a closed session refuses names nothing.
 fn step_on(
     words: &mut [u32; WORDS],
     used: usize,

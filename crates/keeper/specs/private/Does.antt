@@ -55,6 +55,7 @@ withLength n a =
       used = a .used;
       reply = n;
       columns = a .columns;
+      padded = a .padded;
       first = a .first;
       count = a .count;
     }
@@ -66,12 +67,14 @@ accepting used x =
       used = used;
       reply = 0;
       columns = x .columns;
+      padded = false;
       first = x .first;
       count = x .count;
     }
 
 abbrev pub refusing : ℕ → ℕ → Answer
-refusing used reason = record { reason = reason; used = used; reply = 0; columns = false; first = 0; count = 0 }
+refusing used reason =
+    record { reason = reason; used = used; reply = 0; columns = false; padded = false; first = 0; count = 0 }
 
 -- the answer with the length of its reply, which stands at the front of the buffer
 pub record Answers (answer : Answer) (reply : Reply) (before : List ℕ) (r : Answer) (after : List ℕ) : Type 0 where

@@ -1,7 +1,7 @@
 -- The refusals of each request, by the entries that were looked up. For private contracts: what is promised (crate
 -- rules, `lookAt` and `stepOf`) does not cite it.
 use Prim.Native.Nat.{ℕ}
-use mathlib.Core.Bool.{Bool, cond, not, _&&_, _||_}
+use mathlib.Core.Bool.{Bool, false, cond, not, _&&_, _||_}
 use mathlib.Core.List.{[], _∷_}
 use lib.Dec.{eqb, ltb, leb}
 use Rattle.protocol.specs.Reason as Reason
@@ -63,8 +63,9 @@ consulted suits fails =
 
 -- a look that wants this work, and sends no rows
 abbrev pub lookWork : ℕ → Look
-lookWork work = record { reason = Reason.accepted; work = work; first = 0; count = 0 }
+lookWork work = record { reason = Reason.accepted; work = work; first = 0; count = 0; padded = false }
 
 -- a look at a Fetch of this cursor, with the rows to send
 abbrev pub lookRows : Cursor → Optional → Look
-lookRows c rows = record { reason = Reason.accepted; work = toFetch; first = c .sent; count = fetchCount c rows }
+lookRows c rows =
+    record { reason = Reason.accepted; work = toFetch; first = c .sent; count = fetchCount c rows; padded = false }

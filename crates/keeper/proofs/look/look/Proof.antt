@@ -1,8 +1,9 @@
 -- `keeper::look::look` meets its contract: what the frame is by itself comes first, then its request. Assumes nothing.
-use mathlib.Core.Path.{_∙_}
+use mathlib.Core.Path.{refl, _∙_}
 use borrow.Author.Needs.{needs}
 use Rattle.session.specs.Words.{sessionOf}
-use Rattle.keeper.proofs.LookLaws.{cut-look, length-look, unknown-look, payload-look, look-any, look-read}
+use Rattle.keeper.proofs.LookLaws.{cut-look, length-look, unknown-look, payload-look, look-any}
+use Rattle.keeper.proofs.PaddedLaws.{look-told, look-unread}
 use Rattle.keeper.proofs.look.look.Statement.{statement}
 use Rattle.keeper.proofs.look.look.Tie as tie
 
@@ -10,47 +11,50 @@ returns : tie.Need-returns
 returns c =
     let t = c .before in
     let f = t .before .before in
-    let a = f .before .before .args in
+    let a = f .before .before .before .args in
     let s = sessionOf (a .words .now) in
-    look-read s (a .frame .now) (f .read-frame .ensures) (t .enum-told .given .1) (c .refused .ensures ∙ cut-look s)
+    look-unread s (a .frame .now) (f .read-frame .ensures .0) (t .enum-told .given .1) (λ _. refl) (c .refused .ensures)
+    (cut-look s)
 
 returns-2 : tie.Need-returns-2
 returns-2 c =
     let t = c .before in
     let f = t .before .before in
-    let a = f .before .before .args in
+    let a = f .before .before .before .args in
     let s = sessionOf (a .words .now) in
-    look-read s (a .frame .now) (f .read-frame .ensures) (t .enum-told2 .given .1)
-    (c .refused2 .ensures ∙ length-look s)
+    look-unread s (a .frame .now) (f .read-frame .ensures .0) (t .enum-told2 .given .1) (λ _. refl)
+    (c .refused2 .ensures) (length-look s)
 
 returns-3 : tie.Need-returns-3
 returns-3 c =
     let t = c .before .before in
     let f = t .before .before in
-    let a = f .before .before .args in
+    let a = f .before .before .before .args in
     let s = sessionOf (a .words .now) in
-    look-read s (a .frame .now) (f .read-frame .ensures) (t .enum-told3 .given .1)
-    (c .refused3 .ensures ∙ unknown-look s _ (c .before .closed-or .ensures))
+    look-unread s (a .frame .now) (f .read-frame .ensures .0) (t .enum-told3 .given .1) (λ _. refl)
+    (c .refused3 .ensures) (unknown-look s _ (c .before .closed-or .ensures))
 
 returns-4 : tie.Need-returns-4
 returns-4 c =
     let t = c .before .before in
     let f = t .before .before in
-    let a = f .before .before .args in
+    let a = f .before .before .before .args in
     let s = sessionOf (a .words .now) in
-    look-read s (a .frame .now) (f .read-frame .ensures) (t .enum-told4 .given .1)
-    (c .refused4 .ensures ∙ payload-look s _ _ (c .before .closed-or2 .ensures))
+    look-unread s (a .frame .now) (f .read-frame .ensures .0) (t .enum-told4 .given .1) (λ _. refl)
+    (c .refused4 .ensures) (payload-look s _ _ (c .before .closed-or2 .ensures))
 
 returns-5 : tie.Need-returns-5
 returns-5 c =
-    let t = c .before .before in
+    let l = c .before in
+    let t = l .before .before in
     let f = t .before .before in
-    let a = f .before .before .args in
+    let a = f .before .before .before .args in
     let s = sessionOf (a .words .now) in
-    look-read s (a .frame .now) (f .read-frame .ensures) (t .request .given .1) (c .look-at .ensures ∙ look-any s _ _)
+    look-told s (a .frame .now) (f .read-frame .ensures .0) _ (t .request .given .1) (f .read-frame .ensures .1)
+    (l .look-at .ensures ∙ look-any s _ _) (c .said .ensures)
 
 pub look-spec : {M : Type 1} → statement M
 look-spec = tie.close (tie.spec (λ c κs. search needs) (λ c. search needs) (λ c κs. search needs) (λ c. search needs)
     (λ c κs. search needs) (λ c. search needs) (λ c κs. search needs) (λ c κs. search needs) (λ c. search needs)
-    (λ c κs. search needs) (λ c κs. search needs) (λ c. search needs) (λ c κs. search needs) returns returns-2 returns-3
+    (λ c κs. search needs) (λ c κs. search needs) (λ c. search needs) (λ c κs. search needs) (λ c κs. search needs) returns returns-2 returns-3
     returns-4 returns-5)

@@ -1,10 +1,11 @@
 -- `keeper::step::step` meets its contract: room comes first, then what the frame is by itself, then its request.
 -- Assumes nothing.
 use Prim.Native.Nat.{ℕ}
-use mathlib.Core.Path.{_≡_}
+use mathlib.Core.Path.{_≡_, refl}
 use mathlib.Core.List.{List}
 use borrow.Author.Needs.{needs}
 use Rattle.message.specs.Frame.{frameOf}
+use Rattle.message.specs.Padded.{paddedOf}
 use Rattle.message.specs.declared.request.Frame.{Frame}
 use Rattle.session.specs.Session.{Session}
 use Rattle.session.specs.Words.{sessionOf}
@@ -12,46 +13,47 @@ use Rattle.keeper.proofs.FrameLaws.{short-step, cut-step, length-step, 
 use Rattle.rules.specs.declared.Answer.{Answer}
 use Rattle.rules.specs.Step.{stepOn, stepOf}
 use Rattle.keeper.specs.private.Does.{Does}
-use Rattle.keeper.proofs.FrameLaws.{does-read, readable, sym-answer, Clauses, clauses}
+use Rattle.keeper.proofs.FrameLaws.{readable, sym-answer, Clauses, clauses}
+use Rattle.keeper.proofs.PaddedLaws.{Mute, does-told, does-unread}
 use Rattle.keeper.proofs.step.step.Statement.{statement}
 use Rattle.keeper.proofs.step.step.Tie as tie
 
--- there is room, where the frame was read; what is done is done of what it was read as
+-- there is room, where the frame was read; one that holds no request says nothing of padding
 abbrev start : tie.After-read-frame → tie.Start
-start f = f .before .before .before .before
+start f = f .before .before .before .before .before
 
 of : (f : tie.After-read-frame) {x : Frame} {a : Answer} {s : Session} {after : List ℕ} →
-    f .read-frame .result ≡ x →
+    f .read-frame .result ≡ x → Mute x →
     Does (stepOn (sessionOf (start f .args .words .now)) x (start f .args .report) (start f .args .reply .now)) a s
     after →
     Clauses (stepOf (sessionOf (start f .args .words .now)) (start f .args .frame .now) (start f .args .report)
     (start f .args .reply .now)) a s after
-of f e h =
+of f e mute h =
     let a = start f .args in
-    clauses (does-read (sessionOf (a .words .now)) (a .frame .now) (a .report) (a .reply .now)
-    (f .read-frame .ensures) e h)
+    clauses (does-unread (sessionOf (a .words .now)) (a .frame .now) (a .report) (a .reply .now)
+    (f .read-frame .ensures .0) e mute h)
 
 returns-2 : tie.Need-returns-2
 returns-2 c =
     let f = c .before .before .before in
     let a = start f .args in
-    of f (c .before .enum-told .given .1) (sym-answer (c .refuse-silently2 .ensures)
-    (cut-step (sessionOf (a .words .now)) (a .report) (a .reply .now) (f .before .if1 .left)))
+    of f (c .before .enum-told .given .1) (λ _. refl) (sym-answer (c .refuse-silently2 .ensures)
+    (cut-step (sessionOf (a .words .now)) (a .report) (a .reply .now) (f .before .before .if1 .left)))
 
 returns-3 : tie.Need-returns-3
 returns-3 c =
     let f = c .before .before .before in
     let a = start f .args in
-    of f (c .before .enum-told2 .given .1) (sym-answer (c .refuse-silently3 .ensures)
-    (length-step (sessionOf (a .words .now)) (a .report) (a .reply .now) (f .before .if1 .left)))
+    of f (c .before .enum-told2 .given .1) (λ _. refl) (sym-answer (c .refuse-silently3 .ensures)
+    (length-step (sessionOf (a .words .now)) (a .report) (a .reply .now) (f .before .before .if1 .left)))
 
 returns-4 : tie.Need-returns-4
 returns-4 c =
     let k = c .before .before .before .before in
     let f = k .before .before .before .before .before in
     let a = start f .args in
-    of f (k .before .before .before .used .given .1)
-    (unknown-refuses (sessionOf (a .words .now)) _ (a .report) (a .reply .now) (f .before .if1 .left)
+    of f (k .before .before .before .used .given .1) (λ _. refl)
+    (unknown-refuses (sessionOf (a .words .now)) _ (a .report) (a .reply .now) (f .before .before .if1 .left)
     (k .closed-or .ensures) (c .before .before .refuse .ensures))
 
 returns-5 : tie.Need-returns-5
@@ -59,19 +61,28 @@ returns-5 c =
     let k = c .before .before .before .before in
     let f = k .before .before .before .before .before in
     let a = start f .args in
-    of f (k .before .before .before .used2 .given .1)
-    (payload-refuses (sessionOf (a .words .now)) _ (a .report) (a .reply .now) (f .before .if1 .left) _
+    of f (k .before .before .before .used2 .given .1) (λ _. refl)
+    (payload-refuses (sessionOf (a .words .now)) _ (a .report) (a .reply .now) (f .before .before .if1 .left) _
     (k .closed-or2 .ensures) (c .before .before .refuse2 .ensures))
+
+returns-6 : tie.Need-returns-6
+returns-6 c =
+    let d = c .before .before .before in
+    let u = d .before .before .before .before in
+    let f = u .before .before in
+    let a = start f .args in
+    clauses (does-told (sessionOf (a .words .now)) (a .frame .now) (a .report) (a .reply .now)
+    (f .read-frame .ensures .0) _ (u .used3 .given .1) (f .read-frame .ensures .1) (d .step-on .ensures)
+    (c .said .ensures))
 
 pub step-spec : {M : Type 1} → statement M
 step-spec = tie.close (tie.spec (λ c κs. search needs)
     (λ c. let a = c .before .before .before .before .args in clauses (sym-answer (c .refuse-silently .ensures)
     (short-step (sessionOf (a .words .now)) (a .report) (a .reply .now) (frameOf (a .frame .now))
-    (c .before .if1 .taken)))) (λ c κs. search needs) (λ c. search needs) (λ c κs. search needs) (λ c. search needs)
+    (paddedOf (a .frame .now)) (c .before .if1 .taken)))) (λ c κs. search needs) (λ c. search needs) (λ c κs. search needs) (λ c. search needs)
     (λ c κs. search needs) (λ c. search needs) (λ c κs. search needs) (λ c κs. search needs) (λ c. search needs)
     (λ c κs. search needs) (λ c κs. search needs) (λ c. search needs)
     (λ c κs. let u = c .before .before .before in let f = u .before .before in readable (start f .args .frame .now)
-    (start f .args .reply .now) (f .read-frame .ensures) (u .used3 .given .1) (f .before .if1 .left)) returns-2
-    returns-3 (λ c. search needs) returns-4 (λ c. search needs) returns-5 (λ c. search needs)
-    (λ c. let u = c .before .before .before .before .before .before in of (u .before .before) (u .used3 .given .1)
-    (c .before .before .step-on .ensures)))
+    (start f .args .reply .now) (f .read-frame .ensures .0) (u .used3 .given .1) (f .before .before .if1 .left))
+    (λ c κs. search needs) returns-2 returns-3 (λ c. search needs) returns-4 (λ c. search needs) returns-5
+    (λ c. search needs) returns-6)
