@@ -15,6 +15,8 @@ const ARGS: u64 = fields::ARGS as u64;
 fn is_stretch(s: &[u8]) -> bool
     ensures { λ r. ⌜ r ≡ goodStretch (now (s .entry)) ⌝ }
 {
+    // A flag that nobody looks at: whether a stretch is padded is not asked here.
+    let mut unread = false;
     let mut p = 0;
     while p < s.len() {
         let Field::Good {
@@ -24,7 +26,7 @@ fn is_stretch(s: &[u8]) -> bool
             start,
             len,
             next,
-        } = wire::field::long_field(s, p)
+        } = wire::field::long_field(s, p, &mut unread)
         else {
             return false;
         };
@@ -34,7 +36,7 @@ fn is_stretch(s: &[u8]) -> bool
         if wire != wire_type::LEN {
             return false;
         }
-        let a = args::value::long_argument(s, start, len);
+        let a = args::value::long_argument(s, start, len, &mut unread);
         if args::arguments::any_type(a) == anys::NONE {
             return false;
         }
