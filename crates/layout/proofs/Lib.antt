@@ -9,3 +9,5 @@ pub mod UnreadLaws
 pub mod ApartLaws
 pub mod AlikeLaws
 pub mod PaddedLaws
+pub mod AbsentLaws
+pub mod MovedFlagLaws

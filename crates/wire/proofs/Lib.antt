@@ -9,3 +9,4 @@ pub mod AgreeLaws
 pub mod MovedLaws
 pub mod NumberLaws
 pub mod PaddedLaws
+pub mod MovedFlagLaws
