@@ -16,3 +16,4 @@ pub mod BoundLaws
 pub mod UnreadLaws
 pub mod PaddedLaws
 pub mod InsideLaws
+pub mod MovedFlagLaws
