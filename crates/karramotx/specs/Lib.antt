@@ -4,3 +4,4 @@ pub mod Inspection
 pub mod Value
 pub mod ValueRules
 pub mod Given
+pub mod private

@@ -1,8 +1,12 @@
 -- A frame as one struct. What its message does not have is 0, absent or none.
 use Prim.Native.Nat.{ℕ}
+use mathlib.Core.Bool.{Bool, false}
+use mathlib.Core.List.{List}
 use Rattle.protocol.specs.Reason as Reason
 use Rattle.args.specs.Arguments.{noArguments}
 use Rattle.args.specs.declared.arguments.Arguments.{Arguments}
+use Rattle.message.specs.Frame.{frameOf}
+use Rattle.message.specs.Padded.{paddedOf}
 use Rattle.message.specs.Request.{noOptional, noPart, kindOf, stmtOf, cursorOf, rowsOf, compactOf, operationOf, bodyOf}
 use Rattle.message.specs.Request.{argsOf}
 use Rattle.message.specs.declared.request.Frame.{Frame}
@@ -36,6 +40,7 @@ bare reason used kind =
       operation = 0;
       body = noPart;
       args = argsTold (noArguments 0 0);
+      padded = false;
     }
 
 abbrev pub blank : ℕ → ℕ → Message
@@ -62,4 +67,26 @@ messageOf (Good used q) =
       operation = operationOf q;
       body = bodyOf q;
       args = argsTold (argsOf q);
+      padded = false;
     }
+
+-- with this said of padding
+abbrev pub messageSays : Bool → Message → Message
+messageSays padded m =
+    record {
+      reason = m .reason;
+      used = m .used;
+      kind = m .kind;
+      stmt = m .stmt;
+      cursor = m .cursor;
+      rows = m .rows;
+      compact = m .compact;
+      operation = m .operation;
+      body = m .body;
+      args = m .args;
+      padded = padded;
+    }
+
+-- by its bytes, which tell too whether a varint read in them is padded (K18)
+abbrev pub messageAt : List ℕ → Message
+messageAt frame = messageSays (paddedOf frame) (messageOf (frameOf frame))

@@ -1,7 +1,8 @@
 // All that a host needs to know of a frame before its step, from one reading.
 ghost use mathlib.Core.Path.{_≡_};
+ghost use Rattle.message.specs.Padded.{whereGood};
 ghost use Rattle.session.specs.Words.{sessionOf};
-ghost use Rattle.karramotx.specs.Inspection.{inspectionOf};
+ghost use Rattle.karramotx.specs.private.Inspected.{inspected};
 use crate::told;
 use crate::told::Message;
 use message::request::Frame;
@@ -21,16 +22,18 @@ pub struct Inspection {
     pub ends: u64,
 }
 
-// Of a frame that is read already.
-pub fn inspect(session: &[u32; WORDS], frame: Frame) -> Inspection
-    ensures { λ r. ⌜ r ≡ inspectionOf (sessionOf (now (session .entry))) frame ⌝ }
+// Of a frame that is read already, with what its reading told of padding.
+pub fn inspect(session: &[u32; WORDS], frame: Frame, padded: bool) -> Inspection
+    ensures { λ r. ⌜ r ≡ inspected (sessionOf (now (session .entry))) frame (whereGood frame padded) ⌝ }
 {
     let found = keeper::inspect::inspect(session, frame);
-    let look = found.look;
+    let message = told::message_of(frame, padded);
+    let mut look = found.look;
+    look.padded = keeper::padded::said(look.reason, message.padded);
     let touches = found.touches;
     Inspection {
         look,
-        message: told::message_of(frame),
+        message,
         stmt_place: touches.stmt,
         cursor_place: touches.cursor,
         ends: touches.ends,

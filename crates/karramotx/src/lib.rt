@@ -15,7 +15,7 @@ ghost use Rattle.writer.specs.Write.{leftOf, sentOf};
 ghost use Rattle.karramotx.specs.Counts.{countsOf};
 ghost use Rattle.karramotx.specs.Given.{givenArgument};
 ghost use Rattle.karramotx.specs.Inspection.{inspectionOf};
-ghost use Rattle.karramotx.specs.Message.{messageOf};
+ghost use Rattle.karramotx.specs.Message.{messageAt};
 ghost use Rattle.karramotx.specs.Value.{nextValueOf, valueOf};
 use args::part::Part;
 use given::Scalar;
@@ -58,9 +58,11 @@ pub extern "C" fn karramotx_fresh() -> Session
 // What the frame means by itself. Its arguments lie from `args.start` to `args.end`.
 #[no_mangle]
 pub extern "C" fn karramotx_read(frame: &[u8]) -> Message
-    ensures { λ r. ⌜ r ≡ messageOf (frameOf (now (frame .entry))) ⌝ }
+    ensures { λ r. ⌜ r ≡ messageAt (now (frame .entry)) ⌝ }
 {
-    told::message_of(message::frame::read_frame(frame))
+    let mut padded = false;
+    let read = message::frame::read_frame(frame, &mut padded);
+    told::message_of(read, padded)
 }
 
 // A refusal, or the work that the frame wants of the engine. The host's own session is only read.
@@ -75,9 +77,11 @@ pub extern "C" fn karramotx_look(session: &[u32; WORDS], frame: &[u8]) -> Look
 // ends. The host's own session is only read.
 #[no_mangle]
 pub extern "C" fn karramotx_inspect(session: &[u32; WORDS], frame: &[u8]) -> Inspection
-    ensures { λ r. ⌜ r ≡ inspectionOf (sessionOf (now (session .entry))) (frameOf (now (frame .entry))) ⌝ }
+    ensures { λ r. ⌜ r ≡ inspectionOf (sessionOf (now (session .entry))) (now (frame .entry)) ⌝ }
 {
-    inspection::inspect(session, message::frame::read_frame(frame))
+    let mut padded = false;
+    let read = message::frame::read_frame(frame, &mut padded);
+    inspection::inspect(session, read, padded)
 }
 
 // The step on the host's own session, in place: its words become those of the session after the step, the reply stands

@@ -1,8 +1,9 @@
 // A frame as one struct, for hosts that have no enum.
 ghost use mathlib.Core.Path.{_≡_};
+ghost use Rattle.message.specs.Padded.{whereGood};
 ghost use Rattle.message.specs.declared.request.Frame.{Frame};
 ghost use Rattle.message.specs.declared.request.Request.{Request};
-ghost use Rattle.karramotx.specs.Message.{argsTold, blank, messageOf, refused};
+ghost use Rattle.karramotx.specs.Message.{argsTold, blank, messageOf, messageSays, refused};
 use args::arguments::Arguments;
 use args::part::Part;
 use message::request::Execute;
@@ -16,7 +17,8 @@ use protocol::client;
 use protocol::reason;
 
 // `reason` is 0, or the number by which the frame is refused by itself, and then all else but `used` is 0. `used` is
-// the frame's length, 0 where it is refused 1 or 2. What the message's type does not have is 0 or absent.
+// the frame's length, 0 where it is refused 1 or 2. What the message's type does not have is 0 or absent. `padded` says
+// whether a varint read in the frame is padded.
 #[repr(C)]
 pub struct Message {
     pub reason: u64,
@@ -32,6 +34,7 @@ pub struct Message {
     pub operation: u64,
     pub body: Part,
     pub args: Args,
+    pub padded: bool,
 }
 
 // The arguments, as `Arguments` has them.
@@ -45,15 +48,20 @@ pub struct Args {
     pub end: usize,
 }
 
-pub fn message_of(frame: Frame) -> Message
-    ensures { λ r. ⌜ r ≡ messageOf frame ⌝ }
+// With what its reading told of padding: a frame that is refused says no.
+pub fn message_of(frame: Frame, padded: bool) -> Message
+    ensures { λ r. ⌜ r ≡ messageSays (whereGood frame padded) (messageOf frame) ⌝ }
 {
     match frame {
         Frame::NotAllThere => refused(reason::NOT_ALL_THERE, 0),
         Frame::BadLength => refused(reason::BAD_LENGTH, 0),
         Frame::UnknownType { used } => refused(reason::UNKNOWN_TYPE, used),
         Frame::BadPayload { used, kind: _ } => refused(reason::BAD_PAYLOAD, used),
-        Frame::Good { used, request } => told(used, request),
+        Frame::Good { used, request } => {
+            let mut m = told(used, request);
+            m.padded = padded;
+            m
+        }
     }
 }
 
@@ -90,6 +98,7 @@ fn refused(reason: u64, used: usize) -> Message
         operation: 0,
         body: Part { start: 0, len: 0 },
         args: args_told(Arguments::none(0, 0)),
+        padded: false,
     }
 }
 

@@ -150,7 +150,8 @@ fn refused(s: &[u8], reason: u64, used: usize) {
 }
 
 pub fn print(s: &[u8]) {
-    match message::frame::read_frame(s) {
+    let mut unread = false;
+    match message::frame::read_frame(s, &mut unread) {
         Frame::NotAllThere => refused(s, reason::NOT_ALL_THERE, 0),
         Frame::BadLength => refused(s, reason::BAD_LENGTH, 0),
         Frame::UnknownType { used } => refused(s, reason::UNKNOWN_TYPE, used),

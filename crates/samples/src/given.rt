@@ -69,11 +69,12 @@ pub const TEXT: u64 = 29;
 
 // The field of this number.
 fn find(s: &[u8], number: u64) -> Field {
+    let mut unread = false;
     let mut p = 0;
     let mut left = s.len();
     while left > 0 {
         left -= 1;
-        match wire::field::long_field(s, p) {
+        match wire::field::long_field(s, p, &mut unread) {
             Field::Good {
                 number: n,
                 wire,

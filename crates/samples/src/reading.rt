@@ -6,14 +6,16 @@ use varint::Varint;
 use wire::field::Field;
 
 fn print_varint(s: &[u8]) {
-    match varint::read_varint(s, 0) {
+    let mut unread = false;
+    match varint::read_varint(s, 0, &mut unread) {
         Varint::Number { value, next } => phrase::print(phrase::VARINT, value, next as u64),
         Varint::Bad => phrase::print(phrase::BAD, 0, 0),
     }
 }
 
 fn print_zigzag(s: &[u8]) {
-    match varint::read_varint(s, 0) {
+    let mut unread = false;
+    match varint::read_varint(s, 0, &mut unread) {
         Varint::Number { value, next: _ } => {
             out::signed(
                 phrase::PLUS,
@@ -27,6 +29,7 @@ fn print_zigzag(s: &[u8]) {
 
 // Each field of the list: number, wire type, value, place and length.
 fn print_fields(s: &[u8]) {
+    let mut unread = false;
     let mut p = 0;
     let mut left = s.len();
     while left > 0 {
@@ -34,7 +37,7 @@ fn print_fields(s: &[u8]) {
             return phrase::print(phrase::LINE, 0, 0);
         }
         left -= 1;
-        match wire::field::long_field(s, p) {
+        match wire::field::long_field(s, p, &mut unread) {
             Field::Good {
                 number,
                 wire,

@@ -46,7 +46,9 @@ fn why_unended(s: &[u8], at: usize) -> Number
 pub fn read_number(s: &[u8], at: usize) -> Number
     ensures { λ r. ⌜ r ≡ numberAt (now (s .entry)) at ⌝ }
 {
-    match varint::read_varint(s, at) {
+    // A flag that nobody looks at: a record may be padded.
+    let mut unread = false;
+    match varint::read_varint(s, at, &mut unread) {
         Varint::Number { value, next } => Number::Value { value, next },
         Varint::Bad => why_unended(s, at),
     }

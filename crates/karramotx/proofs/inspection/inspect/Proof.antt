@@ -1,8 +1,11 @@
 -- `karramotx::inspection::inspect` meets its contract: each part is the frame's. Assumes nothing.
 use borrow.Author.Needs.{needs}
+use mathlib.Core.Bool.{Bool}
 use mathlib.Core.Path.{_≡_, ap, _∙_}
 use Rattle.rules.specs.declared.Look.{Look}
 use Rattle.rules.specs.declared.Touches.{Touches}
+use Rattle.rules.specs.Step.{said, lookSays}
+use Rattle.keeper.proofs.PaddedLaws.{lookWith}
 use Rattle.karramotx.specs.declared.told.Message.{Message}
 use Rattle.karramotx.specs.declared.inspection.Inspection.{Inspection}
 use Rattle.karramotx.proofs.inspection.inspect.Statement.{statement}
@@ -15,10 +18,19 @@ all l m t =
 together : {l l' : Look} {m m' : Message} (t t' : Touches) → l ≡ l' → m ≡ m' → t ≡ t' → all l m t ≡ all l' m' t'
 together {l} {l'} {m} {m'} t t' e f g = ap (λ x. all x m t) e ∙ ap (λ x. all l' x t) f ∙ ap (λ x. all l' m' x) g
 
+-- what the message says, the look says by its reason
+look-with : {l l' : Look} {padded p w : Bool} → l ≡ l' → padded ≡ said (l .reason) p → p ≡ w →
+    lookWith padded l ≡ lookSays w l'
+look-with {l} {w = w} e f g =
+    ap (λ (b : Bool). lookWith b l) (f ∙ ap (said (l .reason)) g) ∙ ap (lookSays w) e
+
 returns : tie.Need-returns
 returns c =
-    let k = c .before .before .before .inspect .ensures in
-    together _ _ (k .0) (c .message-of .ensures) (k .1)
+    let d = c .before in
+    let m = d .before .before in
+    let f = m .before .inspect .ensures in
+    together _ _ (look-with (f .0) (d .said .ensures) (ap (λ x. x .padded) (m .message-of .ensures)))
+    (m .message-of .ensures) (f .1)
 
 pub inspect-spec : {M : Type 1} → statement M
-inspect-spec = tie.close (tie.spec (λ c κs. search needs) (λ c κs. search needs) returns)
+inspect-spec = tie.close (tie.spec (λ c κs. search needs) (λ c κs. search needs) (λ c κs. search needs) returns)

@@ -1,6 +1,7 @@
 -- `karramotx::told::refused` meets its contract: there are no arguments. Assumes nothing.
 use borrow.Author.Needs.{needs}
 use Prim.Native.Nat.{ℕ}
+use mathlib.Core.Bool.{false}
 use mathlib.Core.Path.{ap, _∙_}
 use Rattle.message.specs.Request.{noOptional, noPart}
 use Rattle.karramotx.specs.Message.{argsTold}
@@ -22,6 +23,7 @@ with-args reason used args =
       operation = 0;
       body = noPart;
       args = args;
+      padded = false;
     }
 
 returns : tie.Need-returns
