@@ -278,12 +278,14 @@ struct karramotx_look {
     uint64_t work;                 /* enum karramotx_work */
     uint64_t first;                /* of a Fetch, the first row to send, from 0; else 0 */
     uint64_t count;                /* of a Fetch, how many rows to send; else 0 */
+    bool padded;                   /* whether a varint read in the payload was padded; refused 1 to 6: false */
 };
-KARRAMOTX_SIZE(karramotx_look, 32);
+KARRAMOTX_SIZE(karramotx_look, 40);
 KARRAMOTX_FIELD(karramotx_look, reason, 0);
 KARRAMOTX_FIELD(karramotx_look, work, 8);
 KARRAMOTX_FIELD(karramotx_look, first, 16);
 KARRAMOTX_FIELD(karramotx_look, count, 24);
+KARRAMOTX_FIELD(karramotx_look, padded, 32);
 
 /* A look changes nothing. Bytes past the frame are not read. */
 struct karramotx_look karramotx_look(const struct karramotx_session *session, const uint8_t *frame, size_t len);
@@ -317,6 +319,7 @@ struct karramotx_answer {
     size_t used;                   /* bytes of the frame; 0 where it is refused 1, 2 or 3 */
     size_t reply;                  /* bytes of the reply, an Error frame where it is refused 4 or more */
     bool columns;                  /* whether columns go out, ahead of the rows */
+    bool padded;                   /* as in karramotx_look */
     uint64_t first;                /* the first row to send, from 0 */
     uint64_t count;                /* how many rows to send, ahead of the reply */
 };
@@ -325,6 +328,7 @@ KARRAMOTX_FIELD(karramotx_answer, reason, 0);
 KARRAMOTX_FIELD(karramotx_answer, used, 8);
 KARRAMOTX_FIELD(karramotx_answer, reply, 16);
 KARRAMOTX_FIELD(karramotx_answer, columns, 24);
+KARRAMOTX_FIELD(karramotx_answer, padded, 25);
 KARRAMOTX_FIELD(karramotx_answer, first, 32);
 KARRAMOTX_FIELD(karramotx_answer, count, 40);
 
@@ -379,8 +383,9 @@ struct karramotx_message {
     uint64_t operation;            /* of a Prepare, enum karramotx_operation */
     struct karramotx_part body;    /* the body that a Prepare's type chooses; an Open's Execute */
     struct karramotx_arguments args;
+    bool padded;                   /* whether a varint read in the payload was padded; refused: false */
 };
-KARRAMOTX_SIZE(karramotx_message, 144);
+KARRAMOTX_SIZE(karramotx_message, 152);
 KARRAMOTX_FIELD(karramotx_message, reason, 0);
 KARRAMOTX_FIELD(karramotx_message, used, 8);
 KARRAMOTX_FIELD(karramotx_message, kind, 16);
@@ -391,6 +396,7 @@ KARRAMOTX_FIELD(karramotx_message, compact, 56);
 KARRAMOTX_FIELD(karramotx_message, operation, 72);
 KARRAMOTX_FIELD(karramotx_message, body, 80);
 KARRAMOTX_FIELD(karramotx_message, args, 96);
+KARRAMOTX_FIELD(karramotx_message, padded, 144);
 
 struct karramotx_message karramotx_read(const uint8_t *frame, size_t len);
 
@@ -460,12 +466,12 @@ struct karramotx_inspection {
                                       KARRAMOTX_MAX_CURSORS where there is none */
     uint64_t ends;                 /* bit i: the cursor at place i is live, and the frame ends it once accepted */
 };
-KARRAMOTX_SIZE(karramotx_inspection, 200);
+KARRAMOTX_SIZE(karramotx_inspection, 216);
 KARRAMOTX_FIELD(karramotx_inspection, look, 0);
-KARRAMOTX_FIELD(karramotx_inspection, message, 32);
-KARRAMOTX_FIELD(karramotx_inspection, stmt_place, 176);
-KARRAMOTX_FIELD(karramotx_inspection, cursor_place, 184);
-KARRAMOTX_FIELD(karramotx_inspection, ends, 192);
+KARRAMOTX_FIELD(karramotx_inspection, message, 40);
+KARRAMOTX_FIELD(karramotx_inspection, stmt_place, 192);
+KARRAMOTX_FIELD(karramotx_inspection, cursor_place, 200);
+KARRAMOTX_FIELD(karramotx_inspection, ends, 208);
 
 struct karramotx_inspection karramotx_inspect(const struct karramotx_session *session, const uint8_t *frame,
                                               size_t len);

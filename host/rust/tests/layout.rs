@@ -64,13 +64,13 @@ fn of_this_crate() -> Header {
         "karramotx_cursor" Cursor { id stmt rows sent live }
         "karramotx_session" Session { stmt_ids stmts cursors closed }
         "karramotx_counts" Counts { stmts cursors owed }
-        "karramotx_look" Look { reason work first count }
+        "karramotx_look" Look { reason work first count padded }
         "karramotx_report" Report { kind placeholders columns rows code }
-        "karramotx_answer" Answer { reason used reply columns first count }
+        "karramotx_answer" Answer { reason used reply columns padded first count }
         "karramotx_optional" Optional { present value }
         "karramotx_part" Part { start len }
         "karramotx_arguments" Arguments { good count kind index start end }
-        "karramotx_message" Message { reason used kind stmt cursor rows compact operation body args }
+        "karramotx_message" Message { reason used kind stmt cursor rows compact operation body args padded }
         "karramotx_inspection" Inspection { look message stmt_place cursor_place ends }
         "karramotx_value" Value { reason kind value start len next }
         "karramotx_draft" Draft { kind stmt cursor hasrows rows hascompact compact operation }
