@@ -75,7 +75,7 @@ pub struct Look {
     pub first: u64,
     /// Of a Fetch, how many rows to send.
     pub count: u64,
-    /// Whether a varint that was read in the payload was padded; not where the frame is refused 1 to 6.
+    /// Whether a varint that was read in the payload is padded; not where the frame is refused 1 to 6.
     pub padded: bool,
 }
 
@@ -107,7 +107,7 @@ pub struct Answer {
     pub reply: usize,
     /// Whether columns go out.
     pub columns: bool,
-    /// Whether a varint that was read in the payload was padded; not where the frame is refused 1 to 6.
+    /// Whether a varint that was read in the payload is padded; not where the frame is refused 1 to 6.
     pub padded: bool,
     /// The first row to send.
     pub first: u64,
@@ -177,7 +177,7 @@ pub struct Message {
     pub body: Part,
     /// The arguments.
     pub args: Arguments,
-    /// Whether a varint that was read in the payload was padded; not where the frame is refused.
+    /// Whether a varint that was read in the payload is padded; not where the frame is refused.
     pub padded: bool,
 }
 
