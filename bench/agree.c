@@ -1,5 +1,6 @@
 /* The plain C side against the library on random steps: what a frame holds, its arguments, the look, the answer, the
- * reply and the session after it. Ends at the first difference. Arguments: how many steps, and a seed. */
+ * reply and the session after it; each says also whether a varint was padded. Ends at the first difference. Arguments:
+ * how many steps, and a seed. */
 #include <stdio.h>
 #include <stdlib.h>
 #include <string.h>
@@ -11,7 +12,8 @@
 
 static Session plain;
 static LibrarySession library;
-static uint64_t seed, steps, met[REASONS];
+/* How often each reason was met, and how often with a padded frame. */
+static uint64_t seed, steps, met[REASONS], padded[REASONS];
 
 static void fail(const char *what, const uint8_t *frame, size_t len, const Report *r, size_t reply_len)
 {
@@ -40,6 +42,7 @@ static Answer step_both(const Frame *f, size_t len, const Report *report, size_t
         fail(what, frame, len, report, reply_len);
     free(frame);
     met[answer.reason]++;
+    padded[answer.reason] += answer.padded;
     steps++;
     return answer;
 }
@@ -88,6 +91,22 @@ static void random_step(void)
     step_both(&f, len, &report, reply_len);
 }
 
+/* All that can be answered was. */
+static bool all_met(void)
+{
+    for (int i = 0; i < REASONS; i++) {
+        if (met[i] == 0) {
+            printf("but reason %d was never met\n", i);
+            return false;
+        }
+        if (padded[i] == 0 && (i == ACCEPTED || i > BAD_PAYLOAD)) {
+            printf("but reason %d was never met with a padded frame\n", i);
+            return false;
+        }
+    }
+    return true;
+}
+
 int main(int argc, char **argv)
 {
     uint64_t wanted = argc > 1 ? strtoull(argv[1], NULL, 10) : 300000;
@@ -102,11 +121,9 @@ int main(int argc, char **argv)
     printf("plain C and the library agree on %lu steps; refused 0 to %d:", steps, REASONS - 1);
     for (int i = 0; i < REASONS; i++)
         printf(" %lu", met[i]);
-    printf("\n");
+    printf("; of them padded:");
     for (int i = 0; i < REASONS; i++)
-        if (met[i] == 0) {
-            printf("but reason %d was never met\n", i);
-            return 1;
-        }
-    return 0;
+        printf(" %lu", padded[i]);
+    printf("\n");
+    return all_met() ? 0 : 1;
 }

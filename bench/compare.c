@@ -18,7 +18,7 @@ static bool same_message(const Message *a, const Message *b)
     return a->reason == b->reason && a->used == b->used && a->kind == b->kind && a->stmt == b->stmt &&
            a->cursor == b->cursor && a->has_rows == b->has_rows && a->rows == b->rows &&
            a->has_compact == b->has_compact && a->compact == b->compact && a->operation == b->operation &&
-           same_part(a->body, b->body) && same_args(&a->args, &b->args);
+           same_part(a->body, b->body) && same_args(&a->args, &b->args) && a->padded == b->padded;
 }
 
 static bool same_value(const Value *a, const Value *b)
@@ -29,7 +29,7 @@ static bool same_value(const Value *a, const Value *b)
 
 static bool same_look(Look a, Look b)
 {
-    return a.reason == b.reason && a.work == b.work && a.first == b.first && a.count == b.count;
+    return a.reason == b.reason && a.work == b.work && a.padded == b.padded && a.first == b.first && a.count == b.count;
 }
 
 static bool same_inspection(const Inspection *a, const Inspection *b)
@@ -41,7 +41,7 @@ static bool same_inspection(const Inspection *a, const Inspection *b)
 static bool same_answer(const Answer *a, const Answer *b)
 {
     return a->reason == b->reason && a->used == b->used && a->reply == b->reply && a->columns == b->columns &&
-           a->first == b->first && a->count == b->count;
+           a->padded == b->padded && a->first == b->first && a->count == b->count;
 }
 
 const char *differ_reading(const uint8_t *frame, size_t len)

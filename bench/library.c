@@ -72,6 +72,7 @@ static Message message_of(struct karramotx_message k)
     m->body = (Part){narrow(k.body.start), narrow(k.body.len)};
     m->args = (Arguments){narrow(k.args.count), narrow(k.args.kind), narrow(k.args.index), narrow(k.args.start),
                           narrow(k.args.end)};
+    m->padded = k.padded;
     return x;
 }
 
@@ -88,7 +89,7 @@ void library_next_argument(const uint8_t *frame, size_t end, size_t at, Value *v
 
 static Look look_of(struct karramotx_look k)
 {
-    return (Look){narrow(k.reason), narrow(k.work), narrow(k.first), narrow(k.count)};
+    return (Look){narrow(k.reason), (uint16_t)narrow(k.work), k.padded, narrow(k.first), narrow(k.count)};
 }
 
 Look library_look(const LibrarySession *session, const uint8_t *frame, size_t len)
@@ -106,8 +107,8 @@ Answer library_step(LibrarySession *session, const uint8_t *frame, size_t len, c
                     uint8_t *reply, size_t reply_len)
 {
     struct karramotx_answer k = karramotx_step(session, frame, len, *report, reply, reply_len);
-    return (Answer){narrow(k.reason), narrow(k.used),  narrow(k.reply),
-                    k.columns,        narrow(k.first), narrow(k.count)};
+    return (Answer){narrow(k.reason), narrow(k.used),  narrow(k.reply), k.columns,
+                    k.padded,         narrow(k.first), narrow(k.count)};
 }
 
 void library_start_over(LibraryReader *r)

@@ -29,6 +29,8 @@ typedef struct {
     uint64_t rows;
     Part body;
     Arguments args;
+    /* whether a varint that was read is padded; not where the frame is refused */
+    bool padded;
 } Message;
 
 typedef struct {
@@ -65,13 +67,17 @@ typedef struct {
     uint64_t kind, placeholders, columns, rows, code;
 } Report;
 
+/* Small enough to be handed back in registers. */
 typedef struct {
-    uint32_t reason, work, first, count;
+    uint32_t reason;
+    uint16_t work;
+    bool padded;
+    uint32_t first, count;
 } Look;
 
 typedef struct {
     uint32_t reason, used, reply;
-    bool columns;
+    bool columns, padded;
     uint32_t first, count;
 } Answer;
 

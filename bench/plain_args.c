@@ -12,13 +12,13 @@ static const uint8_t value_field[] = {[SINT] = 2,   [UINT] = 3,  [NULL_VALUE] = 
                                       [DOUBLE] = 6, [FLOAT] = 7, [BOOL] = 8,       [STRING] = 9};
 
 /* The required bytes in field 1 of an octets or string message, instead of the message. */
-static bool read_bytes(Scalar *s)
+static bool read_bytes(Scalar *s, bool *padded)
 {
     const uint8_t *at = s->bytes, *end = at + s->value;
     bool has = false;
     while (at < end) {
         Field f;
-        at = read_field(at, end, &f);
+        at = read_field(at, end, &f, padded);
         if (!at)
             return false;
         if (f.tag == TAG(1, BYTES)) {
@@ -31,7 +31,7 @@ static bool read_bytes(Scalar *s)
 }
 
 /* The last of each field counts. Which one is wanted is known at the end, so each is kept until then. */
-static bool read_scalar(const uint8_t *at, const uint8_t *end, Scalar *s)
+static bool read_scalar(const uint8_t *at, const uint8_t *end, Scalar *s, bool *padded)
 {
     uint64_t values[10];
     const uint8_t *bytes[10];
@@ -39,7 +39,7 @@ static bool read_scalar(const uint8_t *at, const uint8_t *end, Scalar *s)
     uint32_t type = 0;
     while (at < end) {
         Field f;
-        at = read_field(at, end, &f);
+        at = read_field(at, end, &f, padded);
         if (!at)
             return false;
         switch (f.tag) {
@@ -66,11 +66,11 @@ static bool read_scalar(const uint8_t *at, const uint8_t *end, Scalar *s)
         return false;
     s->value = values[value_field[type]];
     s->bytes = bytes[value_field[type]];
-    return (type != OCTETS && type != STRING) || read_bytes(s);
+    return (type != OCTETS && type != STRING) || read_bytes(s, padded);
 }
 
 /* The type of an Any, and its scalar where it is one; 0 for a bad Any. */
-static unsigned read_any(const Field *any, Scalar *s)
+static unsigned read_any(const Field *any, Scalar *s, bool *padded)
 {
     const uint8_t *at = any->bytes, *end = at + any->value;
     const uint8_t *scalar = NULL;
@@ -78,7 +78,7 @@ static unsigned read_any(const Field *any, Scalar *s)
     unsigned type = 0;
     while (at < end) {
         Field f;
-        at = read_field(at, end, &f);
+        at = read_field(at, end, &f, padded);
         if (!at)
             return 0;
         if (f.tag == TAG(1, NUMBER)) {
@@ -89,15 +89,15 @@ static unsigned read_any(const Field *any, Scalar *s)
             scalar_len = f.value;
         }
     }
-    if (type == ANY_SCALAR && (!scalar || !read_scalar(scalar, scalar + scalar_len, s)))
+    if (type == ANY_SCALAR && (!scalar || !read_scalar(scalar, scalar + scalar_len, s, padded)))
         return 0;
     return type;
 }
 
-bool count_argument(const Field *field, Arguments *args)
+bool count_argument(const Field *field, Arguments *args, bool *padded)
 {
     Scalar s;
-    unsigned type = read_any(field, &s);
+    unsigned type = read_any(field, &s, padded);
     if (type == 0)
         return false;
     if (type != ANY_SCALAR && args->kind == 0) {
@@ -134,18 +134,19 @@ static void set_value(Value *v, const Scalar *s, const uint8_t *frame)
 void plain_next_argument(const uint8_t *frame, size_t end, size_t at, Value *v)
 {
     const uint8_t *from = frame + at, *to = frame + end;
+    bool ignored = false;
     *v = (Value){.reason = FEW_ARGUMENTS};
     while (from < to) {
         Field f;
         Scalar s;
-        from = read_field(from, to, &f);
+        from = read_field(from, to, &f, &ignored);
         if (!from) {
             *v = (Value){.reason = BAD_PAYLOAD, .next = (uint32_t)end};
             return;
         }
         if (f.tag != TAG(2, BYTES))
             continue;
-        unsigned type = read_any(&f, &s);
+        unsigned type = read_any(&f, &s, &ignored);
         v->next = (uint32_t)(from - frame);
         v->reason = type == 0 ? BAD_PAYLOAD : type == ANY_SCALAR ? ACCEPTED : NOT_SCALAR;
         if (type == ANY_SCALAR)

@@ -105,13 +105,15 @@ void plain_inspect(const Session *session, const uint8_t *frame, size_t len, Ins
     Places at = {.stmt = NOWHERE, .cursor = NOWHERE};
     const Message *m = &told->message;
     plain_read(frame, len, &told->message);
-    told->look = (Look){.reason = m->reason};
+    told->look = (Look){.reason = m->reason, .padded = m->padded};
     told->ends = 0;
     if (m->reason == ACCEPTED)
         touch(session, m, &at, told);
     bool closed = session->closed && m->reason != NOT_ALL_THERE && m->reason != BAD_LENGTH;
-    if (closed || told->look.reason != ACCEPTED)
-        told->look = (Look){.reason = closed ? CLOSED : told->look.reason};
+    if (closed)
+        told->look = (Look){.reason = CLOSED};
+    else if (told->look.reason != ACCEPTED)
+        told->look = (Look){.reason = told->look.reason, .padded = m->padded};
     told->stmt_place = at.stmt == NOWHERE ? MAX_STMTS : (uint32_t)at.stmt;
     told->cursor_place = at.cursor == NOWHERE ? MAX_CURSORS : (uint32_t)at.cursor;
 }

@@ -24,7 +24,7 @@ static uint32_t fetch_count(const Session *s, int cursor, const Message *m)
     return m->has_rows ? least(m->rows, left) : left;
 }
 
-static uint32_t work_of(uint32_t kind)
+static uint16_t work_of(uint32_t kind)
 {
     switch (kind) {
     case PREPARE:
@@ -46,6 +46,7 @@ Look plain_look(const Session *session, const uint8_t *frame, size_t len)
     Places at;
     uint32_t used;
     Look look = {.reason = look_reason(session, frame, len, &used, &m, &at)};
+    look.padded = m.padded;
     if (look.reason != ACCEPTED)
         return look;
     look.work = work_of(m.kind);
@@ -159,6 +160,7 @@ void plain_step(Session *session, const uint8_t *frame, size_t len, const Report
         return;
     }
     a->reason = look_reason(session, frame, len, &a->used, &m, &at);
+    a->padded = m.padded;
     if (a->reason == ACCEPTED)
         a->reason = report_reason(m.kind, report);
     if (a->reason == ACCEPTED)

@@ -22,16 +22,17 @@ static void set_args(const uint8_t *frame, const uint8_t *at, const uint8_t *end
     m->args.end = place(frame, end);
 }
 
+/* A Prepare's body: what is padded in it does not count. */
 static bool read_stmt_execute(const uint8_t *at, const uint8_t *end, Message *m)
 {
-    bool has_text = false;
+    bool has_text = false, ignored = false;
     while (at < end) {
         Field f;
-        at = read_field(at, end, &f);
+        at = read_field(at, end, &f, &ignored);
         if (!at)
             return false;
         if (f.tag == TAG(2, BYTES)) {
-            if (!count_argument(&f, &m->args))
+            if (!count_argument(&f, &m->args, &ignored))
                 return false;
         } else if (f.tag == TAG(1, BYTES)) {
             has_text = true;
@@ -45,7 +46,7 @@ static bool read_execute(const uint8_t *at, const uint8_t *end, Message *m)
     bool has_id = false;
     while (at < end) {
         Field f;
-        at = read_field(at, end, &f);
+        at = read_field(at, end, &f, &m->padded);
         if (!at)
             return false;
         switch (f.tag) {
@@ -54,7 +55,7 @@ static bool read_execute(const uint8_t *at, const uint8_t *end, Message *m)
             m->stmt = (uint32_t)f.value;
             break;
         case TAG(2, BYTES):
-            if (!count_argument(&f, &m->args))
+            if (!count_argument(&f, &m->args, &m->padded))
                 return false;
             break;
         case TAG(3, NUMBER):
@@ -75,7 +76,7 @@ static bool read_operation(const uint8_t *at, const uint8_t *end, Message *m, Fi
     bool has_type = false;
     while (at < end) {
         Field f;
-        at = read_field(at, end, &f);
+        at = read_field(at, end, &f, &m->padded);
         if (!at)
             return false;
         switch (f.tag) {
@@ -103,10 +104,10 @@ static bool read_operation(const uint8_t *at, const uint8_t *end, Message *m, Fi
 static bool read_prepare(const uint8_t *frame, const uint8_t *at, const uint8_t *end, Message *m)
 {
     Field stmt = {.bytes = NULL}, body;
-    bool has_id = false;
+    bool has_id = false, ignored = false;
     while (at < end) {
         Field f;
-        at = read_field(at, end, &f);
+        at = read_field(at, end, &f, &m->padded);
         if (!at)
             return false;
         if (f.tag == TAG(1, NUMBER)) {
@@ -121,7 +122,7 @@ static bool read_prepare(const uint8_t *frame, const uint8_t *at, const uint8_t 
     set_body(frame, &body, m);
     end = body.bytes + body.value;
     if (m->operation != STMT_EXECUTE)
-        return are_fields(body.bytes, end);
+        return are_fields(body.bytes, end, &ignored);
     set_args(frame, body.bytes, end, m);
     return read_stmt_execute(body.bytes, end, m);
 }
@@ -133,7 +134,7 @@ static bool read_open_stmt(const uint8_t *frame, const uint8_t *at, const uint8_
     bool has_type = false;
     while (at < end) {
         Field f;
-        at = read_field(at, end, &f);
+        at = read_field(at, end, &f, &m->padded);
         if (!at)
             return false;
         if (f.tag == TAG(1, NUMBER))
@@ -155,7 +156,7 @@ static bool read_open(const uint8_t *frame, const uint8_t *at, const uint8_t *en
     bool has_id = false;
     while (at < end) {
         Field f;
-        at = read_field(at, end, &f);
+        at = read_field(at, end, &f, &m->padded);
         if (!at)
             return false;
         switch (f.tag) {
@@ -175,12 +176,12 @@ static bool read_open(const uint8_t *frame, const uint8_t *at, const uint8_t *en
 }
 
 /* Deallocate and Close: an id. */
-static bool read_id(const uint8_t *at, const uint8_t *end, uint32_t *id)
+static bool read_id(const uint8_t *at, const uint8_t *end, uint32_t *id, bool *padded)
 {
     bool has_id = false;
     while (at < end) {
         Field f;
-        at = read_field(at, end, &f);
+        at = read_field(at, end, &f, padded);
         if (!at)
             return false;
         if (f.tag == TAG(1, NUMBER)) {
@@ -196,7 +197,7 @@ static bool read_fetch(const uint8_t *at, const uint8_t *end, Message *m)
     bool has_id = false;
     while (at < end) {
         Field f;
-        at = read_field(at, end, &f);
+        at = read_field(at, end, &f, &m->padded);
         if (!at)
             return false;
         if (f.tag == TAG(1, NUMBER)) {
@@ -231,7 +232,7 @@ uint32_t read_message(const uint8_t *frame, uint32_t used, Message *m)
     switch (m->kind) {
     case RESET:
     case SESS_CLOSE:
-        good = are_fields(at, end);
+        good = are_fields(at, end, &m->padded);
         break;
     case PREPARE:
         good = read_prepare(frame, at, end, m);
@@ -241,13 +242,13 @@ uint32_t read_message(const uint8_t *frame, uint32_t used, Message *m)
         good = read_execute(at, end, m);
         break;
     case DEALLOCATE:
-        good = read_id(at, end, &m->stmt);
+        good = read_id(at, end, &m->stmt, &m->padded);
         break;
     case OPEN:
         good = read_open(frame, at, end, m);
         break;
     case CLOSE:
-        good = read_id(at, end, &m->cursor);
+        good = read_id(at, end, &m->cursor, &m->padded);
         break;
     case FETCH:
         good = read_fetch(at, end, m);
@@ -255,7 +256,10 @@ uint32_t read_message(const uint8_t *frame, uint32_t used, Message *m)
     default:
         return UNKNOWN_TYPE;
     }
-    return good ? ACCEPTED : BAD_PAYLOAD;
+    if (good)
+        return ACCEPTED;
+    m->padded = false;
+    return BAD_PAYLOAD;
 }
 
 void plain_read(const uint8_t *frame, size_t len, Message *m)

@@ -66,6 +66,7 @@ static uint32_t table_reason(const Session *s, const Message *m, Places *at)
 uint32_t look_reason(const Session *s, const uint8_t *frame, size_t len, uint32_t *used, Message *m, Places *at)
 {
     uint32_t reason = read_head(frame, len, used);
+    m->padded = false;
     if (reason != ACCEPTED)
         return reason;
     if (s->closed)

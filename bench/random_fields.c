@@ -4,12 +4,42 @@
 
 #include "random.h"
 
+/* How many numbers come ahead of the next padded one; and whether others follow it. */
+static uint32_t ahead = UINT32_MAX;
+static bool some;
+
+void random_padding(void)
+{
+    static const uint32_t ranges[] = {4, 16, 64};
+    ahead = one_in(4) ? UINT32_MAX : pick(ranges[pick(3)]);
+    some = one_in(4);
+}
+
+/* Longer than it need be, in ten bytes with any bits past 64. One in twelve has any length: it may be cut, or too
+ * long. */
+static void put_longer(Frame *f, uint64_t v)
+{
+    enum { LONGEST = 10 };
+    uint32_t len = 1;
+    for (uint64_t left = v >> 7; left > 0; left >>= 7)
+        len++;
+    if (len < LONGEST)
+        len += 1 + pick(LONGEST - len);
+    if (one_in(12))
+        len = 1 + pick(LONGEST + 1);
+    put_padded(f, v, len);
+    if (len == LONGEST && one_in(2))
+        f->bytes[f->len - 1] |= (uint8_t)(pick(64) << 1);
+}
+
 void put_some_number(Frame *f, uint64_t v)
 {
-    if (one_in(12))
-        put_padded(f, v, 1 + pick(11));
-    else
+    if (ahead-- > 0) {
         put_number(f, v);
+        return;
+    }
+    ahead = some ? pick(24) : UINT32_MAX;
+    put_longer(f, v);
 }
 
 void put_some_field(Frame *f, uint32_t number, uint64_t v)

@@ -4,7 +4,10 @@
 
 #include "frames.h"
 
-/* Tags, numbers and lengths are padded now and then. */
+/* Chooses anew which of the numbers to come are padded: none, one, or some of them. One alone shows at which layers
+ * padding counts. */
+void random_padding(void);
+/* Tags, numbers and lengths, padded as chosen. */
 void put_some_number(Frame *f, uint64_t v);
 void put_some_field(Frame *f, uint32_t number, uint64_t v);
 void put_some_bytes(Frame *f, uint32_t number, const Frame *bytes);

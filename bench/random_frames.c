@@ -261,6 +261,7 @@ void random_frame(Frame *f)
     if (one_in(100))
         type = (uint8_t)(one_in(2) ? RESET + pick(2) : pick(256));
     start(f, type);
+    random_padding();
     put_payload(f, type);
     if (one_in(6))
         change_bytes(f);

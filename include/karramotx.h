@@ -264,6 +264,33 @@ struct karramotx_next_frame karramotx_next_frame(struct karramotx_reader reader,
 
 /* ---- Look and step ---- */
 
+/*
+ * Padded numbers. The tags, lengths and numbers of a payload are varints. A varint is padded if its bytes are not the
+ * ones that karramotx_write would write for its 64-bit value, which are the shortest: 81 80 80 80 00 for 1 is padded,
+ * and so are nine bytes ff and one 7f for 2^64 - 1, though nothing shorter has that value. A padded number is good and
+ * means what it would mean without padding.
+ *
+ * A look, a step and karramotx_read say `padded` if any varint that they read in the payload is. Use it to find clients
+ * that write so, such as one that writes every id in five bytes: count the answers of a connection that say it, or log
+ * the first. What counts:
+ *
+ *     of every field, known or not, the tag, and the length or the number
+ *     of a group, its start tag
+ *     of a Prepare, its own fields and those of its statement
+ *     of an Execute, its own fields and all that is read of its arguments
+ *     of an Open, its own fields, those of its statement and of its Execute, and all that is read of the arguments
+ *
+ * What does not count: the rest of a group; the bytes inside a Prepare's body; and the bytes inside a part that is
+ * skipped unread, which is an embedded message that a later occurrence of its field replaces, or a body, a scalar,
+ * octets or a string that the type beside it does not choose. The tag and the length of such a part do count.
+ *
+ * A value that its field cuts down is not padded for that: an enum of 2^32 + 5, a bool of 2.
+ *
+ * Of a frame refused 1 to 6 they say false, whatever it holds: 3 in a step and 4 in a closed session are among these.
+ * Of any other frame, refused or accepted, they say what was read. So a look and a step say the same, unless the step
+ * is refused 3.
+ */
+
 /* The work that a frame wants of your engine. */
 enum karramotx_work {
     KARRAMOTX_WORK_NONE = 0,
@@ -278,12 +305,14 @@ struct karramotx_look {
     uint64_t work;                 /* enum karramotx_work */
     uint64_t first;                /* of a Fetch, the first row to send, from 0; else 0 */
     uint64_t count;                /* of a Fetch, how many rows to send; else 0 */
+    bool padded;                   /* whether a varint read in the payload is padded; refused 1 to 6: false */
 };
-KARRAMOTX_SIZE(karramotx_look, 32);
+KARRAMOTX_SIZE(karramotx_look, 40);
 KARRAMOTX_FIELD(karramotx_look, reason, 0);
 KARRAMOTX_FIELD(karramotx_look, work, 8);
 KARRAMOTX_FIELD(karramotx_look, first, 16);
 KARRAMOTX_FIELD(karramotx_look, count, 24);
+KARRAMOTX_FIELD(karramotx_look, padded, 32);
 
 /* A look changes nothing. Bytes past the frame are not read. */
 struct karramotx_look karramotx_look(const struct karramotx_session *session, const uint8_t *frame, size_t len);
@@ -317,6 +346,7 @@ struct karramotx_answer {
     size_t used;                   /* bytes of the frame; 0 where it is refused 1, 2 or 3 */
     size_t reply;                  /* bytes of the reply, an Error frame where it is refused 4 or more */
     bool columns;                  /* whether columns go out, ahead of the rows */
+    bool padded;                   /* as in karramotx_look */
     uint64_t first;                /* the first row to send, from 0 */
     uint64_t count;                /* how many rows to send, ahead of the reply */
 };
@@ -325,6 +355,7 @@ KARRAMOTX_FIELD(karramotx_answer, reason, 0);
 KARRAMOTX_FIELD(karramotx_answer, used, 8);
 KARRAMOTX_FIELD(karramotx_answer, reply, 16);
 KARRAMOTX_FIELD(karramotx_answer, columns, 24);
+KARRAMOTX_FIELD(karramotx_answer, padded, 25);
 KARRAMOTX_FIELD(karramotx_answer, first, 32);
 KARRAMOTX_FIELD(karramotx_answer, count, 40);
 
@@ -379,8 +410,9 @@ struct karramotx_message {
     uint64_t operation;            /* of a Prepare, enum karramotx_operation */
     struct karramotx_part body;    /* the body that a Prepare's type chooses; an Open's Execute */
     struct karramotx_arguments args;
+    bool padded;                   /* whether a varint read in the payload is padded; refused: false */
 };
-KARRAMOTX_SIZE(karramotx_message, 144);
+KARRAMOTX_SIZE(karramotx_message, 152);
 KARRAMOTX_FIELD(karramotx_message, reason, 0);
 KARRAMOTX_FIELD(karramotx_message, used, 8);
 KARRAMOTX_FIELD(karramotx_message, kind, 16);
@@ -391,6 +423,7 @@ KARRAMOTX_FIELD(karramotx_message, compact, 56);
 KARRAMOTX_FIELD(karramotx_message, operation, 72);
 KARRAMOTX_FIELD(karramotx_message, body, 80);
 KARRAMOTX_FIELD(karramotx_message, args, 96);
+KARRAMOTX_FIELD(karramotx_message, padded, 144);
 
 struct karramotx_message karramotx_read(const uint8_t *frame, size_t len);
 
@@ -453,19 +486,19 @@ struct karramotx_value karramotx_next_argument(const uint8_t *frame, size_t end,
  */
 struct karramotx_inspection {
     struct karramotx_look look;           /* as karramotx_look answers */
-    struct karramotx_message message;     /* as karramotx_read answers */
+    struct karramotx_message message;     /* as karramotx_read answers, in a closed session too */
     size_t stmt_place;             /* Execute, Deallocate, Open: where the statement of that id is live; Prepare: where it
                                       will stand; KARRAMOTX_MAX_STMTS where there is none */
     size_t cursor_place;           /* Close, Fetch: where the cursor of that id is live; Open: where it will stand;
                                       KARRAMOTX_MAX_CURSORS where there is none */
     uint64_t ends;                 /* bit i: the cursor at place i is live, and the frame ends it once accepted */
 };
-KARRAMOTX_SIZE(karramotx_inspection, 200);
+KARRAMOTX_SIZE(karramotx_inspection, 216);
 KARRAMOTX_FIELD(karramotx_inspection, look, 0);
-KARRAMOTX_FIELD(karramotx_inspection, message, 32);
-KARRAMOTX_FIELD(karramotx_inspection, stmt_place, 176);
-KARRAMOTX_FIELD(karramotx_inspection, cursor_place, 184);
-KARRAMOTX_FIELD(karramotx_inspection, ends, 192);
+KARRAMOTX_FIELD(karramotx_inspection, message, 40);
+KARRAMOTX_FIELD(karramotx_inspection, stmt_place, 192);
+KARRAMOTX_FIELD(karramotx_inspection, cursor_place, 200);
+KARRAMOTX_FIELD(karramotx_inspection, ends, 208);
 
 struct karramotx_inspection karramotx_inspect(const struct karramotx_session *session, const uint8_t *frame,
                                               size_t len);

@@ -68,6 +68,19 @@ static void fetch(struct output *o, uint32_t cursor, uint64_t rows)
     put(o, draft, NULL, 0, NULL, 0);
 }
 
+/* The same from a client that writes every id in five bytes, which the library's writer never does. */
+static void fetch_padded(struct output *o, uint8_t cursor, uint8_t rows)
+{
+    const uint8_t id = cursor | 0x80;
+    const uint8_t frame[] = {9, 0, 0, 0, KARRAMOTX_CURSOR_FETCH, 0x08, id, 0x80, 0x80, 0x80, 0x00, 0x10, rows};
+    if (o->len - o->at < sizeof frame) {
+        o->failed = true;
+        return;
+    }
+    memcpy(o->buf + o->at, frame, sizeof frame);
+    o->at += sizeof frame;
+}
+
 /* A Fetch of all rows that are left. */
 static void fetch_all(struct output *o, uint32_t cursor)
 {
@@ -83,6 +96,7 @@ size_t client_conversation(uint8_t *buf, size_t len)
     prepare(&o, 1, "select fix from fixes where airport = ? and level > ?"); /* its cursor ends */
     fetch_all(&o, 1);                               /* refused: the cursor is gone */
     open_cursor(&o, 1, 1, 2);
+    fetch_padded(&o, 1, 1);                         /* one more, the cursor id in five bytes */
     fetch_all(&o, 1);                               /* FetchDone */
     fetch_all(&o, 1);                               /* refused: all rows are sent */
     prepare(&o, 2, "oops");                         /* the engine fails */

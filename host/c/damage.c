@@ -40,6 +40,14 @@ size_t drafted_frame(uint8_t *frame, size_t room)
     return karramotx_write(draft, body, sizeof body, object, below(16) == 0 ? sizeof object : 0, frame, room).len;
 }
 
+size_t padded(uint8_t *frame, size_t len)
+{
+    frame[0]++;
+    frame[len - 1] |= 0x80;
+    frame[len] = 0;
+    return len + 1;
+}
+
 size_t damaged(uint8_t *bytes, size_t len)
 {
     size_t at = below(len + 1);

@@ -15,6 +15,12 @@ uint8_t *guarded_end(size_t room);
 /* A message of so many ids that the tables fill up, now and then with an object for its argument. */
 size_t drafted_frame(uint8_t *frame, size_t room);
 
+/*
+ * Puts a byte of 0 behind the last byte of a short frame: a number that stands there is then padded. Answers the length
+ * then; there is room for one byte more.
+ */
+size_t padded(uint8_t *frame, size_t len);
+
 /* Flips, removes or adds a byte, or cuts. Answers the length then; there is room for one byte more. */
 size_t damaged(uint8_t *bytes, size_t len);
 

@@ -2,7 +2,7 @@
 
 static bool same_look(struct karramotx_look a, struct karramotx_look b)
 {
-    return a.reason == b.reason && a.work == b.work && a.first == b.first && a.count == b.count;
+    return a.reason == b.reason && a.work == b.work && a.first == b.first && a.count == b.count && a.padded == b.padded;
 }
 
 static bool same_arguments(struct karramotx_arguments a, struct karramotx_arguments b)
@@ -17,7 +17,7 @@ static bool same_message(const struct karramotx_message *a, const struct karramo
            a->cursor == b->cursor && a->rows.present == b->rows.present && a->rows.value == b->rows.value &&
            a->compact.present == b->compact.present && a->compact.value == b->compact.value &&
            a->operation == b->operation && a->body.start == b->body.start && a->body.len == b->body.len &&
-           same_arguments(a->args, b->args);
+           same_arguments(a->args, b->args) && a->padded == b->padded;
 }
 
 /* The first place where the statement, the cursor of an id is live; or, where `put`, else the first free one. */

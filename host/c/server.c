@@ -66,6 +66,14 @@ static void print_arguments(const uint8_t *frame, struct karramotx_arguments arg
     }
 }
 
+/* Notes a client at its first padded frame, and not again. */
+static void note_padding(struct connection *c, struct karramotx_answer answer, FILE *out)
+{
+    if (answer.padded && !c->pads)
+        fprintf(out, "    note: this client pads its numbers\n");
+    c->pads = c->pads || answer.padded;
+}
+
 /* One frame: inspect, let the engine work, step, send, free what ended. */
 static void serve_frame(struct connection *c, const uint8_t *frame, size_t len, uint64_t kind, FILE *out)
 {
@@ -85,6 +93,7 @@ static void serve_frame(struct connection *c, const uint8_t *frame, size_t len, 
     fprintf(out, "    reply ");
     print_bytes(reply, answer.reply, out);
     fprintf(out, "\n");
+    note_padding(c, answer, out);
 }
 
 void connection_begin(struct connection *c)
@@ -92,6 +101,7 @@ void connection_begin(struct connection *c)
     c->session = karramotx_fresh();
     c->reader = karramotx_start_over();
     c->engine = (struct engine){0};
+    c->pads = false;
 }
 
 void connection_end(struct connection *c)

@@ -12,6 +12,8 @@ struct connection {
     struct karramotx_session session;
     struct karramotx_reader reader;
     struct engine engine;
+    /* whether the client has sent a padded number */
+    bool pads;
     uint8_t store[KARRAMOTX_STORE];
 };
 

@@ -1,9 +1,9 @@
 /*
  * Feeds a session damaged frames, wrong reports and reply buffers of every length, and asks after each step
- * whether the session is still sound and nothing else was touched, and whether the cursors that live are those whose
- * results a host has kept and not freed. Frame and reply end at a page that no one
- * may read or write, so that a byte too far ends the program. Then as many steps on sessions of any bits, and as
- * many operations of a reader on streams cut at random (cuts.c).
+ * whether the session is still sound and nothing else was touched, whether the cursors that live are those whose
+ * results a host has kept and not freed, and whether look and step say the same of padded numbers. Frame and reply end
+ * at a page that no one may read or write, so that a byte too far ends the program. Then as many steps on sessions of
+ * any bits, and as many operations of a reader on streams cut at random (cuts.c).
  *
  *     survive [STEPS]
  */
@@ -23,17 +23,19 @@ enum { ROOM = 8192, GUARD = 64, MAX_REPLY = 200 };
 static size_t spoken_frame(const uint8_t *talk, size_t talk_len, uint8_t *frame)
 {
     size_t at = 0;
-    for (uint64_t skip = below(14); skip > 0; skip--)
+    for (uint64_t skip = below(15); skip > 0; skip--)
         at += karramotx_read(talk + at, talk_len - at).used;
     size_t len = karramotx_read(talk + at, talk_len - at).used;
     memcpy(frame, talk + at, len);
     return len;
 }
 
-/* A frame, more often whole than damaged. */
+/* A frame, now and then padded, more often whole than damaged. */
 static size_t some_frame(const uint8_t *talk, size_t talk_len, uint8_t *frame, size_t room)
 {
     size_t len = below(200) == 0 ? spoken_frame(talk, talk_len, frame) : drafted_frame(frame, room);
+    if (below(8) == 0)
+        len = padded(frame, len);
     for (uint64_t times = below(8); times > 5; times--)
         len = damaged(frame, len);
     return len;
@@ -74,11 +76,11 @@ static bool untouched(const uint8_t *bytes, size_t len)
     return true;
 }
 
-/* Frame and reply end here; the client's frames; and how often each reason was met. */
+/* Frame and reply end here; the client's frames; how often each reason was met; and how many steps said padded. */
 static uint8_t *frame_end, *reply_end;
 static uint8_t talk[ROOM / 2];
 static size_t talk_len;
-static uint64_t met[KARRAMOTX_ENGINE_FAILED + 1];
+static uint64_t met[KARRAMOTX_ENGINE_FAILED + 1], met_padded;
 
 /* The places of results that a host keeps, as bits; it goes by what it is told alone. */
 static uint64_t kept_results;
@@ -98,6 +100,15 @@ static void begin_fresh(void)
     kept_results = 0;
 }
 
+/* A frame refused 1 to 6 is not said to be padded; otherwise a step says what the look says. */
+static bool padding_agrees(struct karramotx_look look, struct karramotx_answer answer)
+{
+    bool unread = KARRAMOTX_NOT_ALL_THERE <= answer.reason && answer.reason <= KARRAMOTX_BAD_PAYLOAD;
+    bool same = answer.padded == look.padded || answer.reason == KARRAMOTX_NO_ROOM;
+    met_padded += answer.padded;
+    return same && !(unread && answer.padded);
+}
+
 /* One step at the guarded places. Answers whether all but the session is as it must be after it. */
 static bool survives(const uint8_t *bytes, size_t len)
 {
@@ -114,9 +125,10 @@ static bool survives(const uint8_t *bytes, size_t len)
     met[answer.reason]++;
     settle(&told, answer);
     bool kept = answer.reason == KARRAMOTX_ACCEPTED || memcmp(&host.session, &before, sizeof before) == 0;
-    return looked && kept && memcmp(frame, bytes, len) == 0 && answer.used <= len && answer.reply <= room &&
-           untouched(reply - GUARD, GUARD) && untouched(reply + answer.reply, room - answer.reply) &&
-           untouched(host.before, GUARD) && untouched(host.after, GUARD);
+    return looked && kept && padding_agrees(told.look, answer) && memcmp(frame, bytes, len) == 0 &&
+           answer.used <= len && answer.reply <= room && untouched(reply - GUARD, GUARD) &&
+           untouched(reply + answer.reply, room - answer.reply) && untouched(host.before, GUARD) &&
+           untouched(host.after, GUARD);
 }
 
 /* Words of every kind where a session should be: small numbers, so that ids are met, and edges. */
@@ -151,6 +163,7 @@ static bool steps_survive(uint64_t steps, bool wild)
 {
     static uint8_t bytes[ROOM / 2 + 8];
     memset(met, 0, sizeof met);
+    met_padded = 0;
     begin_fresh();
     for (uint64_t n = 0; n < steps; n++) {
         if (wild && n % 8 == 0)
@@ -168,7 +181,7 @@ static bool steps_survive(uint64_t steps, bool wild)
     printf("survived %" PRIu64 " steps%s; by reason:", steps, wild ? " on sessions of any bits" : "");
     for (size_t i = 0; i < sizeof met / sizeof met[0]; i++)
         printf(" %zu:%" PRIu64, i, met[i]);
-    printf("\n");
+    printf("; padded: %" PRIu64 "\n", met_padded);
     return true;
 }
 

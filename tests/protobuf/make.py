@@ -7,7 +7,8 @@ It needs protoc and Google's protobuf for Python (Debian: protobuf-compiler, pyt
 numbers come out in every run. Each line is a frame in hex and what it holds, as key=value: kind, stmt,
 cursor, rows, compact, operation where the message has them, body in hex, args. An argument is its Scalar type
 and its value: a decimal, the bits of a double or float in hex, bytes in hex; `object` and `array` stand for
-themselves. `plain=1` says that every field in the frame is one that the library's writer knows.
+themselves. `plain=1` says that every field in the frame is one that the library's writer knows. No number is
+padded: protobuf writes the shortest form. host/rust/tests/padded_vectors.rs pads copies of the frames.
 """
 import importlib
 import os

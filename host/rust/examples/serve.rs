@@ -115,31 +115,46 @@ fn print(frame: Frame, told: &Inspection, step: &Step, result: Option<&QueryResu
     println!("    reply {}", hex(step.reply));
 }
 
-/// Serves one frame: inspect, let the engine work, step, send, free what ended.
-fn serve_frame(session: &mut Session, engine: &mut Engine, frame: Frame) {
-    let told = session.inspect(&frame);
-    let report = engine.work(&told);
-    let mut reply = [0; MIN_REPLY];
-    let step = session.step(&frame, report, &mut reply);
-    print(frame, &told, &step, engine.result(&told));
-    engine.settle(&told, &step);
+/// What a server keeps for one connection, its reader aside.
+#[derive(Default)]
+struct Connection {
+    session: Session,
+    engine: Engine,
+    /// Whether its client has sent a padded number.
+    pads: bool,
 }
 
-/// Takes an arrival and serves every whole frame; what is left of it is held for the next.
-fn serve(
-    session: &mut Session,
-    engine: &mut Engine,
-    frames: &mut Frames,
-    mut arrival: &[u8],
-) -> Result<(), Refusal> {
-    while !arrival.is_empty() {
-        let taken = frames.push(arrival);
-        arrival = &arrival[taken..];
-        while let Some(frame) = frames.next_frame()? {
-            serve_frame(session, engine, frame);
-        }
+impl Connection {
+    /// Serves one frame: inspect, let the engine work, step, send, free what ended.
+    fn serve_frame(&mut self, frame: Frame) {
+        let told = self.session.inspect(&frame);
+        let report = self.engine.work(&told);
+        let mut reply = [0; MIN_REPLY];
+        let step = self.session.step(&frame, report, &mut reply);
+        print(frame, &told, &step, self.engine.result(&told));
+        self.engine.settle(&told, &step);
+        self.note_padding(step.padded);
     }
-    Ok(())
+
+    /// Notes a client at its first padded frame, and not again.
+    fn note_padding(&mut self, padded: bool) {
+        if padded && !self.pads {
+            println!("    note: this client pads its numbers");
+        }
+        self.pads |= padded;
+    }
+
+    /// Takes an arrival and serves every whole frame; what is left of it is held for the next.
+    fn serve(&mut self, frames: &mut Frames, mut arrival: &[u8]) -> Result<(), Refusal> {
+        while !arrival.is_empty() {
+            let taken = frames.push(arrival);
+            arrival = &arrival[taken..];
+            while let Some(frame) = frames.next_frame()? {
+                self.serve_frame(frame);
+            }
+        }
+        Ok(())
+    }
 }
 
 fn prepare(statement: u32, sql: &[u8]) -> Result<Vec<u8>, Refusal> {
@@ -158,6 +173,11 @@ fn fetch(fetch_rows: Option<u64>) -> Result<Vec<u8>, Refusal> {
     ClientMessage::Fetch { cursor: 1, fetch_rows }.to_vec()
 }
 
+/// Fetch of one row from a client that writes every id in five bytes, which the library's writer never does.
+fn fetch_padded() -> Vec<u8> {
+    vec![9, 0, 0, 0, Kind::Fetch as u8, 0x08, 0x81, 0x80, 0x80, 0x80, 0x00, 0x10, 1]
+}
+
 fn conversation() -> Result<Vec<u8>, Refusal> {
     let none = Args::new();
     let frames = [
@@ -167,6 +187,7 @@ fn conversation() -> Result<Vec<u8>, Refusal> {
         prepare(1, b"select fix from fixes where airport = ? and level > ?")?, // its cursor ends
         fetch(None)?,                                                          // refused: the cursor is gone
         open(2)?,
+        fetch_padded(),       // one more, the cursor id in five bytes
         fetch(None)?,         // FetchDone
         fetch(None)?,         // refused: all rows are sent
         prepare(2, b"oops")?, // the engine fails
@@ -184,8 +205,7 @@ fn conversation() -> Result<Vec<u8>, Refusal> {
 const ODD: [usize; 10] = [1, 2, 3, 5, 7, 11, 13, 17, 19, 23];
 
 fn main() -> Result<(), Refusal> {
-    let mut session = Session::new();
-    let mut engine = Engine::default();
+    let mut connection = Connection::default();
     let mut frames = Frames::new();
     let bytes = conversation()?;
     let mut rest = &bytes[..];
@@ -194,9 +214,10 @@ fn main() -> Result<(), Refusal> {
             break;
         }
         let (arrival, later) = rest.split_at(size.min(rest.len()));
-        serve(&mut session, &mut engine, &mut frames, arrival)?;
+        connection.serve(&mut frames, arrival)?;
         rest = later;
     }
+    let session = &connection.session;
     println!(
         "{}: {} statements, {} cursors, {} rows owed{}",
         if frames.held().is_empty() { "end" } else { "cut" },

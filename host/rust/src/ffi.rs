@@ -75,6 +75,8 @@ pub struct Look {
     pub first: u64,
     /// Of a Fetch, how many rows to send.
     pub count: u64,
+    /// Whether a varint that was read in the payload is padded; not where the frame is refused 1 to 6.
+    pub padded: bool,
 }
 
 /// What the engine did: 0 none, 1 prepared, 2 result, 3 done, 4 failed. What its kind does not have is ignored.
@@ -105,6 +107,8 @@ pub struct Answer {
     pub reply: usize,
     /// Whether columns go out.
     pub columns: bool,
+    /// Whether a varint that was read in the payload is padded; not where the frame is refused 1 to 6.
+    pub padded: bool,
     /// The first row to send.
     pub first: u64,
     /// How many rows to send.
@@ -173,6 +177,8 @@ pub struct Message {
     pub body: Part,
     /// The arguments.
     pub args: Arguments,
+    /// Whether a varint that was read in the payload is padded; not where the frame is refused.
+    pub padded: bool,
 }
 
 /// All of a frame before its step, from one reading.

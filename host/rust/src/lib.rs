@@ -13,7 +13,7 @@
 //! use karramotx::{Report, Session, Work, MIN_REPLY};
 //!
 //! fn serve(session: &mut Session, frame: &[u8]) -> Vec<u8> {
-//!     let report = match session.look(frame) {
+//!     let report = match session.look(frame).work {
 //!         Ok(Work::Prepare) => Report::Prepared { placeholders: 0 },
 //!         Ok(Work::Execute | Work::Open) => Report::Result { columns: 3, rows: 1_000 },
 //!         Ok(Work::Fetch(_rows)) => Report::Done,
@@ -37,6 +37,33 @@
 //!
 //! Bytes of a network arrive cut anywhere. [`Frames`] takes them and hands out whole frames; it shows a
 //! server's loop.
+//!
+//! # Padded numbers
+//!
+//! The tags, lengths and numbers of a payload are varints. A varint is padded if its bytes are not the
+//! ones that the library's writer would write for its 64-bit value, which are the shortest. A padded
+//! number is good and means what it would mean without padding; but a host may want to find the clients
+//! that write so.
+//!
+//! ```
+//! use karramotx::{Refusal, Session};
+//!
+//! let fetch = [7, 0, 0, 0, 45, 8, 0x81, 0x80, 0x80, 0x80, 0]; // Fetch of cursor 1, its id in five bytes
+//! let look = Session::new().look(&fetch);
+//! assert!(look.padded);
+//! assert_eq!(look.work, Err(Refusal::NoCursor));
+//! ```
+//!
+//! A look, an inspection, a step and a [`Message`] say whether any varint that they read in the payload
+//! is padded. The tag of every field counts, known or not, and so does its length or its number; of a
+//! group the start tag; of an Execute or Open also all that is read of the arguments. The rest of a group
+//! does not count, nor do the bytes inside a Prepare's body, nor those inside a part that is skipped
+//! unread: an embedded message that a later occurrence of its field replaces, or what the type beside it
+//! does not choose. The tag and the length of such a part count.
+//!
+//! Of a frame refused as [`Refusal::NotAllThere`] to [`Refusal::BadPayload`], numbers 1 to 6, they say
+//! no; of any other, refused or accepted, what was read. So a look and a step say the same, unless the
+//! step is refused as [`Refusal::NoRoom`].
 #![deny(missing_docs)]
 
 mod argument;
@@ -52,7 +79,7 @@ pub use frames::{BadLength, Frame, Frames};
 pub use message::{Kind, Message, Operation};
 pub use refusal::Refusal;
 pub use session::{
-    Cursor, Ends, Inspection, Report, Rows, Session, Statement, Step, Work, MAX_CURSORS, MAX_STATEMENTS,
-    MIN_REPLY,
+    Cursor, Ends, Inspection, Look, Report, Rows, Session, Statement, Step, Work, MAX_CURSORS,
+    MAX_STATEMENTS, MIN_REPLY,
 };
 pub use writer::{sql_body, ClientMessage, MAX_FRAME};

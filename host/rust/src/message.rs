@@ -149,6 +149,11 @@ impl<'f> Message<'f> {
         &self.frame[self.raw.body.start..][..self.raw.body.len]
     }
 
+    /// Whether a number that was read in the payload is [padded](crate#padded-numbers).
+    pub fn is_padded(&self) -> bool {
+        self.raw.padded
+    }
+
     /// How many arguments there are.
     pub fn argument_count(&self) -> usize {
         self.raw.args.count

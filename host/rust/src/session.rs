@@ -27,6 +27,16 @@ pub enum Work {
     Fetch(Range<u64>),
 }
 
+/// What a look answers.
+#[derive(Debug, Clone, PartialEq, Eq)]
+pub struct Look {
+    /// The work that the frame wants, or why a step will refuse it.
+    pub work: Result<Work, Refusal>,
+    /// Whether a number that was read in the payload is [padded](crate#padded-numbers). Never where the
+    /// frame is refused 1 to 6.
+    pub padded: bool,
+}
+
 /// What the engine did. Numbers outside their limits are refused as [`Refusal::BadReport`].
 #[derive(Debug, Clone, Copy, PartialEq, Eq)]
 pub enum Report {
@@ -54,17 +64,21 @@ pub enum Report {
 }
 
 impl Work {
-    /// What a look answered.
-    fn from_raw(look: ffi::Look) -> Result<Work, Refusal> {
-        accepted(look.reason)?;
-        Ok(match look.work {
+    fn from_raw(look: ffi::Look) -> Work {
+        match look.work {
             0 => Work::None,
             1 => Work::Prepare,
             2 => Work::Execute,
             3 => Work::Open,
             4 => Work::Fetch(look.first..look.first + look.count),
             other => unreachable!("the library's work is 0 to 4, not {other}"),
-        })
+        }
+    }
+}
+
+impl Look {
+    fn from_raw(look: ffi::Look) -> Look {
+        Look { work: accepted(look.reason).map(|()| Work::from_raw(look)), padded: look.padded }
     }
 }
 
@@ -88,8 +102,10 @@ impl Report {
 /// Places and endings depend on the session and the frame alone, whether the frame will be refused or not.
 #[derive(Debug, Clone)]
 pub struct Inspection<'f> {
-    /// What [`Session::look`] answers.
+    /// The work that [`Session::look`] answers.
     pub work: Result<Work, Refusal>,
+    /// Whether a number is padded, as [`Session::look`] answers.
+    pub padded: bool,
     /// What [`Message::read`] answers.
     pub message: Result<Message<'f>, Refusal>,
     /// Where the statement of an Execute, Deallocate or Open is live, or a Prepare's will stand.
@@ -135,6 +151,9 @@ pub struct Step<'r> {
     pub used: usize,
     /// The reply to send: an Error frame where the frame is refused, empty where `used` is 0.
     pub reply: &'r [u8],
+    /// Whether a number that was read in the payload is [padded](crate#padded-numbers), as
+    /// [`Session::look`] answers; never where the reply buffer is too small.
+    pub padded: bool,
 }
 
 /// A live statement.
@@ -188,17 +207,19 @@ impl Session {
     }
 
     /// The work that the frame wants, or why a step will refuse it. It changes nothing.
-    pub fn look(&self, frame: &[u8]) -> Result<Work, Refusal> {
+    pub fn look(&self, frame: &[u8]) -> Look {
         // SAFETY: the pointers and the length are those of a session and a slice, which are only read.
-        Work::from_raw(unsafe { ffi::karramotx_look(&self.0, frame.as_ptr(), frame.len()) })
+        Look::from_raw(unsafe { ffi::karramotx_look(&self.0, frame.as_ptr(), frame.len()) })
     }
 
     /// All that a host needs to know of the frame before its step, from one reading. It changes nothing.
     pub fn inspect<'f>(&self, frame: &'f [u8]) -> Inspection<'f> {
         // SAFETY: the pointers and the length are those of a session and a slice, which are only read.
         let raw = unsafe { ffi::karramotx_inspect(&self.0, frame.as_ptr(), frame.len()) };
+        let look = Look::from_raw(raw.look);
         Inspection {
-            work: Work::from_raw(raw.look),
+            work: look.work,
+            padded: look.padded,
             message: Message::from_raw(frame, raw.message),
             statement_place: (raw.stmt_place < ffi::MAX_STMTS).then_some(raw.stmt_place),
             cursor_place: (raw.cursor_place < ffi::MAX_CURSORS).then_some(raw.cursor_place),
@@ -225,6 +246,7 @@ impl Session {
             outcome: accepted(answer.reason).map(|()| rows),
             used: answer.used,
             reply: &reply[..answer.reply],
+            padded: answer.padded,
         }
     }
 

@@ -50,7 +50,7 @@ fn replies(frames: &[Vec<u8>]) -> (Vec<Vec<u8>>, Session) {
     let mut session = Session::new();
     let mut all = Vec::new();
     for frame in frames {
-        let report = match session.look(frame) {
+        let report = match session.look(frame).work {
             Ok(Work::Prepare) => Report::Prepared { placeholders: 0 },
             Ok(Work::Execute | Work::Open) => Report::Result { columns: 1, rows: 5 },
             Ok(Work::Fetch(_)) => Report::Done,
@@ -221,7 +221,7 @@ fn every_type_byte_is_handed_out() {
         let known = [6, 7, 40, 41, 42, 43, 44, 45].contains(&kind);
         let found = Kind::from_number(kind.into());
         assert_eq!(found.map(|k| k as u8), known.then_some(kind));
-        let unknown = Session::new().look(&frame) == Err(Refusal::UnknownType);
+        let unknown = Session::new().look(&frame).work == Err(Refusal::UnknownType);
         assert_eq!(unknown, !known);
     }
 }

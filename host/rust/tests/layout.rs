@@ -64,13 +64,13 @@ fn of_this_crate() -> Header {
         "karramotx_cursor" Cursor { id stmt rows sent live }
         "karramotx_session" Session { stmt_ids stmts cursors closed }
         "karramotx_counts" Counts { stmts cursors owed }
-        "karramotx_look" Look { reason work first count }
+        "karramotx_look" Look { reason work first count padded }
         "karramotx_report" Report { kind placeholders columns rows code }
-        "karramotx_answer" Answer { reason used reply columns first count }
+        "karramotx_answer" Answer { reason used reply columns padded first count }
         "karramotx_optional" Optional { present value }
         "karramotx_part" Part { start len }
         "karramotx_arguments" Arguments { good count kind index start end }
-        "karramotx_message" Message { reason used kind stmt cursor rows compact operation body args }
+        "karramotx_message" Message { reason used kind stmt cursor rows compact operation body args padded }
         "karramotx_inspection" Inspection { look message stmt_place cursor_place ends }
         "karramotx_value" Value { reason kind value start len next }
         "karramotx_draft" Draft { kind stmt cursor hasrows rows hascompact compact operation }
@@ -200,6 +200,32 @@ impl Probe<'_> {
         self.expect(&s, 0, "karramotx_session", &[("closed", 4, 0)]);
         step(&mut s, &frame_of(7, &[]), self.report(0, &[]));
         self.expect(&s, 0, "karramotx_session", &[("closed", 4, 1)]);
+    }
+
+    /// A Fetch with its cursor id in five bytes and the same with one: the flag in every answer.
+    fn padded(&mut self) {
+        let mut s = unsafe { karramotx_fresh() };
+        step(&mut s, &prepare(5), self.report(1, &[("placeholders", 0)]));
+        step(&mut s, &open(), self.report(2, &[("columns", 4), ("rows", 1000)]));
+        let [own, message] = ["look", "message"].map(|f| self.header.place("karramotx_inspection", f));
+        for (frame, flag) in [(padded_fetch(11, 6), 1), (fetch(11, 6), 0)] {
+            let look = unsafe { karramotx_look(&s, frame.as_ptr(), frame.len()) };
+            let m = unsafe { karramotx_read(frame.as_ptr(), frame.len()) };
+            let told = unsafe { karramotx_inspect(&s, frame.as_ptr(), frame.len()) };
+            let answer = step(&mut s, &frame, self.report(3, &[]));
+            let looked = [("reason", 8, 0), ("count", 8, 6), ("padded", 1, flag)];
+            let read = [("cursor", 8, 11), ("padded", 1, flag)];
+            self.expect(&look, 0, "karramotx_look", &looked);
+            self.expect(&told, own, "karramotx_look", &looked);
+            self.expect(&m, 0, "karramotx_message", &read);
+            self.expect(&told, message, "karramotx_message", &read);
+            self.expect(
+                &answer,
+                0,
+                "karramotx_answer",
+                &[("reason", 8, 0), ("columns", 1, 0), ("padded", 1, flag), ("count", 8, 6)],
+            );
+        }
     }
 
     /// An Open with a number, an object and a string as its arguments, and a Prepare.
@@ -394,6 +420,7 @@ impl Probe<'_> {
 fn archive_agrees(header: &Header) -> Result<(), Vec<String>> {
     let mut probe = Probe { header, wrong: Vec::new() };
     probe.session();
+    probe.padded();
     probe.message();
     probe.inspection();
     probe.value();
@@ -474,6 +501,11 @@ const OPEN_STMT: usize = 14;
 
 fn fetch(cursor: u8, rows: u8) -> Vec<u8> {
     frame_of(45, &[0x08, cursor, 0x10, rows])
+}
+
+/// The same with the cursor id in five bytes.
+fn padded_fetch(cursor: u8, rows: u8) -> Vec<u8> {
+    frame_of(45, &[0x08, cursor | 0x80, 0x80, 0x80, 0x80, 0x00, 0x10, rows])
 }
 
 fn step(session: &mut Session, frame: &[u8], report: Report) -> Answer {

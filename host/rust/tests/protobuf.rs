@@ -82,6 +82,7 @@ fn what_protobuf_writes_is_read() {
     for v in vectors() {
         let m = Message::read(&v.frame).expect("a good frame");
         assert_eq!(m.frame(), v.frame);
+        assert!(!m.is_padded());
         assert_eq!(Some(m.kind() as u64), v.number("kind"));
         assert_eq!(m.statement_id(), v.id("stmt"));
         assert_eq!(m.cursor_id(), v.id("cursor"));

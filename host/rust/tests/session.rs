@@ -1,7 +1,7 @@
 //! The wrappers, used as a host would.
 
 use karramotx::{
-    sql_body, Args, Argument, ClientMessage, Kind, Message, Operation, Refusal, Report, Session, Work,
+    sql_body, Args, Argument, ClientMessage, Kind, Look, Message, Operation, Refusal, Report, Session, Work,
     MIN_REPLY,
 };
 
@@ -38,12 +38,12 @@ fn types(reply: &[u8]) -> Vec<u8> {
 fn a_load_from_prepare_to_fetch_done() {
     let mut session = Session::new();
     let mut reply = [0; MIN_REPLY];
-    assert_eq!(session.look(&prepare(1)), Ok(Work::Prepare));
+    assert_eq!(session.look(&prepare(1)).work, Ok(Work::Prepare));
     let step = session.step(&prepare(1), Report::Prepared { placeholders: 0 }, &mut reply);
     assert_eq!(types(step.reply), [0]);
 
     let frame = open(9, 1, Some(2));
-    assert_eq!(session.look(&frame), Ok(Work::Open));
+    assert_eq!(session.look(&frame).work, Ok(Work::Open));
     let step = session.step(&frame, Report::Result { columns: 3, rows: 5 }, &mut reply);
     assert_eq!(step.used, frame.len());
     assert_eq!(types(step.reply), [15, 17]);
@@ -52,13 +52,13 @@ fn a_load_from_prepare_to_fetch_done() {
     assert_eq!(sent.rows, 0..2);
     assert_eq!(session.owed(), 3);
 
-    assert_eq!(session.look(&fetch(9, Some(2))), Ok(Work::Fetch(2..4)));
+    assert_eq!(session.look(&fetch(9, Some(2))).work, Ok(Work::Fetch(2..4)));
     let step = session.step(&fetch(9, Some(2)), Report::Done, &mut reply);
     assert_eq!(types(step.reply), [15, 17]);
     let step = session.step(&fetch(9, None), Report::Done, &mut reply);
     assert_eq!(types(step.reply), [14, 17]);
     assert_eq!(step.outcome.unwrap().rows, 4..5);
-    assert_eq!(session.look(&fetch(9, None)), Err(Refusal::AllSent));
+    assert_eq!(session.look(&fetch(9, None)).work, Err(Refusal::AllSent));
 }
 
 #[test]
@@ -71,7 +71,7 @@ fn a_statement_prepared_anew_ends_its_cursor() {
     session.step(&prepare(1), Report::Prepared { placeholders: 2 }, &mut reply).outcome.unwrap();
     assert_eq!(session.cursors().count(), 0);
     assert_eq!(session.statements().map(|s| (s.id, s.placeholders)).collect::<Vec<_>>(), [(1, 2)]);
-    assert_eq!(session.look(&fetch(9, None)), Err(Refusal::NoCursor));
+    assert_eq!(session.look(&fetch(9, None)).work, Err(Refusal::NoCursor));
 }
 
 #[test]
@@ -99,7 +99,7 @@ fn a_closed_session_refuses() {
     let close = ClientMessage::SessionClose.to_vec().unwrap();
     session.step(&close, Report::None, &mut reply).outcome.unwrap();
     assert!(session.is_closed());
-    assert_eq!(session.look(&close), Err(Refusal::Closed));
+    assert_eq!(session.look(&close).work, Err(Refusal::Closed));
 }
 
 #[test]
@@ -179,7 +179,7 @@ fn inspected(
     report: Report,
 ) -> (Vec<usize>, Option<usize>, Option<usize>) {
     let told = session.inspect(frame);
-    assert_eq!(told.work, session.look(frame));
+    assert_eq!(Look { work: told.work, padded: told.padded }, session.look(frame));
     assert_eq!(told.message.unwrap().frame(), frame);
     session.step(frame, report, &mut [0; MIN_REPLY]).outcome.unwrap();
     (told.ends.collect(), told.statement_place, told.cursor_place)
