@@ -16,6 +16,8 @@ pub struct Coverage {
     /// By kind of message, then by reason, 0 for accepted.
     pub reasons: [[u64; 17]; 9],
     pub marks: [[u64; 6]; 9],
+    /// By kind of message, where the answer says what was read: not padded, padded.
+    pub padded: [[u64; 2]; 8],
     pub arguments: [u64; 10],
     pub drafts: [u64; 17],
     pub stretches: [u64; 17],
@@ -50,6 +52,9 @@ impl Coverage {
         let mark = mark(reply);
         let place = MARKS.iter().position(|m| *m == mark).unwrap_or(5);
         self.marks[kind][place] += 1;
+        if !(1..=6).contains(&answer.reason) {
+            self.padded[kind][usize::from(answer.padded)] += 1;
+        }
         for value in &message.args {
             self.arguments[type_of(value)] += 1;
         }
@@ -143,6 +148,10 @@ impl fmt::Display for Coverage {
             write!(f, " {:>6}", self.marks.iter().map(|row| row[mark]).sum::<u64>())?;
         }
         write!(f, "\naccepted  {:.1} %", 100.0 * self.accepted_share())?;
+        write!(f, "\npadded no/yes")?;
+        for (name, [no, yes]) in NAMES.iter().zip(self.padded) {
+            write!(f, "  {name} {no}/{yes}")?;
+        }
         write!(f, "\narguments")?;
         for (name, count) in TYPES.iter().zip(self.arguments) {
             write!(f, "  {name} {count}")?;

@@ -97,6 +97,8 @@ pub struct Message {
     /// The message that holds the arguments, where there is one.
     pub args_place: Place,
     pub args: Vec<Value>,
+    /// Whether a varint that was read in the payload was padded.
+    pub padded: bool,
 }
 
 impl Message {
@@ -160,6 +162,7 @@ pub struct Look {
     pub work: Work,
     pub first: u64,
     pub count: u64,
+    pub padded: bool,
 }
 
 #[derive(Clone, Copy, Debug, Default, PartialEq, Eq)]
@@ -168,8 +171,18 @@ pub struct Answer {
     pub used: usize,
     pub reply: usize,
     pub columns: bool,
+    pub padded: bool,
     pub first: u64,
     pub count: u64,
+}
+
+/// What an inspection tells: the look, whether the message that it read says
+/// padded, and what the request touches.
+#[derive(Clone, Copy, Debug, Default, PartialEq, Eq)]
+pub struct Inspection {
+    pub look: Look,
+    pub padded: bool,
+    pub touched: Touched,
 }
 
 /// What a request touches in the tables: where its statement and its cursor
@@ -273,7 +286,7 @@ pub trait Implementation {
     fn body<'f>(&self, frame: &'f [u8]) -> &'f [u8];
 
     fn look(&self, session: &Self::Session, frame: &[u8]) -> Look;
-    fn touched(&self, session: &Self::Session, frame: &[u8]) -> Touched;
+    fn inspect(&self, session: &Self::Session, frame: &[u8]) -> Inspection;
     fn step(
         &self,
         session: Self::Session,

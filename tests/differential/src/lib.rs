@@ -1,12 +1,12 @@
 //! Independent evidence for the session keeper.
 //!
-//! [`model`] implements document 01 and item 1 of document 02 from the papers
-//! alone, [`generate`] makes random sequences of frames, reports, reply buffers
-//! and arrivals, and [`compare`] runs one sequence against two implementations
-//! and demands equal answers, equal buffers, equal tables and equal bytes held.
-//! [`tally`] is demand 3's own bookkeeping, fed from frames, reports and
-//! answers only. [`mutants`] shows that the comparison would notice: every
-//! deliberate mistake in the model must be found.
+//! [`model`] implements document 01 and items 1 and 2 of document 02 from the
+//! papers alone, [`generate`] makes random sequences of frames, reports, reply
+//! buffers and arrivals, and [`compare`] runs one sequence against two
+//! implementations and demands equal answers, equal buffers, equal tables and
+//! equal bytes held. [`tally`] is demand 3's own bookkeeping, fed from frames,
+//! reports and answers only. [`mutants`] shows that the comparison would
+//! notice: every deliberate mistake in the model must be found.
 
 pub mod compare;
 pub mod coverage;

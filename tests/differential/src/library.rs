@@ -49,6 +49,17 @@ fn optional(o: ffi::Optional) -> Option<u64> {
     o.present.then_some(o.value)
 }
 
+fn look(told: ffi::Look) -> Look {
+    let works = [Work::None, Work::Prepare, Work::Execute, Work::Open, Work::Fetch];
+    Look {
+        reason: narrow(told.reason),
+        work: works[narrow::<usize>(told.work)],
+        first: told.first,
+        count: told.count,
+        padded: told.padded,
+    }
+}
+
 fn written(sent: ffi::Sent) -> Written {
     Written { reason: narrow(sent.reason), length: sent.len }
 }
@@ -104,9 +115,10 @@ impl Implementation for Library {
         let m = raw(frame);
         if m.reason != 0 {
             let args = ffi::Arguments { good: true, ..Default::default() };
-            let rest = ffi::Message { reason: m.reason, used: m.used, args, ..Default::default() };
+            let (reason, used, padded) = (m.reason, m.used, m.padded);
+            let rest = ffi::Message { reason, used, args, padded, ..Default::default() };
             assert_eq!(m, rest, "a refused message holds nothing");
-            return Message::refused(narrow(m.reason), m.used);
+            return Message { padded, ..Message::refused(narrow(reason), used) };
         }
         assert!(m.args.good, "the arguments of a good frame are good");
         Message {
@@ -121,6 +133,7 @@ impl Implementation for Library {
             body: Place { start: m.body.start, len: m.body.len },
             args_place: Place { start: m.args.start, len: m.args.end - m.args.start },
             args: Library::args(frame, m),
+            padded: m.padded,
         }
     }
 
@@ -158,34 +171,25 @@ impl Implementation for Library {
 
     fn look(&self, session: &ffi::Session, frame: &[u8]) -> Look {
         // SAFETY: the pointer and the length are those of a slice.
-        let look = unsafe { ffi::karramotx_look(session, frame.as_ptr(), frame.len()) };
-        let works = [Work::None, Work::Prepare, Work::Execute, Work::Open, Work::Fetch];
-        Look {
-            reason: narrow(look.reason),
-            work: works[narrow::<usize>(look.work)],
-            first: look.first,
-            count: look.count,
-        }
+        look(unsafe { ffi::karramotx_look(session, frame.as_ptr(), frame.len()) })
     }
 
-    /// Beside it an inspection tells what a look and a read tell.
-    fn touched(&self, session: &ffi::Session, frame: &[u8]) -> Touched {
+    /// The message it tells is the one that a read tells; the flag is for the comparison.
+    fn inspect(&self, session: &ffi::Session, frame: &[u8]) -> Inspection {
         // SAFETY: the pointers and the length are those of a session and a slice.
-        let (told, look) = unsafe {
-            let told = ffi::karramotx_inspect(session, frame.as_ptr(), frame.len());
-            (told, ffi::karramotx_look(session, frame.as_ptr(), frame.len()))
-        };
-        assert_eq!(told.look, look, "an inspection and a look");
-        assert_eq!(told.message, raw(frame), "an inspection and a read");
+        let told = unsafe { ffi::karramotx_inspect(session, frame.as_ptr(), frame.len()) };
+        let (padded, message) = (told.message.padded, raw(frame));
+        assert_eq!(told.message, ffi::Message { padded, ..message }, "an inspection and a read");
         let place = |told: usize, places: usize| {
             assert!(told <= places, "place {told} of {places}");
             (told < places).then_some(told)
         };
-        Touched {
+        let touched = Touched {
             statement: place(told.stmt_place, STATEMENTS),
             cursor: place(told.cursor_place, CURSORS),
             ends: told.ends,
-        }
+        };
+        Inspection { look: look(told.look), padded, touched }
     }
 
     fn step(
@@ -213,6 +217,7 @@ impl Implementation for Library {
             used: answer.used,
             reply: answer.reply,
             columns: answer.columns,
+            padded: answer.padded,
             first: answer.first,
             count: answer.count,
         };

@@ -50,9 +50,9 @@ impl std::fmt::Display for Caught {
             (Some(steps), Some(found)) => {
                 let (left, what) = (found.events.len(), &found.difference.what);
                 let unit = if self.mistake.is_on_arrivals() { "operations" } else { "steps" };
-                write!(f, "{name:<22} after {steps:>6} {unit}, shrunk to {left:>2} events: {what}")
+                write!(f, "{name:<24} after {steps:>6} {unit}, shrunk to {left:>2} events: {what}")
             }
-            _ => write!(f, "{name:<22} NOT FOUND within {WITHIN} steps"),
+            _ => write!(f, "{name:<24} NOT FOUND within {WITHIN} steps"),
         }
     }
 }

@@ -39,7 +39,7 @@ impl Tally {
             let none = (answer.first, answer.count) == (0, 0);
             return none.then_some(()).ok_or("a refused step sends rows".into());
         }
-        let message = Model::reference().read(frame);
+        let message = Model::reference().read_values(frame);
         if message.reason != 0 {
             return Err(format!("accepted a frame that is refused {}", message.reason));
         }

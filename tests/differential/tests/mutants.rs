@@ -33,6 +33,12 @@ fn promises_alone_find_these() {
         CloseKeepsTables,
         FailedExecuteEnds,
         OtherCursorClosed,
+        ClosedSaysYes,
+        BadPayloadSaysYes,
+        SmallReplySaysYes,
+        RefusedSaysNo,
+        ReportRefusedSaysNo,
+        InspectionSaysNo,
         LastRowSuspends,
         OpenWithoutDone,
         ReplyCleared,
@@ -108,6 +114,8 @@ fn the_reference_is_not_accused() {
     assert!((0..=16).all(|reason| coverage.reason(reason) > 0), "\n{coverage}");
     assert!((0.4..0.7).contains(&coverage.accepted_share()), "\n{coverage}");
     assert!(coverage.arguments.iter().all(|count| *count > 0), "\n{coverage}");
+    // Both answers about padded numbers, often, of each of the eight messages.
+    assert!(coverage.padded.iter().flatten().all(|count| *count >= 20), "\n{coverage}");
     assert!([0, 2, 3, 6].iter().all(|reason| coverage.drafts[*reason] > 0), "\n{coverage}");
     assert!([0, 3, 6].iter().all(|reason| coverage.stretches[*reason] > 0), "\n{coverage}");
 }

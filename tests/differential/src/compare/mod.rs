@@ -2,6 +2,7 @@
 
 mod arrivals;
 mod divisions;
+mod padded;
 mod pair;
 mod promises;
 mod reader;

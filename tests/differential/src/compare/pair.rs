@@ -77,23 +77,25 @@ impl<'i, A: Implementation, B: Implementation> Pair<'i, A, B> {
         // Both take the step before anything is compared, so that the print
         // of a mismatch has both answers.
         let (left, right) = (self.left.step(step), self.right.step(step));
-        let message = self.reading(&step.frame)?;
-        let (left, right) = (left?, right?);
+        let messages = self.reading(&step.frame)?;
+        self.left.check(step, &left, &messages.0)?;
+        self.right.check(step, &right, &messages.1)?;
         same("look", left.look, right.look)?;
-        same("touched", left.touched, right.touched)?;
+        same("inspection", left.inspection, right.inspection)?;
         same("answer", left.answer, right.answer)?;
         same("reply buffer", hex(&left.buffer), hex(&right.buffer))?;
         same_tables(&left.tables, &right.tables)?;
         let reply = &left.buffer[..left.answer.reply];
-        coverage.step(&step.frame, &message, &left.answer, reply);
+        coverage.step(&step.frame, &messages.0, &left.answer, reply);
         Ok(left)
     }
 
-    /// The frame by itself: message, body and arguments.
-    fn reading(&self, frame: &[u8]) -> Result<Message, Difference> {
+    /// The frame by itself: message, body and arguments. Gives either side's
+    /// message.
+    fn reading(&self, frame: &[u8]) -> Result<(Message, Message), Difference> {
         let (a, b) = (self.left.who, self.right.who);
-        let message = a.read(frame);
-        same("message", message.clone().comparable(), b.read(frame).comparable())?;
+        let (message, other) = (a.read(frame), b.read(frame));
+        same("message", message.clone().comparable(), other.clone().comparable())?;
         same("chosen body", hex(a.body(frame)), hex(b.body(frame)))?;
         same("body of message", hex(message.body.of(frame)), hex(a.body(frame)))?;
         let pass = a.pass(frame);
@@ -107,7 +109,7 @@ impl<'i, A: Implementation, B: Implementation> Pair<'i, A, B> {
             let passed = pass.get(index as usize).copied().unwrap_or(pass[pass.len() - 1]);
             same("argument by index and in the pass", left, passed)?;
         }
-        Ok(message)
+        Ok((message, other))
     }
 
     fn write(&self, probe: &WriteProbe, coverage: &mut Coverage) -> Outcome {

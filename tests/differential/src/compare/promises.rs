@@ -1,6 +1,7 @@
 //! What is promised of every implementation by itself, checked on each side:
 //! demand 1's refusals, demand 2's reading back, demand 3's tally.
 
+use super::padded::flags_agree;
 use super::pair::{broken, pattern, same, Difference, Outcome};
 use super::touched::as_told;
 use crate::generate::{Step, StretchProbe, WriteProbe};
@@ -19,7 +20,7 @@ pub struct Side<'i, I: Implementation> {
 /// All that one step gives.
 pub struct Stepped {
     pub look: Look,
-    pub touched: Touched,
+    pub inspection: Inspection,
     pub answer: Answer,
     pub buffer: Vec<u8>,
     pub tables: Tables,
@@ -32,25 +33,31 @@ impl<'i, I: Implementation> Side<'i, I> {
         Side { who, session, tables, tally: Tally::default(), last: None }
     }
 
-    pub fn step(&mut self, step: &Step) -> Result<Stepped, Difference> {
+    /// Look, inspection and step, unchecked.
+    pub fn step(&mut self, step: &Step) -> Stepped {
         let look = self.who.look(&self.session, &step.frame);
-        let touched = self.who.touched(&self.session, &step.frame);
+        let inspection = self.who.inspect(&self.session, &step.frame);
         let mut buffer = pattern(step.room);
         let before = self.session.clone();
         let (session, answer) = self.who.step(before, &step.frame, step.report, &mut buffer);
         let tables = self.who.tables(&session);
         (self.session, self.last) = (session, Some(answer));
-        let stepped = Stepped { look, touched, answer, buffer, tables };
-        self.check(step, &stepped).map_err(|what| broken(&self.who.name(), what))?;
-        self.tables = stepped.tables.clone();
-        Ok(stepped)
+        Stepped { look, inspection, answer, buffer, tables }
     }
 
-    fn check(&mut self, step: &Step, stepped: &Stepped) -> Result<(), String> {
-        let Stepped { look, touched, answer, buffer, tables } = stepped;
+    /// Checks the step just taken; `message` is what its frame holds.
+    pub fn check(&mut self, step: &Step, stepped: &Stepped, message: &Message) -> Outcome {
+        let kept = self.keeps(step, stepped, message);
+        self.tables = stepped.tables.clone();
+        kept.map_err(|what| broken(&self.who.name(), what))
+    }
+
+    fn keeps(&mut self, step: &Step, stepped: &Stepped, message: &Message) -> Result<(), String> {
+        let Stepped { look, inspection, answer, buffer, tables } = stepped;
         look_binds(look, answer)?;
+        flags_agree(message, look, inspection, answer)?;
         if answer.reason == 0 {
-            as_told(touched, &self.who.read(&step.frame), &self.tables, tables)?;
+            as_told(&inspection.touched, message, &self.tables, tables)?;
         }
         if answer.reply > buffer.len() || answer.used > step.frame.len() {
             return Err(format!("more used or written than there is: {answer:?}"));
@@ -117,6 +124,8 @@ fn reads_back<I: Implementation>(who: &I, probe: &WriteProbe, frame: &[u8]) -> O
         same("operation read back", message.operation, draft.operation)?;
         same("body read back", who.body(frame), &probe.body[..])?;
     }
+    let stretch = has(&[EXECUTE, CURSOR_OPEN]) && !probe.args.is_empty();
+    same("a written frame without arguments is padded", message.padded && !stretch, false)?;
     if has(&[EXECUTE, CURSOR_OPEN]) {
         let execute = message.args_place.of(frame);
         let stands =
@@ -157,6 +166,7 @@ fn stretch_reads_back<I: Implementation>(who: &I, stretch: &[u8], scalars: &[Sca
     let written = who.write(&draft, &[], stretch, &mut frame);
     same("a stretch written", written.reason, 0)?;
     let frame = &frame[..written.length];
+    same("an appended argument is padded", who.read(frame).padded, false)?;
     for (index, scalar) in scalars.iter().enumerate() {
         let read = who.argument(frame, index as u64);
         same("scalar read back", read.map(|value| scalar_back(value, frame)), Ok(plainly(scalar)))?;

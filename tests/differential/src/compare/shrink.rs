@@ -10,7 +10,7 @@ use std::fmt::Write;
 
 /// Runs tried before the shortest so far is taken.
 const TRIES: usize = 4000;
-/// This many bytes in arrivals count for one try more.
+/// This many bytes in arrivals count for one try more, and make a frame large.
 const LARGE: usize = 2_000;
 
 /// A shrunk sequence, where it differs, and its print.
@@ -41,8 +41,8 @@ struct Shrinker<'i, A: Implementation, B: Implementation> {
     tries: usize,
 }
 
-/// Joins arrivals, drops events, then shortens frames, as long as some
-/// difference remains.
+/// Joins arrivals, drops events, large ones first, then shortens frames, as
+/// long as some difference remains.
 pub fn shrink<A: Implementation, B: Implementation>(a: &A, b: &B, events: Vec<Event>) -> Found {
     let difference = run(a, b, &events, &mut Coverage::default());
     let difference = difference.expect("the sequence differed a moment ago");
@@ -50,6 +50,7 @@ pub fn shrink<A: Implementation, B: Implementation>(a: &A, b: &B, events: Vec<Ev
     loop {
         let before = (shrinker.events.len(), shrinker.bytes());
         shrinker.join_arrivals();
+        shrinker.drop_large_frames();
         shrinker.drop_events();
         shrinker.shorten_frames();
         if before == (shrinker.events.len(), shrinker.bytes()) || shrinker.tries == 0 {
@@ -101,6 +102,18 @@ impl<A: Implementation, B: Implementation> Shrinker<'_, A, B> {
         }
         if joined.len() < self.events.len() {
             self.take(joined);
+        }
+    }
+
+    /// A large frame makes every run slow.
+    fn drop_large_frames(&mut self) {
+        let large = |event: &Event| matches!(event, Event::Step(step) if step.frame.len() > LARGE);
+        let mut at = 0;
+        while let Some(found) = self.events.iter().skip(at).position(large) {
+            at += found;
+            let mut candidate = self.events.clone();
+            candidate.remove(at);
+            at += usize::from(!self.take(candidate));
         }
     }
 

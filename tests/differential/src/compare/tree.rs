@@ -2,11 +2,16 @@
 //! lengths around it still fit. Only for shrinking: what does not parse stays
 //! as it is, and nothing here decides what is right.
 
+use crate::generate::{lengthened, FORMS};
+use crate::model::shortest;
+
 /// One field: its tag as it stood, and what follows it.
 #[derive(Clone)]
 struct Node {
     tag: Vec<u8>,
     content: Content,
+    /// Whether its length was padded; it stays so.
+    padded: bool,
 }
 
 #[derive(Clone)]
@@ -26,11 +31,13 @@ impl Tree {
         let mut nodes = Vec::new();
         while !bytes.is_empty() {
             let (tag, wire) = varint(&mut bytes)?;
+            let mut padded = false;
             let content = match wire & 7 {
                 0 => Content::Plain(varint(&mut bytes)?.0),
                 1 => Content::Plain(take(&mut bytes, 8)?),
                 2 => {
-                    let len = varint(&mut bytes)?.1;
+                    let (raw, len) = varint(&mut bytes)?;
+                    padded = raw != length(len, false);
                     let inner = take(&mut bytes, usize::try_from(len).ok()?)?;
                     let message = Tree::parse(&inner).filter(|tree| !tree.0.is_empty());
                     message.map_or(Content::Bytes(inner), Content::Message)
@@ -39,15 +46,15 @@ impl Tree {
                 5 => Content::Plain(take(&mut bytes, 4)?),
                 _ => return None,
             };
-            nodes.push(Node { tag, content });
+            nodes.push(Node { tag, content, padded });
         }
         Some(Tree(nodes))
     }
 
-    /// The payload, its lengths in their shortest form.
+    /// The payload, its lengths in their shortest form or a byte longer.
     pub fn bytes(&self) -> Vec<u8> {
         let mut out = Vec::new();
-        for Node { tag, content } in &self.0 {
+        for Node { tag, content, padded } in &self.0 {
             out.extend(tag);
             let (inner, delimited) = match content {
                 Content::Plain(bytes) => (bytes.clone(), false),
@@ -55,7 +62,7 @@ impl Tree {
                 Content::Message(tree) => (tree.bytes(), true),
             };
             if delimited {
-                crate::model::shortest(inner.len() as u64, &mut out);
+                out.extend(length(inner.len() as u64, *padded));
             }
             out.extend(inner);
         }
@@ -86,6 +93,15 @@ impl Tree {
             _ => None,
         })
     }
+}
+
+fn length(len: u64, padded: bool) -> Vec<u8> {
+    if padded {
+        return lengthened(len, FORMS[0]);
+    }
+    let mut out = Vec::new();
+    shortest(len, &mut out);
+    out
 }
 
 fn take(bytes: &mut &[u8], len: usize) -> Option<Vec<u8>> {

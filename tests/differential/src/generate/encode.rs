@@ -2,6 +2,7 @@
 //! padded numbers, high bits that are dropped, unknown fields, other orders,
 //! and, if asked, one of the things a reader must call bad.
 
+use super::padding::{lengthened, Form, Padding};
 use super::random::Random;
 
 const WIRES: [u8; 5] = [0, 1, 2, 3, 5];
@@ -10,8 +11,9 @@ const HIGHEST: u32 = (1 << 29) - 1;
 /// How often, in thousandths, an encoder departs from the plain form.
 #[derive(Clone, Copy, Debug, Default)]
 pub struct Noise {
-    /// A varint is padded, or has bits past what is kept.
-    pub pad: usize,
+    pub pad: Padding,
+    /// A number of which 32 bits are kept has others too.
+    pub wide: usize,
     /// A message gets a field it does not know.
     pub extra: usize,
     /// A field occurs again, the earlier one with anything in it.
@@ -25,27 +27,29 @@ pub struct Noise {
 pub struct Encoder<'r> {
     pub random: &'r mut Random,
     pub noise: Noise,
+    /// How many varints were written, at whatever layer.
+    pub varints: usize,
 }
 
-impl Encoder<'_> {
-    /// A varint of `value`, at times longer than needed.
+impl<'r> Encoder<'r> {
+    pub fn new(random: &'r mut Random, noise: Noise) -> Encoder<'r> {
+        Encoder { random, noise, varints: 0 }
+    }
+
+    /// A varint of `value`, at times padded.
     pub fn varint(&mut self, value: u64, out: &mut Vec<u8>) {
-        if !self.random.permille(self.noise.pad) {
-            return crate::model::shortest(value, out);
-        }
-        let needed = (64 - value.leading_zeros() as usize).div_ceil(7).max(1);
-        let len = self.random.range(needed, 10);
-        for group in 0..len {
-            let more = if group + 1 < len { 0x80 } else { 0 };
-            out.push((value >> (7 * group)) as u8 & 0x7f | more);
-        }
-        // The tenth byte has six bits to spare, and they are dropped.
-        if len == 10 && self.random.permille(300) {
-            *out.last_mut().unwrap() |= self.random.word() as u8 & 0x7e;
+        let form = match self.noise.pad {
+            Padding::Often(thousandths) => self.random.permille(thousandths).then(|| Form::any(self.random)),
+            Padding::Nth(nth, form) => (nth == self.varints).then_some(form),
+        };
+        self.varints += 1;
+        match form {
+            None => crate::model::shortest(value, out),
+            Some(form) => out.extend(lengthened(value, form)),
         }
     }
 
-    fn tag(&mut self, number: u32, wire: u8, out: &mut Vec<u8>) {
+    pub(super) fn tag(&mut self, number: u32, wire: u8, out: &mut Vec<u8>) {
         self.varint(u64::from(number) << 3 | u64::from(wire), out);
     }
 
@@ -58,8 +62,13 @@ impl Encoder<'_> {
 
     /// A number of which 32 bits are kept: the upper ones may be anything.
     pub fn low32(&mut self, number: u32, value: u32) -> Vec<u8> {
-        let above = if self.random.permille(self.noise.pad) { self.random.word() << 32 } else { 0 };
-        self.number(number, u64::from(value) | above)
+        let above = if self.random.permille(self.noise.wide) { self.above() } else { 0 };
+        self.number(number, u64::from(value) | above << 32)
+    }
+
+    fn above(&mut self) -> u64 {
+        let any = self.random.word() >> 32;
+        self.random.pick(&[1, 1 << 31, u64::from(u32::MAX), any])
     }
 
     pub fn bytes(&mut self, number: u32, bytes: &[u8]) -> Vec<u8> {
@@ -85,13 +94,22 @@ impl Encoder<'_> {
         }
     }
 
-    /// An embedded message's earlier occurrence, mostly not even a field list.
+    /// An embedded message's earlier occurrence.
     pub fn again_bytes(&mut self, number: u32, fields: &mut Vec<Vec<u8>>) {
         self.again(fields, |e| {
-            let len = e.random.below(6);
-            let junk = e.random.bytes(len);
-            e.bytes(number, &junk)
+            let inside = e.unread();
+            e.bytes(number, &inside)
         });
+    }
+
+    /// What stands in a part that is skipped: often not even a field list, else
+    /// one whose numbers may be padded.
+    pub fn unread(&mut self) -> Vec<u8> {
+        if self.random.permille(500) {
+            let len = self.random.below(6);
+            return self.random.bytes(len);
+        }
+        [self.number(1, 1), self.unknown()].concat()
     }
 
     /// A field no message of the rules knows, or one with another wire type.

@@ -23,6 +23,19 @@ pub fn framed(kind: u8, payload: &[u8]) -> Vec<u8> {
     frame
 }
 
+/// Grows a frame by one unknown field until its length field is `length`.
+pub fn grown(frame: &[u8], length: usize) -> Vec<u8> {
+    let mut payload = frame[5..].to_vec();
+    // The tag of field 40 and three length bytes, needed or not.
+    let Some(fill) = length.checked_sub(1 + payload.len() + 5) else {
+        return frame.to_vec();
+    };
+    payload.extend([0xc2, 0x02]);
+    payload.extend([fill as u8 & 0x7f | 0x80, (fill >> 7) as u8 & 0x7f | 0x80, (fill >> 14) as u8]);
+    payload.resize(length - 1, 0xaa);
+    framed(frame[4], &payload)
+}
+
 impl Encoder<'_> {
     pub fn frame(&mut self, intent: &Intent) -> Vec<u8> {
         let payload = self.payload(intent);
@@ -40,8 +53,17 @@ impl Encoder<'_> {
                 let rows = self.rows(2, intent.rows);
                 self.with_id(intent.cursor, rows)
             }
-            _ => self.message(Vec::new()),
+            _ => self.without_fields(),
         }
+    }
+
+    /// A Reset or a Session close: what it has is unknown, and often something.
+    fn without_fields(&mut self) -> Vec<u8> {
+        let mut fields = Vec::new();
+        if self.random.permille(4 * self.noise.extra) {
+            fields.push(self.unknown());
+        }
+        self.message(fields)
     }
 
     /// A message of an id and other fields.
@@ -124,18 +146,5 @@ impl Encoder<'_> {
         self.again_bytes(4, &mut fields);
         fields.extend(self.rows(5, intent.rows));
         self.with_id(intent.cursor, fields)
-    }
-
-    /// Grows a frame by one unknown field until its length field is `length`.
-    pub fn grown(&mut self, frame: &[u8], length: usize) -> Vec<u8> {
-        let mut payload = frame[5..].to_vec();
-        // The tag of field 40 and three length bytes, needed or not.
-        let Some(fill) = length.checked_sub(1 + payload.len() + 5) else {
-            return frame.to_vec();
-        };
-        payload.extend([0xc2, 0x02]);
-        payload.extend([fill as u8 & 0x7f | 0x80, (fill >> 7) as u8 & 0x7f | 0x80, (fill >> 14) as u8]);
-        payload.resize(length - 1, 0xaa);
-        framed(frame[4], &payload)
     }
 }

@@ -5,8 +5,10 @@ mod damage;
 mod divisions;
 mod edges;
 mod encode;
+mod every_varint;
 mod frames;
 mod intent;
+mod padding;
 mod probes;
 mod random;
 mod reports;
@@ -19,6 +21,7 @@ pub use divisions::{divisions, samples};
 pub use edges::edges;
 pub use encode::{Encoder, Noise};
 pub use frames::{framed, Intent};
+pub use padding::{lengthened, FORMS};
 pub use probes::{StretchProbe, WriteProbe};
 pub use random::Random;
 pub use streams::{arrivals, long_divisions};
@@ -26,7 +29,9 @@ pub use systematic::{all as systematic, step_on};
 
 use crate::implementation::*;
 use crate::model::{Model, Session};
+use frames::grown;
 use intent::Mode;
+use padding::{one_padded, Padding};
 
 /// One step: a frame, a report and a reply buffer of `room` bytes.
 #[derive(Clone, Debug)]
@@ -97,8 +102,7 @@ impl Guide {
     /// A frame without damage, and on it the step that comes of handing it out.
     fn good_frame(&mut self, random: &mut Random) -> Vec<u8> {
         let intent = intent::next(random, self.mode, &self.session.tables);
-        let noise = noise(random, 0);
-        let frame = Encoder { random, noise }.frame(&intent);
+        let frame = encoded(random, &intent, 0);
         let Step { frame, report, .. } = step_on(frame, SMALLEST_REPLY);
         let mut reply = [0; SMALLEST_REPLY];
         self.session = Model::reference().step(self.session.clone(), &frame, report, &mut reply).0;
@@ -108,14 +112,11 @@ impl Guide {
     fn frame(&self, random: &mut Random, intent: &Intent) -> Vec<u8> {
         // Filling a table takes many accepted steps in a row.
         let spoilt = if self.mode == Mode::Fill { 60 } else { 160 };
-        let noise = noise(random, spoilt);
-        let mut encoder = Encoder { random, noise };
-        let mut frame = encoder.frame(intent);
-        if encoder.random.permille(3) {
-            let length = encoder.random.pick(&[LONGEST, LONGEST, LONGEST - 1, LONGEST + 1]);
-            frame = encoder.grown(&frame, length);
-        } else if encoder.random.permille(1) && encoder.random.permille(400) {
-            frame = many_arguments(encoder.random, intent);
+        let mut frame = encoded(random, intent, spoilt);
+        if random.permille(3) {
+            frame = grown(&frame, random.pick(&[LONGEST, LONGEST, LONGEST - 1, LONGEST + 1]));
+        } else if random.permille(1) && random.permille(400) {
+            frame = many_arguments(random, intent);
         }
         if self.session.tables.closed && random.permille(200) {
             // Which is told first, 4 or 5?
@@ -132,19 +133,30 @@ impl Guide {
     }
 }
 
+/// A frame that says what is meant, `spoilt` thousandths of them with bad parts.
+fn encoded(random: &mut Random, intent: &Intent, spoilt: usize) -> Vec<u8> {
+    let noise = noise(random, spoilt);
+    if random.permille(400) {
+        one_padded(random, noise, intent)
+    } else {
+        Encoder::new(random, noise).frame(intent)
+    }
+}
+
 fn noise(random: &mut Random, spoilt: usize) -> Noise {
     let bad = if random.permille(spoilt) { 350 } else { 0 };
+    let often = Padding::Often;
     match random.below(3) {
         0 => Noise { bad, ..Noise::default() },
-        1 => Noise { pad: 60, extra: 60, again: 40, shuffle: 20, bad },
-        _ => Noise { pad: 250, extra: 200, again: 120, shuffle: 60, bad },
+        1 => Noise { pad: often(30), wide: 60, extra: 60, again: 40, shuffle: 20, bad },
+        _ => Noise { pad: often(250), wide: 250, extra: 200, again: 120, shuffle: 60, bad },
     }
 }
 
 /// An Execute with as many of the shortest arguments as a frame can hold: the
 /// last one now and then an array, to be named by its index.
 fn many_arguments(random: &mut Random, intent: &Intent) -> Vec<u8> {
-    let mut payload = Encoder { random, noise: Noise::default() }.number(1, u64::from(intent.stmt));
+    let mut payload = Encoder::new(random, Noise::default()).number(1, u64::from(intent.stmt));
     let null = [0x12, 0x06, 0x08, 0x01, 0x12, 0x02, 0x08, 0x03];
     while payload.len() + null.len() + 4 < LONGEST {
         payload.extend(null);

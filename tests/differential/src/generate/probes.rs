@@ -1,6 +1,7 @@
 //! Drafts for the writer and scalars for stretches of arguments.
 
 use super::encode::{Encoder, Noise};
+use super::padding::Padding;
 use super::random::Random;
 use super::values::{edge_id, number, scalar_of};
 use crate::implementation::*;
@@ -27,9 +28,9 @@ pub struct StretchProbe {
 pub fn write_probe(random: &mut Random) -> WriteProbe {
     let draft = draft(random);
     let bad = if random.permille(150) { 400 } else { 0 };
-    let pad = if random.permille(300) { 100 } else { 0 };
-    let noise = Noise { bad, pad, extra: 30, ..Noise::default() };
-    let mut encoder = Encoder { random, noise };
+    let often = if random.permille(300) { 100 } else { 0 };
+    let noise = Noise { bad, pad: Padding::Often(often), extra: 30, ..Noise::default() };
+    let mut encoder = Encoder::new(random, noise);
     let mut body = encoder.prepare_body(draft.operation);
     let count = encoder.random.below(4);
     let mut args = encoder.args(count, true).concat();

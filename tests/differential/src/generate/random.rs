@@ -1,5 +1,6 @@
 //! A small seeded generator (splitmix64): the same seed, the same sequences.
 
+#[derive(Clone)]
 pub struct Random(u64);
 
 impl Random {

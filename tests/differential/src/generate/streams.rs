@@ -1,8 +1,7 @@
 //! Random streams, cut at random and read in random order.
 
 use super::arrivals::Host;
-use super::encode::Encoder;
-use super::frames::framed;
+use super::frames::{framed, grown};
 use super::intent::Mode;
 use super::random::Random;
 use super::{Event, Guide};
@@ -135,5 +134,5 @@ fn large_frame(random: &mut Random) -> Vec<u8> {
     let length = random.pick(&[LONGEST, LONGEST, LONGEST - 1, middling, middling]);
     let kind = if random.permille(500) { random.pick(&KINDS) } else { random.word() as u8 };
     let short = framed(kind, &[8, 1]);
-    Encoder { random, noise: Default::default() }.grown(&short, length)
+    grown(&short, length)
 }

@@ -1,6 +1,8 @@
 //! Sequences that leave nothing to chance: every cut and every bit of a good
-//! frame of each kind, every length of a varint, every depth of a group.
+//! frame of each kind, every length of a varint, every varint padded alone,
+//! every depth of a group.
 
+use super::every_varint::every_varint;
 use super::frames::framed;
 use super::{Event, Step};
 use crate::implementation::*;
@@ -63,6 +65,7 @@ pub fn all() -> Vec<Vec<Event>> {
         depths(&base, &mut odd);
     }
     varints(&mut odd);
+    odd.extend(every_varint());
     odd.into_iter().map(around).collect()
 }
 

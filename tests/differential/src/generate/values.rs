@@ -94,9 +94,9 @@ impl Encoder<'_> {
         let kind = self.random.range(2, 3) as u32;
         let mut fields = vec![self.low32(1, kind)];
         if self.random.permille(500) {
-            let junk = self.random.bytes(3);
+            let inside = self.unread();
             let number = self.random.pick(&[2, 2, 3, 4]);
-            fields.push(self.bytes(number, &junk));
+            fields.push(self.bytes(number, &inside));
         }
         self.message(fields)
     }
@@ -118,12 +118,27 @@ impl Encoder<'_> {
     fn scalar(&mut self, kind: u8) -> Vec<u8> {
         let mut fields = Vec::new();
         self.scalar_value(kind, &mut fields);
-        // Values the type does not name are skipped, embedded ones unread.
-        self.again_bytes(if kind == 4 { 9 } else { 5 }, &mut fields);
+        self.unchosen_values(kind, &mut fields);
         let type_field = self.low32(1, u32::from(kind));
         fields.insert(0, type_field);
         self.enum_noise(&mut fields, &[0, 9, 1 << 31], &[1, 3, 4, 8]);
         self.message(fields)
+    }
+
+    /// Values the type does not name: octets and strings are skipped unread,
+    /// numbers are fields like others.
+    fn unchosen_values(&mut self, kind: u8, fields: &mut Vec<Vec<u8>>) {
+        let unread: &[u32] = match kind {
+            4 => &[9],
+            8 => &[5],
+            _ => &[5, 9],
+        };
+        let unread = self.random.pick(unread);
+        self.again_bytes(unread, fields);
+        self.again(fields, |e| {
+            let (plain, value) = (e.random.pick(&[2, 3, 8]), number(e.random));
+            e.number(plain, value)
+        });
     }
 
     fn scalar_value(&mut self, kind: u8, fields: &mut Vec<Vec<u8>>) {

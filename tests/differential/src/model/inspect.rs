@@ -5,17 +5,24 @@ use super::{Mistake, Model, Session};
 use crate::implementation::*;
 
 impl Model {
-    pub(super) fn touched_by(&self, session: &Session, frame: &[u8]) -> Touched {
+    pub(super) fn inspect_frame(&self, session: &Session, frame: &[u8]) -> Inspection {
         let message = self.read_frame(frame);
-        let refused = self.makes(Mistake::RefusedToldNothing) && self.look_at(session, frame).reason != 0;
+        let look = self.look_at(session, &message);
+        let touched = self.touched_by(session, &message, &look);
+        let padded = message.padded && !self.makes(Mistake::InspectionSaysNo);
+        Inspection { look, padded, touched }
+    }
+
+    fn touched_by(&self, session: &Session, message: &Message, look: &Look) -> Touched {
+        let refused = self.makes(Mistake::RefusedToldNothing) && look.reason != 0;
         if message.reason != 0 || refused {
             return Touched::default();
         }
         let cursors = session.tables.cursors.iter().enumerate();
-        let ended = cursors.filter(|(_, c)| self.ends(c, &message)).map(|(place, _)| 1 << place);
+        let ended = cursors.filter(|(_, c)| self.ends(c, message)).map(|(place, _)| 1 << place);
         Touched {
-            statement: self.own_statement(session, &message),
-            cursor: self.own_cursor(session, &message),
+            statement: self.own_statement(session, message),
+            cursor: self.own_cursor(session, message),
             ends: ended.sum(),
         }
     }

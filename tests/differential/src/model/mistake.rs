@@ -104,6 +104,66 @@ mistakes! {
     /// A frame that a look refuses is told no places.
     RefusedToldNothing,
 
+    // Telling of padded numbers.
+    /// A varint is padded only where a shorter form exists: nine `FF` and `7F` is not.
+    PaddedByLength,
+    /// A varint is padded only where it ends in a byte of 0.
+    PaddedByLastByte,
+    /// An id or enum with bits above the 32 that are kept is called padded.
+    WideIsPadded,
+    /// A bool of 2 is called padded.
+    BoolTwoIsPadded,
+    /// Tags are forgotten.
+    TagsNotCounted,
+    /// Lengths are forgotten.
+    LengthsNotCounted,
+    /// Numbers are forgotten.
+    NumbersNotCounted,
+    /// Unknown fields are forgotten.
+    UnknownNotCounted,
+    /// Only the last occurrence of a field counts, as if each wrote over the one before.
+    EarlierNotCounted,
+    /// Numbers that a Scalar's type does not choose are forgotten.
+    UnchosenNumberNotCounted,
+    /// A group's start tag is forgotten.
+    GroupStartNotCounted,
+    /// The fields in a group count.
+    GroupInsideCounted,
+    /// A group's end tag counts.
+    GroupEndCounted,
+    /// The statement of a Prepare or an Open is forgotten.
+    StatementNotCounted,
+    /// The fields of an Open's Execute are forgotten.
+    OpenExecuteNotCounted,
+    /// An argument's inside is forgotten.
+    ArgumentsNotCounted,
+    /// A Scalar's fields are forgotten.
+    ScalarNotCounted,
+    /// The inside of octets and strings is forgotten.
+    OctetsNotCounted,
+    /// The fields of the chosen Prepare body count.
+    BodyInsideCounted,
+    /// The arguments in a Prepare body count.
+    BodyArgumentsCounted,
+    /// The inside of a body that is not chosen counts.
+    UnchosenBodyCounted,
+    /// The inside of a scalar, octets or string that is not chosen counts.
+    UnchosenValueCounted,
+    /// The inside of an earlier embedded message counts.
+    EarlierInsideCounted,
+    /// A closed session says what was read.
+    ClosedSaysYes,
+    /// A bad payload says whether its first field was padded.
+    BadPayloadSaysYes,
+    /// A step refused 3 says what was read.
+    SmallReplySaysYes,
+    /// Every refused frame says no.
+    RefusedSaysNo,
+    /// A step refused 15 or 16 says no.
+    ReportRefusedSaysNo,
+    /// The message of an inspection says no.
+    InspectionSaysNo,
+
     // Stepping.
     /// Replacing a statement keeps its cursor.
     ReplaceKeepsCursor,

@@ -1,5 +1,5 @@
-//! The model: document 01 and item 1 of document 02 once more, written from
-//! the papers alone.
+//! The model: document 01 and items 1 and 2 of document 02 once more, written
+//! from the papers alone.
 //!
 //! It is written to be read beside the document, one file for each chapter,
 //! and takes the plain way everywhere: lists of fields, copies of sessions.
@@ -7,6 +7,7 @@
 mod arrivals;
 mod inspect;
 mod mistake;
+mod padded;
 mod read;
 mod reply;
 mod rules;
@@ -75,7 +76,7 @@ impl Implementation for Model {
     }
 
     fn argument(&self, frame: &[u8], index: u64) -> Argument {
-        let message = self.read_frame(frame);
+        let message = self.read_values(frame);
         if message.reason != 0 {
             return Err(message.reason);
         }
@@ -84,7 +85,7 @@ impl Implementation for Model {
     }
 
     fn pass(&self, frame: &[u8]) -> Vec<Argument> {
-        let message = self.read_frame(frame);
+        let message = self.read_values(frame);
         if message.reason != 0 {
             return vec![Err(message.reason)];
         }
@@ -94,15 +95,15 @@ impl Implementation for Model {
     }
 
     fn body<'f>(&self, frame: &'f [u8]) -> &'f [u8] {
-        self.read_frame(frame).body.of(frame)
+        self.read_values(frame).body.of(frame)
     }
 
     fn look(&self, session: &Session, frame: &[u8]) -> Look {
-        self.look_at(session, frame)
+        self.look_at(session, &self.read_frame(frame))
     }
 
-    fn touched(&self, session: &Session, frame: &[u8]) -> Touched {
-        self.touched_by(session, frame)
+    fn inspect(&self, session: &Session, frame: &[u8]) -> Inspection {
+        self.inspect_frame(session, frame)
     }
 
     fn step(&self, session: Session, frame: &[u8], report: Report, reply: &mut [u8]) -> (Session, Answer) {

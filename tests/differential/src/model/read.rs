@@ -10,7 +10,7 @@ const BODIES: [(u32, u32); 5] = [(0, 2), (1, 3), (2, 4), (4, 5), (5, 6)];
 pub const STMT_EXECUTE: u32 = 5;
 
 /// Length of the whole frame, or 1 or 2.
-fn frame_length(frame: &[u8]) -> Result<usize, u8> {
+pub fn frame_length(frame: &[u8]) -> Result<usize, u8> {
     let Some(head) = frame.first_chunk::<4>() else {
         return Err(1);
     };
@@ -26,6 +26,12 @@ fn frame_length(frame: &[u8]) -> Result<usize, u8> {
 
 impl Model {
     pub(super) fn read_frame(&self, frame: &[u8]) -> Message {
+        let message = self.read_values(frame);
+        Message { padded: self.padded_in(frame, &message), ..message }
+    }
+
+    /// Everything but whether varints were padded.
+    pub fn read_values(&self, frame: &[u8]) -> Message {
         let whole = match frame_length(frame) {
             Err(reason) => return Message::refused(reason, 0),
             Ok(whole) => whole,

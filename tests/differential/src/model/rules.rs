@@ -16,12 +16,14 @@ pub fn work_of(kind: u8) -> Work {
 }
 
 impl Model {
-    pub(super) fn look_at(&self, session: &Session, frame: &[u8]) -> Look {
-        let message = match self.judge(session, frame) {
-            Err(refused) => return Look { reason: refused.reason, ..Look::default() },
-            Ok(message) => message,
-        };
-        let mut look = Look { work: work_of(message.kind), ..Look::default() };
+    pub(super) fn look_at(&self, session: &Session, message: &Message) -> Look {
+        let reason = self.judge(session, message).err().map_or(0, |refused| refused.reason);
+        let padded = self.says_padded(reason, message);
+        let mut look = Look { reason, padded, ..Look::default() };
+        if reason != 0 {
+            return look;
+        }
+        look.work = work_of(message.kind);
         if let (Work::Fetch, Some(cursor)) = (look.work, session.cursor(message.cursor)) {
             look.first = cursor.sent;
             look.count = self.rows_due(message.fetch_rows, cursor);
@@ -39,9 +41,8 @@ impl Model {
         wanted.min(cursor.rows - cursor.sent)
     }
 
-    /// The message, or the first refusal that holds of it whatever the report.
-    pub(super) fn judge(&self, session: &Session, frame: &[u8]) -> Result<Message, Refused> {
-        let message = self.read_frame(frame);
+    /// The first refusal that holds of a message whatever the report.
+    pub(super) fn judge(&self, session: &Session, message: &Message) -> Result<(), Refused> {
         let used = message.used;
         let told_first = if self.makes(Mistake::UnknownBeforeClosed) { 1..=5 } else { 1..=3 };
         if told_first.contains(&message.reason) {
@@ -53,8 +54,7 @@ impl Model {
         if message.reason != 0 {
             return Err(Refused::plain(message.reason, used));
         }
-        self.judge_message(session, &message)?;
-        Ok(message)
+        self.judge_message(session, message)
     }
 
     /// Refusals 7 to 14, in their order, where the message can meet them.

@@ -28,27 +28,29 @@ impl Model {
         reply: &mut [u8],
     ) -> (Session, Answer) {
         let too_small = if self.makes(Mistake::Reply128Refused) { 129 } else { SMALLEST_REPLY };
+        let message = self.read_frame(frame);
         if reply.len() < too_small {
-            return (session, Answer { reason: 3, ..Answer::default() });
+            let padded = message.padded && self.makes(Mistake::SmallReplySaysYes);
+            return (session, Answer { reason: 3, padded, ..Answer::default() });
         }
-        let judged = self.judge(&session, frame);
-        let done = judged.and_then(|message| {
-            let outcome = self.carry_out(&session, &message, report)?;
-            Ok((message.used, outcome))
-        });
-        match done {
-            Err(refused) => (self.after_refusal(session, frame, &refused), refuse(&refused, reply)),
-            Ok((used, outcome)) => {
+        let judged = self.judge(&session, &message);
+        match judged.and_then(|()| self.carry_out(&session, &message, report)) {
+            Err(refused) => {
+                let padded = self.says_padded(refused.reason, &message);
+                let answer = Answer { padded, ..refuse(&refused, reply) };
+                (self.after_refusal(session, &message, &refused), answer)
+            }
+            Ok(outcome) => {
+                let (used, padded) = (message.used, self.says_padded(0, &message));
                 let length = self.write_reply(&outcome.reply, reply);
                 let Outcome { session, columns, first, count, .. } = outcome;
-                (session, Answer { reason: 0, used, reply: length, columns, first, count })
+                (session, Answer { reason: 0, used, reply: length, columns, padded, first, count })
             }
         }
     }
 
     /// The session as it was.
-    fn after_refusal(&self, mut session: Session, frame: &[u8], refused: &Refused) -> Session {
-        let message = self.read_frame(frame);
+    fn after_refusal(&self, mut session: Session, message: &Message, refused: &Refused) -> Session {
         let failed = refused.reason == 16 && message.kind == EXECUTE;
         if failed && self.makes(Mistake::FailedExecuteEnds) {
             session.end_cursor_on(message.stmt);

@@ -6,11 +6,12 @@ use crate::implementation::Place;
 pub const VARINT: u8 = 0;
 pub const FIXED64: u8 = 1;
 pub const BYTES: u8 = 2;
-const START: u8 = 3;
+pub const START: u8 = 3;
 const END: u8 = 4;
 pub const FIXED32: u8 = 5;
 
 const GROUP_DEPTH: u32 = 32;
+const LONGEST_VARINT: usize = 10;
 
 /// One field as it stands in a message. Numbers lie in `value`, whatever
 /// their width; `place` is where the bytes of a length-delimited one lie.
@@ -20,13 +21,16 @@ pub struct Field {
     pub wire: u8,
     pub value: u64,
     pub place: Place,
+    /// Whether its tag, its length or its number was padded; of a group its
+    /// start tag alone.
+    pub padded: bool,
 }
 
 /// A message split into its fields, in their order.
 pub struct Fields<'a> {
-    model: Model,
+    pub(super) model: Model,
     bytes: &'a [u8],
-    list: Vec<Field>,
+    pub(super) list: Vec<Field>,
 }
 
 impl Model {
@@ -39,6 +43,24 @@ impl Model {
         }
         Some(Fields { model: *self, bytes, list })
     }
+
+    /// Whether the first field of a message was padded, whatever follows it.
+    pub(super) fn first_padded(&self, bytes: &[u8], part: Place) -> bool {
+        let mut scan = Scan { model: *self, bytes, at: part.start, end: part.end() };
+        scan.field().is_some_and(|field| field.padded)
+    }
+}
+
+/// A number, and whether it was padded.
+struct Varint {
+    value: u64,
+    padded: bool,
+}
+
+struct Tag {
+    number: u32,
+    wire: u8,
+    padded: bool,
 }
 
 /// A place in a message that moves forward as its parts are read.
@@ -50,30 +72,30 @@ struct Scan<'a> {
 }
 
 impl Scan<'_> {
-    fn varint(&mut self) -> Option<u64> {
-        let longest = if self.model.makes(Mistake::ElevenByteVarint) { 11 } else { 10 };
-        let mut value = 0;
-        for group in 0..longest {
+    fn varint(&mut self) -> Option<Varint> {
+        let more = usize::from(self.model.makes(Mistake::ElevenByteVarint));
+        let (start, mut value) = (self.at, 0);
+        for group in 0..LONGEST_VARINT + more {
             let byte = *self.bytes[..self.end].get(self.at)?;
             self.at += 1;
             // In the tenth byte all bits but one fall off the upper end.
-            value |= if group < 10 { u64::from(byte & 0x7f) << (7 * group) } else { 0 };
+            value |= if group < LONGEST_VARINT { u64::from(byte & 0x7f) << (7 * group) } else { 0 };
             if byte < 0x80 {
-                return Some(value);
+                let padded = self.model.is_padded(&self.bytes[start..self.at], value);
+                return Some(Varint { value, padded });
             }
         }
         None
     }
 
-    /// A field number and a wire type.
-    fn tag(&mut self) -> Option<(u32, u8)> {
-        let mut tag = self.varint()?;
+    fn tag(&mut self) -> Option<Tag> {
+        let Varint { value: mut tag, padded } = self.varint()?;
         if self.model.makes(Mistake::WideTag) {
             tag &= 0xffff_ffff;
         }
         let tag = u32::try_from(tag).ok()?;
         let (number, wire) = (tag >> 3, (tag & 7) as u8);
-        (number >= 1).then_some((number, wire))
+        (number >= 1).then_some(Tag { number, wire, padded })
     }
 
     fn skip(&mut self, len: u64) -> Option<Place> {
@@ -86,23 +108,30 @@ impl Scan<'_> {
     }
 
     fn field(&mut self) -> Option<Field> {
-        let (number, wire) = self.tag()?;
-        self.value(number, wire, GROUP_DEPTH)
+        let tag = self.tag()?;
+        self.value(tag, GROUP_DEPTH)
     }
 
     /// The value behind a tag; `depth` groups may still be opened.
-    fn value(&mut self, number: u32, wire: u8, depth: u32) -> Option<Field> {
-        let mut field = Field { number, wire, value: 0, place: Place::default() };
+    fn value(&mut self, tag: Tag, depth: u32) -> Option<Field> {
+        let Tag { number, wire, padded } = tag;
+        let padded = self.model.counts_tag(wire, padded);
+        let mut field = Field { number, wire, value: 0, place: Place::default(), padded };
         match wire {
-            VARINT => field.value = self.varint()?,
+            VARINT => {
+                let Varint { value, padded } = self.varint()?;
+                field.padded |= self.model.counts_number(number, value, padded);
+                field.value = value;
+            }
             FIXED64 => field.value = self.fixed(8)?,
             FIXED32 => field.value = self.fixed(4)?,
             BYTES => {
-                let len = self.varint()?;
+                let Varint { value: len, padded } = self.varint()?;
+                field.padded |= padded && !self.model.makes(Mistake::LengthsNotCounted);
                 let wraps = self.model.makes(Mistake::LengthWraps);
                 field.place = self.skip(if wraps { len & 0xffff_ffff } else { len })?;
             }
-            START => self.group(number, depth)?,
+            START => field.padded |= self.group(number, depth)?,
             END if self.model.makes(Mistake::LoneEnd) => {}
             // A lone end, and wire types 6 and 7.
             _ => return None,
@@ -116,8 +145,9 @@ impl Scan<'_> {
         Some(bytes.iter().rev().fold(0, |value, byte| value << 8 | u64::from(*byte)))
     }
 
-    /// Skips a group up to the end that carries its number.
-    fn group(&mut self, number: u32, depth: u32) -> Option<()> {
+    /// Skips a group up to the end that carries its number; says whether
+    /// something in it counts as padded, which nothing does.
+    fn group(&mut self, number: u32, depth: u32) -> Option<bool> {
         let last = match self.model.mistake {
             Some(Mistake::Depth31) => 1,
             Some(Mistake::Depth33) => u32::MAX,
@@ -126,14 +156,17 @@ impl Scan<'_> {
         if depth == last {
             return None;
         }
+        let mut counts = false;
         loop {
-            let (inner, wire) = self.tag()?;
-            if wire == END {
-                let same = inner == number || self.model.makes(Mistake::AnyGroupEnd);
-                return same.then_some(());
+            let tag = self.tag()?;
+            if tag.wire == END {
+                counts |= tag.padded && self.model.makes(Mistake::GroupEndCounted);
+                let same = tag.number == number || self.model.makes(Mistake::AnyGroupEnd);
+                return same.then_some(counts);
             }
             // Depth 33 counts on below 0, which only that mistake reaches.
-            self.value(inner, wire, depth.wrapping_sub(1))?;
+            let inner = self.value(tag, depth.wrapping_sub(1))?;
+            counts |= inner.padded && self.model.makes(Mistake::GroupInsideCounted);
         }
     }
 }
@@ -212,11 +245,13 @@ impl Fields<'_> {
     }
 }
 
-/// A number as the shortest varint.
-pub fn shortest(mut value: u64, out: &mut Vec<u8>) {
-    while value >= 0x80 {
-        out.push(value as u8 | 0x80);
-        value >>= 7;
-    }
-    out.push(value as u8);
+/// The bytes of a number as the shortest varint, as the writer has them.
+pub fn writers_bytes(value: u64) -> impl Iterator<Item = u8> {
+    let rests = std::iter::successors(Some(value), |rest| (*rest >= 0x80).then_some(rest >> 7));
+    rests.map(|rest| if rest >= 0x80 { rest as u8 | 0x80 } else { rest as u8 })
+}
+
+/// Writes a number as the shortest varint.
+pub fn shortest(value: u64, out: &mut Vec<u8>) {
+    out.extend(writers_bytes(value));
 }
