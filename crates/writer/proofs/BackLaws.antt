@@ -43,7 +43,7 @@ module _ (kind : ℕ) (content rest : List ℕ) (fits : length content + 1 ≤ m
   abbrev s : List ℕ
   s = frame kind content ++ rest
 
-  head-is : headOf s ≡ Head.Frame kind (4 + (length content + 1))
+  pub head-is : headOf s ≡ Head.Frame kind (4 + (length content + 1))
   head-is =
       sym
       (head-whole s {next = 0 + 4}

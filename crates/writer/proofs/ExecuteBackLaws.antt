@@ -14,10 +14,10 @@ use Rattle.protocol.specs.Client as Client
 use Rattle.layout.specs.Table.{rowsOf, openStmt}
 use Rattle.layout.specs.Row.{rowFor}
 use Rattle.layout.specs.Slots.{noSlots}
-use Rattle.layout.specs.Fields.{useOf, hasRequired}
+use Rattle.layout.specs.Fields.{useOf, hasRequired, fieldsAt}
 use Rattle.layout.specs.declared.slots.Slots.{Slots}
 use Rattle.layout.specs.declared.fields.Use.{Use}
-use Rattle.args.specs.Part.{low32}
+use Rattle.args.specs.Part.{embedded, low32}
 use Rattle.args.specs.Arguments.{noArguments, together, argumentsAt}
 use Rattle.args.specs.declared.arguments.Arguments.{Arguments}
 use Rattle.message.specs.Payload.{payload}
@@ -216,12 +216,12 @@ module _ (v : ℕ) where
   kept-open-stmt = (refl, refl)
 
 -- the slots of an Open whose statement has n bytes, and of the statement, whose Execute has n bytes
-abbrev openSlots : ℕ → ℕ → ℕ → ℕ → Bool → ℕ → Slots
+abbrev pub openSlots : ℕ → ℕ → ℕ → ℕ → Bool → ℕ → Slots
 openSlots cursor at n far b rows =
     cond b (withNumber 5 rows far (withBytes 4 n at (withNumber 1 cursor payload noSlots)))
     (withBytes 4 n at (withNumber 1 cursor payload noSlots))
 
-abbrev openStmtSlots : ℕ → ℕ → ℕ → Slots
+abbrev pub openStmtSlots : ℕ → ℕ → ℕ → Slots
 openStmtSlots at far n = withBytes 2 n far (withNumber 1 0 at noSlots)
 
 open-needed : (cursor at n far : ℕ) (b : Bool) (rows : ℕ) →
@@ -264,7 +264,7 @@ module _ (stmt : ℕ) (b z : Bool) (args : List ℕ) (g : Stretch args 0) (small
   opened = frame Client.open' content
 
   -- the places of the statement and of the Execute in it
-  abbrev stmt-at : ℕ
+  abbrev pub stmt-at : ℕ
   stmt-at = partStart 4 (payload + length (numberField 1 cursor)) (length stmt-bytes)
 
   abbrev pub run-at : ℕ
@@ -295,6 +295,32 @@ module _ (stmt : ℕ) (b z : Bool) (args : List ℕ) (g : Stretch args 0) (small
             };
       })
 
+  pub open-listed : length stmt-bytes < 2 ^ 64 →
+      fieldsAt (rowsOf Client.open') opened payload
+      ≡ openSlots cursor (payload + length (numberField 1 cursor)) (length stmt-bytes)
+      (payload + length (numberField 1 cursor ++ bytesField 4 stmt-bytes)) b′ rows
+  open-listed short =
+      whole-good
+      (reads-then
+      (reads-then (reads-number (rowsOf Client.open') 1 cursor (kept-open cursor .0) (omega arith) (omega arith)
+      (omega arith))
+      (reads-bytes (rowsOf Client.open') 4 stmt-bytes (kept-open (length stmt-bytes) .1) (omega arith) (omega arith)
+      short))
+      (reads-optional (rowsOf Client.open') b′ 5 rows (kept-open rows .2) (omega arith) (omega arith) small-rows))
+      (payload-tail Client.open' content)
+      (sym (open-needed cursor (payload + length (numberField 1 cursor)) (length stmt-bytes)
+      (payload + length (numberField 1 cursor ++ bytesField 4 stmt-bytes)) b′ rows))
+
+  pub open-stmt-listed : length run-bytes < 2 ^ 64 →
+      embedded (rowsOf openStmt) opened stmt-at (length stmt-bytes)
+      ≡ openStmtSlots stmt-at (stmt-at + length (numberField 1 0)) (length run-bytes)
+  open-stmt-listed short-run =
+      embedded-good
+      (reads-then (reads-number (rowsOf openStmt) 1 0 (kept-open-stmt 0 .0) (omega arith) (omega arith) (omega arith))
+      (reads-bytes (rowsOf openStmt) 2 run-bytes (kept-open-stmt (length run-bytes) .1) (omega arith) (omega arith)
+      short-run))
+      stmt-stands (sym (open-stmt-needed stmt-at (stmt-at + length (numberField 1 0)) (length run-bytes)))
+
   pub open-back : length stmt-bytes < 2 ^ 64 → length run-bytes < 2 ^ 64 →
       openFrame opened ≡ Frame.Good (length opened) (opening cursor)
   unfolding openFrame
@@ -302,22 +328,9 @@ module _ (stmt : ℕ) (b z : Bool) (args : List ℕ) (g : Stretch args 0) (small
       let at = payload + length (numberField 1 cursor) in
       let far = payload + length (numberField 1 cursor ++ bytesField 4 stmt-bytes) in
       let run-far = stmt-at + length (numberField 1 0) in
-      ap (openOf opened)
-      (whole-good
-      (reads-then
-      (reads-then (reads-number (rowsOf Client.open') 1 cursor (kept-open cursor .0) (omega arith) (omega arith)
-      (omega arith))
-      (reads-bytes (rowsOf Client.open') 4 stmt-bytes (kept-open (length stmt-bytes) .1) (omega arith) (omega arith)
-      short))
-      (reads-optional (rowsOf Client.open') b′ 5 rows (kept-open rows .2) (omega arith) (omega arith) small-rows))
-      (payload-tail Client.open' content) (sym (open-needed cursor at (length stmt-bytes) far b′ rows)))
+      ap (openOf opened) (open-listed short)
       ∙ open-inner opened cursor at (length stmt-bytes) far rows b′
-      ∙ ap (openChosen opened cursor (given b′ rows))
-      (embedded-good
-      (reads-then (reads-number (rowsOf openStmt) 1 0 (kept-open-stmt 0 .0) (omega arith) (omega arith) (omega arith))
-      (reads-bytes (rowsOf openStmt) 2 run-bytes (kept-open-stmt (length run-bytes) .1) (omega arith) (omega arith)
-      short-run))
-      stmt-stands (sym (open-stmt-needed stmt-at run-far (length run-bytes))))
+      ∙ ap (openChosen opened cursor (given b′ rows)) (open-stmt-listed short-run)
       ∙ open-taken opened cursor (given b′ rows) stmt-at run-far (length run-bytes)
       ∙ ap (openFrom opened cursor (given b′ rows) (record { start = run-at; len = length run-bytes }))
       (execute-is stmt b z args g small run-stands)

@@ -11,3 +11,5 @@ pub mod ExecuteBackLaws
 pub mod PrepareBackLaws
 pub mod RoundTripLaws
 pub mod EnoughLaws
+pub mod MarkLaws
+pub mod PaddedLaws

@@ -15,7 +15,7 @@ use Rattle.protocol.specs.Client as Client
 use Rattle.layout.specs.Table.{rowsOf, prepareStmt, stmtExecute}
 use Rattle.layout.specs.Row.{rowFor}
 use Rattle.layout.specs.Slots.{noSlots}
-use Rattle.layout.specs.Fields.{useOf, hasRequired}
+use Rattle.layout.specs.Fields.{useOf, hasRequired, fieldsAt}
 use Rattle.layout.specs.declared.slots.Slots.{Slots}
 use Rattle.layout.specs.declared.fields.Use.{Use}
 use Rattle.args.specs.Part.{embedded, low32}
@@ -42,17 +42,17 @@ use Rattle.writer.proofs.ExecuteBackLaws.{Held, partStart}
 
 -- ---- the types
 
-abbrev prepareSlots : ℕ → ℕ → ℕ → Slots
+abbrev pub prepareSlots : ℕ → ℕ → ℕ → Slots
 prepareSlots stmt at n = withBytes 2 n at (withNumber 1 stmt payload noSlots)
 
 abbrev stmtSlots : ℕ → ℕ → ℕ → ℕ → ℕ → Slots
 stmtSlots t k at far n = withBytes k n far (withNumber 1 t at noSlots)
 
 -- what holds of a type t that chooses the field k
-record Listed (t k : ℕ) : Type 0 where
-  few : k < 10
-  some : 0 < k
-  small : t < 6
+pub record Listed (t k : ℕ) : Type 0 where
+  pub few : k < 10
+  pub some : 0 < k
+  pub small : t < 6
   type-kept : Use.Kept ≡ useOf (rowsOf prepareStmt) 1 0 t
   body-kept : (n : ℕ) → Use.Kept ≡ useOf (rowsOf prepareStmt) k 2 n
   needed : (at far n : ℕ) → true ≡ hasRequired (rowsOf prepareStmt) (stmtSlots t k at far n .count)
@@ -126,7 +126,7 @@ listed-stmt-execute =
     }
 
 -- each of them
-listed : (t : ℕ) → isType t ≡ true → Listed t (Operation.fieldOf t)
+pub listed : (t : ℕ) → isType t ≡ true → Listed t (Operation.fieldOf t)
 listed t h =
     same-or-not t Operation.find (λ e. subst P (sym e) listed-find)
     (λ n0.
@@ -292,20 +292,25 @@ module _ (stmt t : ℕ) (body : List ℕ) (small : stmt < 2 ^ 32) (is-type : isT
         args = bodyIn prepared t body-at (length body);
       })
 
+  pub prepare-listed : length stmt-bytes < 2 ^ 64 →
+      fieldsAt (rowsOf Client.prepare) prepared payload
+      ≡ prepareSlots stmt (payload + length (numberField 1 stmt)) (length stmt-bytes)
+  prepare-listed short =
+      whole-good
+      (reads-then (reads-number (rowsOf Client.prepare) 1 stmt (kept-prepare stmt .0) (omega arith) (omega arith)
+      (omega arith))
+      (reads-bytes (rowsOf Client.prepare) 2 stmt-bytes (kept-prepare (length stmt-bytes) .1) (omega arith)
+      (omega arith) short))
+      (payload-tail Client.prepare content)
+      (sym (prepare-needed stmt (payload + length (numberField 1 stmt)) (length stmt-bytes)))
+
   pub prepare-back : goodBody t body ≡ true → length stmt-bytes < 2 ^ 64 → length body < 2 ^ 64 →
       prepareFrame prepared ≡ Frame.Good (length prepared) (preparing stmt)
   unfolding prepareFrame
   prepare-back h short short-body =
       let k = listed t is-type in
-      let at = payload + length (numberField 1 stmt) in
       let far = stmt-at + length (numberField 1 t) in
-      ap (prepareOf prepared)
-      (whole-good
-      (reads-then (reads-number (rowsOf Client.prepare) 1 stmt (kept-prepare stmt .0) (omega arith) (omega arith)
-      (omega arith))
-      (reads-bytes (rowsOf Client.prepare) 2 stmt-bytes (kept-prepare (length stmt-bytes) .1) (omega arith)
-      (omega arith) short))
-      (payload-tail Client.prepare content) (sym (prepare-needed stmt at (length stmt-bytes))))
+      ap (prepareOf prepared) (prepare-listed short)
       ∙ ap (prepareRead prepared stmt)
       (embedded-good
       (reads-then (reads-number (rowsOf prepareStmt) 1 t (k .type-kept) (omega arith) (omega arith)

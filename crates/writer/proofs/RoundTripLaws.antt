@@ -117,7 +117,7 @@ held-told s at n p t a h =
     (together-tells p (noArguments at (h .size)) (noArguments 0 (length t)) (argumentsAt t 0)
     (record { count = refl; kind = refl; index = refl }))
 
-good-prepare : (t : ℕ) (body : List ℕ) → goodPrepare t body ≡ true → (isType t ≡ true) × (goodBody t body ≡ true)
+pub good-prepare : (t : ℕ) (body : List ℕ) → goodPrepare t body ≡ true → (isType t ≡ true) × (goodBody t body ≡ true)
 good-prepare t body = go (isType t)
   where
     go : (b : Bool) → cond b (goodBody t body) false ≡ true → (b ≡ true) × (goodBody t body ≡ true)
@@ -321,7 +321,7 @@ module _ (P : ℕ → Type 0) (operation : ℕ) (body args : List ℕ) (reset : 
     (execute : goodStretch args ≡ true → P Client.execute)
     (deallocate : P Client.deallocate) (open' : goodStretch args ≡ true → P Client.open') (close : P Client.close)
     (fetch : P Client.fetch) where
-  accepted-kinds : (kind : ℕ) → acceptedAs kind operation body args ≡ true → P kind
+  pub accepted-kinds : (kind : ℕ) → acceptedAs kind operation body args ≡ true → P kind
   unfolding acceptedAs
   accepted-kinds kind h =
       same-or-not kind Client.reset (λ e. subst P (sym e) reset)
@@ -349,7 +349,7 @@ module _ (P : ℕ → Type 0) (operation : ℕ) (body args : List ℕ) (reset : 
       Good k = acceptedAs k operation body args ≡ true
 
 -- a draft that is not refused
-not-refused : (d : Draft) (body args : List ℕ) → draftReason d body args ≡ Reason.accepted →
+pub not-refused : (d : Draft) (body args : List ℕ) → draftReason d body args ≡ Reason.accepted →
     (accepted d body args ≡ true) × (length (payloadOf d body args) + 1 ≤ maxLength)
 unfolding draftReason
 not-refused d body args = go (accepted d body args) (leb (length (payloadOf d body args) + 1) maxLength) refl
@@ -371,7 +371,7 @@ round-trip d body args rest sized h =
     (f .0) (f .1)
 
 -- a draft that is written
-written-fits : (d : Draft) (body args : List ℕ) (room : ℕ) → writeReason d body args room ≡ Reason.accepted →
+pub written-fits : (d : Draft) (body args : List ℕ) (room : ℕ) → writeReason d body args room ≡ Reason.accepted →
     (draftReason d body args ≡ Reason.accepted) × (length (frameBytes d body args) ≤ room)
 written-fits d body args room =
     go (eqb (draftReason d body args) Reason.accepted) refl (leb (length (frameBytes d body args)) room) refl
@@ -386,7 +386,7 @@ written-fits d body args room =
     go false e b f h = absurd (eqb-false (draftReason d body args) Reason.accepted e h)
 
 -- the buffer afterwards: the frame, and what stood behind it
-left-is : (d : Draft) (body args buf : List ℕ) → writeReason d body args (length buf) ≡ Reason.accepted →
+pub left-is : (d : Draft) (body args buf : List ℕ) → writeReason d body args (length buf) ≡ Reason.accepted →
     leftOf d body args buf ≡ frameBytes d body args ++ drop (0 + length (frameBytes d body args)) buf
 unfolding leftOf
 left-is d body args buf h =

@@ -3,3 +3,4 @@ pub mod Payload
 pub mod Write
 pub mod RoundTrip
 pub mod JudgeRules
+pub mod Padded

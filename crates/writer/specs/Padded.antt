@@ -1,0 +1,34 @@
+-- What is written is padded only where a stretch of arguments was handed in so (W20, C10): every varint that the writer
+-- makes is the shortest.
+use Prim.Native.Nat.{ℕ}
+use mathlib.Core.Path.{_≡_}
+use mathlib.Core.Bool.{Bool, false, cond}
+use mathlib.Core.List.{List, _++_}
+use lib.ListN.{length}
+use Rattle.protocol.specs.Reason as Reason
+use Rattle.args.specs.Padded.{boundPadded}
+use Rattle.message.specs.Padded.{paddedOf}
+use Rattle.writer.specs.declared.Draft.{Draft}
+use Rattle.writer.specs.RoundTrip.{Sized, hasArgs}
+use Rattle.writer.specs.Write.{frameBytes, draftReason, writeReason, leftOf}
+
+-- a stretch by itself: its args fields, and all arguments in them
+abbrev pub stretchPadded : List ℕ → Bool
+stretchPadded args = boundPadded args 0
+
+-- an Execute and an Open are padded exactly where their stretch is; the other messages never are, a Prepare with
+-- whatever body too
+abbrev pub paddedAs : Draft → List ℕ → Bool
+paddedAs d args = cond (hasArgs (d .kind)) (stretchPadded args) false
+
+-- so of every draft that is not refused 6 or 2, whatever bytes stand behind its frame
+abbrev pub WrittenPadded : Type 0
+WrittenPadded =
+    (d : Draft) (body args rest : List ℕ) → Sized d → draftReason d body args ≡ Reason.accepted →
+    paddedOf (frameBytes d body args ++ rest) ≡ paddedAs d args
+
+-- and of the buffer that it was written to
+abbrev pub LeftPadded : Type 0
+LeftPadded =
+    (d : Draft) (body args buf : List ℕ) → Sized d → writeReason d body args (length buf) ≡ Reason.accepted →
+    paddedOf (leftOf d body args buf) ≡ paddedAs d args
