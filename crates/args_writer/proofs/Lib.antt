@@ -4,3 +4,4 @@ pub mod AppendLaws
 pub mod FixedBackLaws
 pub mod ScalarBackLaws
 pub mod ReadsLaws
+pub mod PaddedLaws

@@ -207,7 +207,7 @@ module _ (a : Argument) (src buf : List ℕ) (at : ℕ) where
   abbrev f : List ℕ
   f = argField a src
 
-  not-refused : appendReason a src (length buf) at ≡ 0 → (writable a src ≡ true) × (at + length f ≤ length buf)
+  pub not-refused : appendReason a src (length buf) at ≡ 0 → (writable a src ≡ true) × (at + length f ≤ length buf)
   unfolding appendReason
   not-refused = go (writable a src) (leb (at + length f) (length buf)) refl
     where
@@ -218,7 +218,7 @@ module _ (a : Argument) (src buf : List ℕ) (at : ℕ) where
       go false b e h = absurd (omega arith)
 
   -- cut off behind the stretch: what stood there, and the field
-  cut-is : appendReason a src (length buf) at ≡ 0 →
+  pub cut-is : appendReason a src (length buf) at ≡ 0 →
       take (appendedOf a src (length buf) at .len) (leftBy a src buf at) ≡ take at buf ++ f
   unfolding appendedOf leftBy
   cut-is e =

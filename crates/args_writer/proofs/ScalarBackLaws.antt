@@ -47,7 +47,7 @@ module _ (v : ℕ) where
   unfolding rowsOf rowFor
   kept-bytes = refl
 
-  kept-value :
+  pub kept-value :
       (Use.Kept ≡ useOf (rowsOf scalar) 2 0 v)
       × (Use.Kept ≡ useOf (rowsOf scalar) 3 0 v)
       × (Use.Kept ≡ useOf (rowsOf scalar) 5 2 v)
@@ -59,10 +59,10 @@ module _ (v : ℕ) where
   kept-value = (refl, refl, refl, refl, refl, refl, refl)
 
 -- the listed types
-abbrev Listed : ℕ → Type 0
+abbrev pub Listed : ℕ → Type 0
 Listed t = Use.Kept ≡ useOf (rowsOf scalar) 1 0 t
 
-listed : Listed 1 × Listed 2 × Listed 3 × Listed 4 × Listed 5 × Listed 6 × Listed 7 × Listed 8
+pub listed : Listed 1 × Listed 2 × Listed 3 × Listed 4 × Listed 5 × Listed 6 × Listed 7 × Listed 8
 unfolding rowsOf rowFor
 listed = (refl, refl, refl, refl, refl, refl, refl, refl)
 
@@ -89,22 +89,26 @@ module _ {s q : List ℕ} {at : ℕ} (t : ℕ) (value : List ℕ) (k : Stands s 
   unfolding anyBytes
   scalar-stands = stands-inside 2 content (stands-next (numberField 1 1) (bytesField 2 content) k)
 
+  pub any-listed : length content < 2 ^ 64 →
+      embedded (rowsOf any) s at (length (anyBytes t value))
+      ≡ withBytes 2 (length content) (at + length (numberField 1 1)) (withNumber 1 1 at noSlots)
+  unfolding anyBytes
+  any-listed short =
+      embedded-good
+      (reads-then (reads-number (rowsOf any) 1 1 (kept-any 1 .0) (omega arith) (omega arith) (omega arith))
+      (reads-bytes (rowsOf any) 2 content (kept-any (length content) .1) (omega arith) (omega arith) short))
+      k (sym (any-needed at (at + length (numberField 1 1)) (length content)))
+
   pub any-back : length content < 2 ^ 64 →
       argumentIn s at (length (anyBytes t value)) ≡ scalarOf s
       (embedded (rowsOf scalar) s (scalarPlace at content) (length content))
-  unfolding anyBytes
   any-back short =
-      ap (anyOf s)
-      (embedded-good
-      (reads-then (reads-number (rowsOf any) 1 1 (kept-any 1 .0) (omega arith) (omega arith) (omega arith))
-      (reads-bytes (rowsOf any) 2 content (kept-any (length content) .1) (omega arith) (omega arith) short))
-      k (sym (any-needed at (at + length (numberField 1 1)) (length content))))
-      ∙ sym (any-taken s at (at + length (numberField 1 1)) (length content))
+      ap (anyOf s) (any-listed short) ∙ sym (any-taken s at (at + length (numberField 1 1)) (length content))
 
 -- ---- the value in the Scalar
 
 -- behind the type the value is read
-scalar-in : {s q : List ℕ} {at t : ℕ} {value : List ℕ} {g : ℕ → Slots → Slots} → Listed t → t < 10 →
+pub scalar-in : {s q : List ℕ} {at t : ℕ} {value : List ℕ} {g : ℕ → Slots → Slots} → Listed t → t < 10 →
     Reads (rowsOf scalar) value g →
     true ≡ hasRequired (rowsOf scalar) (g (at + length (numberField 1 t)) (withNumber 1 t at noSlots) .count) →
     Stands s at (scalarBytes t value) q →
@@ -116,7 +120,7 @@ scalar-in {t = t} u few r h k =
     (sym h)
 
 -- only the type is required
-scalar-needed : (count : List ℕ) → getD count 1 0 ≡ 1 → true ≡ hasRequired (rowsOf scalar) count
+pub scalar-needed : (count : List ℕ) → getD count 1 0 ≡ 1 → true ≡ hasRequired (rowsOf scalar) count
 unfolding rowsOf hasRequired
 scalar-needed count e = sym (ap (λ (n : ℕ). cond (not (eqb n 0)) true false) e)
 
@@ -206,7 +210,7 @@ value-back {s} u low reads one taken k =
     ap (scalarOf s) (scalar-in u low reads (scalar-needed _ one) k) ∙ sym taken
 
 -- octets and string: where the message with the bytes stands, and the bytes in it
-abbrev innerPlace : ℕ → ℕ → ℕ → List ℕ → ℕ
+abbrev pub innerPlace : ℕ → ℕ → ℕ → List ℕ → ℕ
 innerPlace at t num bs = partStart num (at + length (numberField 1 t)) (length (bytesField 1 bs))
 
 abbrev bytesPlace : ℕ → ℕ → ℕ → List ℕ → ℕ
@@ -214,7 +218,7 @@ bytesPlace at t num bs = partStart 1 (innerPlace at t num bs) (length bs)
 
 module _ {s q : List ℕ} {at : ℕ} (t num : ℕ) (bs : List ℕ)
     (k : Stands s at (scalarBytes t (bytesField num (bytesField 1 bs))) q) where
-  inner-stands : Stands s (innerPlace at t num bs) (bytesField 1 bs) q
+  pub inner-stands : Stands s (innerPlace at t num bs) (bytesField 1 bs) q
   unfolding scalarBytes
   inner-stands = stands-inside num (bytesField 1 bs)
       (stands-next (numberField 1 t) (bytesField num (bytesField 1 bs)) k)
@@ -238,7 +242,7 @@ module _ {s q : List ℕ} {at : ℕ} (t num : ℕ) (bs : List ℕ)
       ∙ bytes-back octets bs (omega (arith, stands-length bytes-stand)) inner-stands
 
 -- a bool is written as 0 or 1
-bit-small : (b : Bool) → cond b 1 0 < 2 ^ 64
+pub bit-small : (b : Bool) → cond b 1 0 < 2 ^ 64
 bit-small true = omega arith
 bit-small false = omega arith
 
@@ -252,7 +256,7 @@ named-long start len src e =
     let h = leb-true (start + len) (length src) e in
     length-take-le len (drop start src) (omega (arith, length-drop start src))
 
-no-value : Reads (rowsOf scalar) [] (λ at x. x)
+pub no-value : Reads (rowsOf scalar) [] (λ at x. x)
 no-value =
     record {
       on = λ s from at q x k l.

@@ -9,7 +9,6 @@ use borrow.Author.Tests.{le-leb}
 use Rattle.prelude.proofs.Cases.{yes, no as without}
 use Rattle.prelude.proofs.OrLaws.{or-false, or-assoc, or-same}
 use Rattle.varint.specs.Shortest.{varintBytes}
-use Rattle.varint.proofs.VarintLaws.{varint-length}
 use Rattle.varint.proofs.FlagLaws.{plain-there}
 use Rattle.varint.proofs.TailLaws.{Tail, tail-length, tail-stands, Stands, stands-length, stands-first, stands-next}
 use Rattle.varint.proofs.TailLaws.{stands-cut}
@@ -24,11 +23,11 @@ use Rattle.layout.specs.Padded.{paddedFrom, paddedList, nothingInside}
 use Rattle.layout.proofs.PaddedLaws.{flag-end, flag-turn, padded-inside}
 use Rattle.args.specs.Padded.{partPadded, argumentPadded, insideArgs, boundPadded, executePadded}
 use Rattle.args.specs.Arguments.{isArgs}
-use Rattle.args.proofs.ArgsFieldLaws.{no-number}
+use Rattle.args.proofs.ArgsFieldLaws.{is-args, no-number}
 use Rattle.args.proofs.MovedArgLaws.{field-inside}
 use Rattle.args.proofs.MovedFlagLaws.{argument-flag-moved}
 use Rattle.writer.specs.Padded.{stretchPadded}
-use Rattle.writer.proofs.FieldLaws.{tag-reads, behindTag, number-reads, bytes-reads}
+use Rattle.writer.proofs.FieldLaws.{tag-reads, behindTag, number-reads, bytes-reads, stands-inside}
 use Rattle.writer.proofs.StretchLaws.{Stretch, done, more, there}
 
 -- ---- one field
@@ -126,7 +125,7 @@ module _ {bs : List ℕ} {b : Bool} {s q : List ℕ} {at : ℕ} where
 
 -- ---- one field, and what is behind it
 
-one-field : (inside : Field → Bool) (s : List ℕ) (at m : ℕ) {n w v st ln next : ℕ} →
+pub one-field : (inside : Field → Bool) (s : List ℕ) (at m : ℕ) {n w v st ln next : ℕ} →
     fieldAt s at ≡ Field.Good n w v st ln next → length s ≤ at + m → {own within : Bool} → fieldPadded s at ≡ own →
     inside (Field.Good n w v st ln next) ≡ within →
     paddedFrom inside m s at ≡ (own || (within || paddedFrom inside (m - 1) s next))
@@ -211,6 +210,26 @@ says-stretch a g =
           let e : at + 0 ≡ at = omega arith in
           let x = stretch-says k 0 g m (length a) (omega arith) (omega arith) in
           (x .0, x .1, ap (paddedFrom (insideArgs s) m s) (sym e) ∙ x .2);
+    }
+
+-- an args field, by its argument
+pub says-args : (bs : List ℕ) {b : Bool} → length bs < 2 ^ 64 → argumentPadded bs 0 (length bs) ≡ b →
+    Says insideArgs (bytesField 2 bs) b
+says-args bs h inner =
+    record {
+      on = λ s at q m k l.
+          let e = bytes-reads 2 at s q (omega arith) (omega arith) bs h k in
+          let ahead = field-inside s at e in
+          let start = behindTag (behindTag at 18) (length bs) in
+          let place : start ≡ start + 0 = omega arith in (
+            m - 1,
+            omega arith,
+            one-field (insideArgs s) s at m e l (bytes-plain 2 at s q (omega arith) (omega arith) bs h k)
+                (sym (yes (argumentPadded s start (length bs)) false (sym (is-args 2 2 (length bs) refl refl)))
+                ∙ ap (λ (p : ℕ). argumentPadded s p (length bs)) place
+                ∙ argument-flag-moved (stands-inside 2 bs k) 0 (length bs) (omega arith)
+                ∙ inner),
+          );
     }
 
 -- ---- by what counts inside
