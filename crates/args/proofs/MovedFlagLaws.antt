@@ -2,7 +2,7 @@
 use Prim.Native.Nat.{ℕ, _+_, _≤_}
 use native.Mathlib.Omega.{arith}
 use mathlib.Core.Bool.{Bool, true, false, cond, _||_}
-use mathlib.Core.Path.{_≡_, refl, sym, ap, ap₂, subst, _∙_}
+use mathlib.Core.Path.{_≡_, refl, sym, ap, ap₂, _∙_}
 use mathlib.Core.List.{List}
 use lib.ListN.{length, getD, take}
 use lib.Seq.{length-take-le}
@@ -13,7 +13,7 @@ use Rattle.varint.proofs.TailLaws.{Stands}
 use Rattle.layout.specs.Table.{rowsOf, any, scalar}
 use Rattle.layout.specs.Row.{isRepeated, rowFor}
 use Rattle.layout.specs.Slots.{noSlots}
-use Rattle.layout.specs.Fields.{hasRequired, checked, fieldsAt}
+use Rattle.layout.specs.Fields.{hasRequired, checked}
 use Rattle.layout.specs.Padded.{nothingInside, paddedTo}
 use Rattle.layout.specs.declared.slots.Slots.{Slots}
 use Rattle.layout.proofs.FieldsLaws.{from-end}
@@ -22,7 +22,7 @@ use Rattle.layout.proofs.AbsentLaws.{Absent, bad-absent, fields-absent}
 use Rattle.layout.proofs.PaddedLaws.{flag-end, padded-outside, padded-inside}
 use Rattle.layout.proofs.MovedFlagLaws.{to-flag-moved}
 use Rattle.args.specs.Part.{embedded, valueOf, startOf, lenOf, low32}
-use Rattle.args.specs.Padded.{partPadded, slotPadded, bytesPadded, insideScalar, scalarPadded, insideAny}
+use Rattle.args.specs.Padded.{partPadded, bytesPadded, insideScalar, scalarPadded, insideAny}
 use Rattle.args.specs.Padded.{argumentPadded}
 use Rattle.args.proofs.MovedArgLaws.{embedded-alike}
 use Rattle.args.proofs.InsideLaws.{scalar-in, scalar-inside-bad}
@@ -96,7 +96,8 @@ module _ {s : List ℕ} {d : ℕ} {t q : List ℕ} (k : Stands s d t q) where
           ap (λ (p : ℕ). P s p (lenOf x i)) (a .start i once (eqb-false (getD (x .count) i 0) 0 e))
           ∙ on (startOf x i) (lenOf x i) (a .kept .inside i)
 
-  inside-scalar : {x y : Slots} → Alike (rowsOf scalar) d (length t) x y → Absent x → insideScalar s y ≡ insideScalar t x
+  inside-scalar : {x y : Slots} → Alike (rowsOf scalar) d (length t) x y → Absent x →
+      insideScalar s y ≡ insideScalar t x
   unfolding insideScalar
   inside-scalar {x} {y} a b =
       ap₂ (λ (g p : Bool). cond g p false) (a .good)

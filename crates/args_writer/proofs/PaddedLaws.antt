@@ -26,15 +26,17 @@ use Rattle.layout.specs.declared.slots.Slots.{Slots}
 use Rattle.args.specs.Padded.{partPadded, insideArgs, insideScalar, scalarPadded, insideAny, argumentPadded}
 use Rattle.args.proofs.MovedArgLaws.{field-inside}
 use Rattle.writer.specs.Judge.{argsFrom, goodStretch}
+use Rattle.writer.specs.RoundTrip.{hasArgs}
 use Rattle.writer.specs.Padded.{stretchPadded}
 use Rattle.writer.proofs.FieldLaws.{behindTag, Reads, withNumber, withBytes, reads-number, reads-bytes, stands-inside}
 use Rattle.writer.proofs.ExecuteBackLaws.{partStart}
 use Rattle.writer.proofs.StretchLaws.{stretch-of}
 use Rattle.writer.proofs.MarkLaws.{field-plain, ownOnly, Says, says-none, says-then, says-whole, says-part, one-field}
+use Rattle.writer.proofs.PaddedLaws.{written-padded}
 use Rattle.writer.proofs.MarkLaws.{says-stretch, says-args, says-number, says-bytes}
 use Rattle.args_writer.specs.Scalar.{writable, valueField, scalarBytes, anyBytes, argField}
 use Rattle.args_writer.specs.Reads.{Sized}
-use Rattle.args_writer.specs.Padded.{AppendPadded, AppendedPadded, Made, empty, append, MadePlain}
+use Rattle.args_writer.specs.Padded.{AppendPadded, AppendedPadded, Made, empty, append, MadePlain, FramePlain}
 use Rattle.args_writer.proofs.FixedBackLaws.{fixed-reads, withFixed, reads-fixed}
 use Rattle.args_writer.proofs.ScalarBackLaws.{Listed, listed, kept-value, scalar-stands, any-listed}
 use Rattle.args_writer.proofs.ScalarBackLaws.{scalar-in, scalar-needed, innerPlace, inner-stands, bit-small}
@@ -245,3 +247,13 @@ unfolding paddedFrom
 made-plain s empty = refl
 made-plain s (append {s = s₀} m a src sized good short) =
     append-padded a src s₀ sized good short (made-good s₀ m) ∙ made-plain s₀ m
+
+pub frame-plain : FramePlain
+frame-plain d body args rest sized h m =
+    written-padded d body args rest sized h
+    ∙ ap (λ (b : Bool). cond (hasArgs (d .kind)) b false) (made-plain args m)
+    ∙ either-way (hasArgs (d .kind))
+  where
+    either-way : (b : Bool) → cond b false false ≡ false
+    either-way true = refl
+    either-way false = refl

@@ -6,7 +6,10 @@ use mathlib.Core.List.{List, [], _++_}
 use lib.ListN.{length, take}
 use Rattle.scalar.specs.declared.argument.Argument.{Argument}
 use Rattle.writer.specs.Judge.{goodStretch}
-use Rattle.writer.specs.Padded.{stretchPadded}
+use Rattle.writer.specs.RoundTrip.{Sized as SizedDraft}
+use Rattle.writer.specs.Write.{draftReason}
+use Rattle.writer.specs.Padded.{stretchPadded, framePadded}
+use Rattle.writer.specs.declared.Draft.{Draft}
 use Rattle.args_writer.specs.Scalar.{writable, argField}
 use Rattle.args_writer.specs.Append.{appendReason, appendedOf, leftBy}
 use Rattle.args_writer.specs.Reads.{Sized}
@@ -34,3 +37,9 @@ pub data Made : List ℕ → Type 0 where
 -- is never padded
 abbrev pub MadePlain : Type 0
 MadePlain = (s : List ℕ) → Made s → stretchPadded s ≡ false
+
+-- so the frame of a draft with such a stretch is not either
+abbrev pub FramePlain : Type 0
+FramePlain =
+    (d : Draft) (body args rest : List ℕ) → SizedDraft d → draftReason d body args ≡ 0 → Made args →
+    framePadded d body args rest ≡ false

@@ -12,7 +12,7 @@ use Rattle.varint.specs.Varint.{varintAt}
 use Rattle.varint.specs.Padded.{isPadded, paddedBy, paddedAt}
 use Rattle.varint.specs.Past.{Past}
 use Rattle.varint.specs.declared.Varint.{Varint}
-use Rattle.varint.proofs.AgreeLaws.{Agree, KeepsVarint, varint-keeps}
+use Rattle.varint.proofs.AgreeLaws.{KeepsVarint, varint-keeps}
 use Rattle.varint.proofs.PastLaws.{varint-past}
 use Rattle.wire.specs.Tag.{tagOf, tagAt}
 use Rattle.wire.specs.Value.{ofVarint, ofLength}

@@ -9,9 +9,8 @@ use lib.Seq.{take-at}
 use Rattle.prelude.proofs.OrLaws.{or-false}
 use Rattle.varint.proofs.TailLaws.{tail-length, tail-stands, stands-length}
 use Rattle.encode.specs.Frame.{frame}
-use Rattle.encode.specs.Field.{numberField, optionalField}
+use Rattle.encode.specs.Field.{optionalField}
 use Rattle.protocol.specs.Client as Client
-use Rattle.layout.specs.Table.{rowsOf, openStmt}
 use Rattle.layout.specs.declared.slots.Slots.{Slots}
 use Rattle.args.specs.Part.{startOf, lenOf}
 use Rattle.args.specs.Padded.{slotPadded, insideArgs, executePadded}
@@ -29,7 +28,7 @@ use Rattle.writer.specs.Payload.{payloadAs, payloadOf, executePayload, p
 use Rattle.writer.specs.Payload.{openStmtPayload, openPayload, fetchPayload}
 use Rattle.writer.specs.RoundTrip.{Sized, hasArgs}
 use Rattle.writer.specs.Write.{frameBytes}
-use Rattle.writer.specs.Padded.{stretchPadded, paddedAs, WrittenPadded, LeftPadded}
+use Rattle.writer.specs.Padded.{stretchPadded, WrittenPadded, LeftPadded}
 use Rattle.writer.proofs.WriteLaws.{frame-length}
 use Rattle.writer.proofs.StretchLaws.{Stretch, stretch-of}
 use Rattle.writer.proofs.MarkLaws.{ownOnly, Says, says-as, says-none, says-then, says-whole, says-part}

@@ -21,11 +21,15 @@ stretchPadded args = boundPadded args 0
 abbrev pub paddedAs : Draft → List ℕ → Bool
 paddedAs d args = cond (hasArgs (d .kind)) (stretchPadded args) false
 
--- so of every draft that is not refused 6 or 2, whatever bytes stand behind its frame
+-- the frame of a draft, whatever bytes stand behind it
+abbrev pub framePadded : Draft → List ℕ → List ℕ → List ℕ → Bool
+framePadded d body args rest = paddedOf (frameBytes d body args ++ rest)
+
+-- so of every draft that is not refused 6 or 2
 abbrev pub WrittenPadded : Type 0
 WrittenPadded =
     (d : Draft) (body args rest : List ℕ) → Sized d → draftReason d body args ≡ Reason.accepted →
-    paddedOf (frameBytes d body args ++ rest) ≡ paddedAs d args
+    framePadded d body args rest ≡ paddedAs d args
 
 -- and of the buffer that it was written to
 abbrev pub LeftPadded : Type 0
