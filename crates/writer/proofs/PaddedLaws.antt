@@ -7,13 +7,23 @@ use mathlib.Core.List.{List, _++_}
 use lib.ListN.{length, drop}
 use lib.Seq.{take-at}
 use Rattle.prelude.proofs.OrLaws.{or-false}
+use Rattle.varint.specs.Varint.{groups}
+use Rattle.varint.specs.Shortest.{shortest}
+use Rattle.varint.specs.Padded.{sameBytes, paddedAt}
 use Rattle.varint.proofs.TailLaws.{tail-length, tail-stands, stands-length}
+use Rattle.wire.specs.Field.{fieldAt}
+use Rattle.wire.specs.Padded.{fieldPadded}
 use Rattle.encode.specs.Frame.{frame}
 use Rattle.encode.specs.Field.{optionalField}
 use Rattle.protocol.specs.Client as Client
+use Rattle.layout.specs.Table.{rowsOf}
+use Rattle.layout.specs.Row.{rowFor}
+use Rattle.layout.specs.Fields.{fieldsFrom, hasRequired}
+use Rattle.layout.specs.Padded.{paddedFrom}
 use Rattle.layout.specs.declared.slots.Slots.{Slots}
 use Rattle.args.specs.Part.{startOf, lenOf}
-use Rattle.args.specs.Padded.{slotPadded, insideArgs, executePadded}
+use Rattle.args.specs.Value.{ofAnyType, anyOf}
+use Rattle.args.specs.Padded.{slotPadded, insideAny, argumentPadded, insideArgs, executePadded}
 use Rattle.message.specs.Head.{maxLength, headOf}
 use Rattle.message.specs.Operation.{fieldOf}
 use Rattle.message.specs.Payload.{payload}
@@ -23,12 +33,12 @@ use Rattle.message.specs.Padded.{paddedOf}
 use Rattle.message.specs.declared.request.Request.{Request}
 use Rattle.message.specs.declared.request.Frame.{Frame}
 use Rattle.writer.specs.declared.Draft.{Draft}
-use Rattle.writer.specs.Judge.{goodPrepare, goodStretch}
+use Rattle.writer.specs.Judge.{argsFrom, goodStretch, goodPrepare}
 use Rattle.writer.specs.Payload.{payloadAs, payloadOf, executePayload, prepareStmtPayload, preparePayload}
 use Rattle.writer.specs.Payload.{openStmtPayload, openPayload, fetchPayload}
 use Rattle.writer.specs.RoundTrip.{Sized, hasArgs}
 use Rattle.writer.specs.Write.{frameBytes}
-use Rattle.writer.specs.Padded.{stretchPadded, WrittenPadded, LeftPadded}
+use Rattle.writer.specs.Padded.{stretchPadded, SomePadded, WrittenPadded, LeftPadded}
 use Rattle.writer.proofs.WriteLaws.{frame-length}
 use Rattle.writer.proofs.StretchLaws.{Stretch, stretch-of}
 use Rattle.writer.proofs.MarkLaws.{ownOnly, Says, says-as, says-none, says-then, says-whole, says-part}
@@ -192,3 +202,8 @@ left-padded d body args buf sized h =
     ap paddedOf (left-is d body args buf h)
     ∙ written-padded d body args (drop (0 + length (frameBytes d body args)) buf) sized
     (written-fits d body args (length buf) h .0)
+
+pub some-padded : SomePadded
+unfolding argsFrom paddedFrom fieldPadded paddedAt sameBytes groups shortest fieldAt argumentPadded insideAny anyOf
+    ofAnyType rowsOf rowFor fieldsFrom hasRequired
+some-padded = ((refl, refl), (refl, refl))

@@ -2,19 +2,27 @@
 -- makes is the shortest.
 use Prim.Native.Nat.{ℕ}
 use mathlib.Core.Path.{_≡_}
-use mathlib.Core.Bool.{Bool, false, cond}
-use mathlib.Core.List.{List, _++_}
+use mathlib.Core.Bool.{Bool, true, false, cond}
+use mathlib.Core.List.{List, [], _∷_, _++_}
 use lib.ListN.{length}
 use Rattle.protocol.specs.Reason as Reason
 use Rattle.args.specs.Padded.{boundPadded}
 use Rattle.message.specs.Padded.{paddedOf}
 use Rattle.writer.specs.declared.Draft.{Draft}
+use Rattle.writer.specs.Judge.{goodStretch}
 use Rattle.writer.specs.RoundTrip.{Sized, hasArgs}
 use Rattle.writer.specs.Write.{frameBytes, draftReason, writeReason, leftOf}
 
 -- a stretch by itself: its args fields, and all arguments in them
 abbrev pub stretchPadded : List ℕ → Bool
 stretchPadded args = boundPadded args 0
+
+-- a stretch may be good and padded: an object whose args field has its tag in two bytes, or whose type is
+abbrev pub GoodPadded : List ℕ → Type 0
+GoodPadded args = (goodStretch args ≡ true) × (stretchPadded args ≡ true)
+
+abbrev pub SomePadded : Type 0
+SomePadded = GoodPadded (146 ∷ 0 ∷ 2 ∷ 8 ∷ 2 ∷ []) × GoodPadded (18 ∷ 3 ∷ 8 ∷ 130 ∷ 0 ∷ [])
 
 -- an Execute and an Open are padded exactly where their stretch is; the other messages never are, a Prepare with
 -- whatever body too
