@@ -4,10 +4,10 @@ use Rattle.samples.proofs.given.find.Statement.{statement}
 use Rattle.samples.proofs.given.find.Tie as tie
 
 abbrev Inv-loop : tie.InvT-loop
-Inv-loop s number p₀ left₀ p left = Unit {0}
+Inv-loop s number unread₀ p₀ left₀ unread p left = Unit {0}
 
 abbrev μ-loop : tie.MeasureT-loop
-μ-loop s number p₀ left₀ p left = left
+μ-loop s number unread₀ p₀ left₀ unread p left = left
 
 pub find-spec : {M : Type 1} → statement M
 find-spec = tie.close (tie.spec Inv-loop μ-loop (λ c. search needs) (λ c. search needs) (λ c κs. search needs)
