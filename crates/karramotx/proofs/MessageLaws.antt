@@ -1,19 +1,54 @@
--- A frame as one struct, by its case. Assumes nothing.
+-- A frame as one struct, by its case, and what it says of padding. Assumes nothing.
 use Prim.Native.Nat.{ℕ}
-use mathlib.Core.Bool.{Bool}
-use mathlib.Core.Path.{_≡_, sym, ap, _∙_}
-use Rattle.message.specs.Padded.{whereGood}
+use mathlib.Core.Bool.{Bool, false, cond}
+use mathlib.Core.Path.{_≡_, refl, sym, ap, _∙_}
+use mathlib.Core.List.{List}
+use lib.Dec.{eqb}
+use Rattle.protocol.specs.Reason as Reason
+use Rattle.message.specs.Frame.{frameOf}
+use Rattle.message.specs.Padded.{whereGood, paddedOf}
+use Rattle.message.specs.private.Marks.{Tells}
 use Rattle.message.specs.declared.request.Request.{Request}
 use Rattle.message.specs.declared.request.Frame.{Frame}
-use Rattle.karramotx.specs.Message.{messageOf, messageSays}
+use Rattle.message.specs.declared.request.Frame.the-variants.{NotAllThere, BadLength, UnknownType, BadPayload, Good}
+use Rattle.keeper.proofs.PaddedLaws.{flag-says}
+use Rattle.karramotx.specs.Message.{messageOf, messageSays, messageAt}
 use Rattle.karramotx.specs.declared.told.Message.{Message}
 
--- by what it was read as, with what is said of padding
-abbrev pub saying : Bool → Frame → Message
-saying padded x = messageSays (whereGood x padded) (messageOf x)
-
-pub as-frame : (padded : Bool) {x y : Frame} {m : Message} → x ≡ y → m ≡ saying padded y → m ≡ saying padded x
-as-frame padded e h = h ∙ ap (saying padded) (sym e)
+pub as-frame : {x y : Frame} {m : Message} → x ≡ y → m ≡ messageOf y → m ≡ messageOf x
+as-frame e h = h ∙ ap messageOf (sym e)
 
 pub as-request : (used : ℕ) {q p : Request} → q ≡ p → messageOf (Frame.Good used p) ≡ messageOf (Frame.Good used q)
 as-request used e = ap (λ x. messageOf (Frame.Good used x)) (sym e)
+
+-- ---- padding
+
+-- a frame that is refused says no, any other what was read
+abbrev pub saidBy : ℕ → Bool → Bool
+saidBy reason padded = cond (eqb reason Reason.accepted) padded false
+
+pub where-said : (x : Frame) (padded : Bool) → saidBy (messageOf x .reason) padded ≡ whereGood x padded
+where-said NotAllThere padded = refl
+where-said BadLength padded = refl
+where-said (UnknownType used) padded = refl
+where-said (BadPayload used kind) padded = refl
+where-said (Good used q) padded = refl
+
+-- a message says nothing before it is told
+unsaid : (x : Frame) → messageOf x .padded ≡ false
+unsaid NotAllThere = refl
+unsaid BadLength = refl
+unsaid (UnknownType used) = refl
+unsaid (BadPayload used kind) = refl
+unsaid (Good used q) = refl
+
+module _ (s : List ℕ) {x : Frame} (flag : Bool) (e : x ≡ frameOf s) (t : Tells x flag (paddedOf s)) {m : Message}
+    (f : m ≡ messageOf x) where
+  pub read-says : {b : Bool} → b ≡ saidBy (m .reason) flag → messageSays b m ≡ messageAt s
+  read-says h =
+      ap (λ (b : Bool). messageSays b m)
+      (h ∙ ap (λ y. saidBy (y .reason) flag) f ∙ where-said x flag ∙ flag-says s x flag e t)
+      ∙ ap (messageSays (paddedOf s)) (f ∙ ap messageOf e)
+
+  pub refused-says : false ≡ saidBy (m .reason) flag → m ≡ messageAt s
+  refused-says h = ap (λ (b : Bool). messageSays b m) (ap (λ y. y .padded) f ∙ unsaid x) ∙ read-says h

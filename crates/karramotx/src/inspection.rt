@@ -27,7 +27,8 @@ pub fn inspect(session: &[u32; WORDS], frame: Frame, padded: bool) -> Inspection
     ensures { λ r. ⌜ r ≡ inspected (sessionOf (now (session .entry))) frame (whereGood frame padded) ⌝ }
 {
     let found = keeper::inspect::inspect(session, frame);
-    let message = told::message_of(frame, padded);
+    let mut message = told::message_of(frame);
+    message.padded = told::said(message.reason, padded);
     let mut look = found.look;
     look.padded = keeper::padded::said(look.reason, message.padded);
     let touches = found.touches;

@@ -20,6 +20,7 @@ ghost use Rattle.karramotx.specs.Value.{nextValueOf, valueOf};
 use args::part::Part;
 use given::Scalar;
 use inspection::Inspection;
+use protocol::reason;
 use rules::Answer;
 use rules::Look;
 use rules::Report;
@@ -61,8 +62,12 @@ pub extern "C" fn karramotx_read(frame: &[u8]) -> Message
     ensures { λ r. ⌜ r ≡ messageAt (now (frame .entry)) ⌝ }
 {
     let mut padded = false;
-    let read = message::frame::read_frame(frame, &mut padded);
-    told::message_of(read, padded)
+    let mut m = told::message_of(message::frame::read_frame(frame, &mut padded));
+    if m.reason != reason::ACCEPTED {
+        return m;
+    }
+    m.padded = padded;
+    m
 }
 
 // A refusal, or the work that the frame wants of the engine. The host's own session is only read.

@@ -1,9 +1,11 @@
 // A frame as one struct, for hosts that have no enum.
 ghost use mathlib.Core.Path.{_≡_};
-ghost use Rattle.message.specs.Padded.{whereGood};
+ghost use mathlib.Core.Bool.{cond, false};
+ghost use lib.Dec.{eqb};
+ghost use Rattle.protocol.specs.Reason as Reason;
 ghost use Rattle.message.specs.declared.request.Frame.{Frame};
 ghost use Rattle.message.specs.declared.request.Request.{Request};
-ghost use Rattle.karramotx.specs.Message.{argsTold, blank, messageOf, messageSays, refused};
+ghost use Rattle.karramotx.specs.Message.{argsTold, blank, messageOf, refused};
 use args::arguments::Arguments;
 use args::part::Part;
 use message::request::Execute;
@@ -48,20 +50,26 @@ pub struct Args {
     pub end: usize,
 }
 
-// With what its reading told of padding: a frame that is refused says no.
-pub fn message_of(frame: Frame, padded: bool) -> Message
-    ensures { λ r. ⌜ r ≡ messageSays (whereGood frame padded) (messageOf frame) ⌝ }
+// What a message says of padding: a frame that is refused says no, any other what was read.
+pub fn said(reason: u64, padded: bool) -> bool
+    ensures { λ r. ⌜ r ≡ cond (eqb reason Reason.accepted) padded false ⌝ }
+{
+    if reason != reason::ACCEPTED {
+        return false;
+    }
+    padded
+}
+
+// Nothing is said of padding yet.
+pub fn message_of(frame: Frame) -> Message
+    ensures { λ r. ⌜ r ≡ messageOf frame ⌝ }
 {
     match frame {
         Frame::NotAllThere => refused(reason::NOT_ALL_THERE, 0),
         Frame::BadLength => refused(reason::BAD_LENGTH, 0),
         Frame::UnknownType { used } => refused(reason::UNKNOWN_TYPE, used),
         Frame::BadPayload { used, kind: _ } => refused(reason::BAD_PAYLOAD, used),
-        Frame::Good { used, request } => {
-            let mut m = told(used, request);
-            m.padded = padded;
-            m
-        }
+        Frame::Good { used, request } => told(used, request),
     }
 }
 

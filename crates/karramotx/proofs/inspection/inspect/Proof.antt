@@ -2,12 +2,15 @@
 use borrow.Author.Needs.{needs}
 use mathlib.Core.Bool.{Bool}
 use mathlib.Core.Path.{_≡_, ap, _∙_}
+use Rattle.message.specs.Padded.{whereGood}
 use Rattle.rules.specs.declared.Look.{Look}
 use Rattle.rules.specs.declared.Touches.{Touches}
 use Rattle.rules.specs.Step.{said, lookSays}
 use Rattle.keeper.proofs.PaddedLaws.{lookWith}
 use Rattle.karramotx.specs.declared.told.Message.{Message}
 use Rattle.karramotx.specs.declared.inspection.Inspection.{Inspection}
+use Rattle.karramotx.specs.Message.{messageSays}
+use Rattle.karramotx.proofs.MessageLaws.{saidBy, where-said}
 use Rattle.karramotx.proofs.inspection.inspect.Statement.{statement}
 use Rattle.karramotx.proofs.inspection.inspect.Tie as tie
 
@@ -27,10 +30,17 @@ look-with {l} {w = w} e f g =
 returns : tie.Need-returns
 returns c =
     let d = c .before in
-    let m = d .before .before in
+    let p = d .before .before in
+    let m = p .before in
+    let a = m .before .before .args in
     let f = m .before .inspect .ensures in
-    together _ _ (look-with (f .0) (d .said .ensures) (ap (λ x. x .padded) (m .message-of .ensures)))
-    (m .message-of .ensures) (f .1)
+    let read = m .message-of .ensures in
+    let says = p .said .ensures ∙ ap (λ y. saidBy (y .reason) (a .padded)) read ∙ where-said (a .frame) (a .padded) in
+    together _ _ (look-with (f .0) (d .said2 .ensures) says)
+    (ap (λ (b : Bool). messageSays b (m .message-of .result)) says
+    ∙ ap (messageSays (whereGood (a .frame) (a .padded))) read)
+    (f .1)
 
 pub inspect-spec : {M : Type 1} → statement M
-inspect-spec = tie.close (tie.spec (λ c κs. search needs) (λ c κs. search needs) (λ c κs. search needs) returns)
+inspect-spec = tie.close (tie.spec (λ c κs. search needs) (λ c κs. search needs) (λ c κs. search needs)
+    (λ c κs. search needs) returns)

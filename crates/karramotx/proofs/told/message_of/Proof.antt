@@ -1,7 +1,5 @@
 -- `karramotx::told::message_of` meets its contract: each case of a frame is one of the definition. Assumes nothing.
 use borrow.Author.Needs.{needs}
-use mathlib.Core.Path.{ap}
-use Rattle.karramotx.specs.Message.{messageSays}
 use Rattle.karramotx.proofs.MessageLaws.{as-frame}
 use Rattle.karramotx.proofs.told.message_of.Statement.{statement}
 use Rattle.karramotx.proofs.told.message_of.Tie as tie
@@ -9,9 +7,8 @@ use Rattle.karramotx.proofs.told.message_of.Tie as tie
 pub message-of-spec : {M : Type 1} → statement M
 message-of-spec = tie.close (tie.spec (λ c. search needs) (λ c κs. search needs) (λ c. search needs)
     (λ c κs. search needs) (λ c. search needs) (λ c κs. search needs) (λ c. search needs) (λ c κs. search needs)
-    (λ c. search needs) (λ c κs. search needs) (λ c. as-frame _ (c .before .enum-told .given .1) (c .refused .ensures))
-    (λ c. as-frame _ (c .before .enum-told2 .given .1) (c .refused2 .ensures))
-    (λ c. as-frame _ (c .before .before .frame .given .1) (c .refused3 .ensures))
-    (λ c. as-frame _ (c .before .before .frame2 .given .1) (c .refused4 .ensures))
-    (λ c. let f = c .before .before in as-frame _ (f .frame3 .given .1)
-    (ap (messageSays (f .before .before .args .padded)) (c .told .ensures))))
+    (λ c. search needs) (λ c κs. search needs) (λ c. as-frame (c .before .enum-told .given .1) (c .refused .ensures))
+    (λ c. as-frame (c .before .enum-told2 .given .1) (c .refused2 .ensures))
+    (λ c. as-frame (c .before .before .frame .given .1) (c .refused3 .ensures))
+    (λ c. as-frame (c .before .before .frame2 .given .1) (c .refused4 .ensures))
+    (λ c. as-frame (c .before .before .frame3 .given .1) (c .told .ensures)))
