@@ -29,7 +29,7 @@ use scalar::argument::signed_argument;
 
 // The argument whose Any stands in `n` bytes of s from `at` on, with the short ways for an Any of one field, its type,
 // and of two, its type and its scalar. For its one caller, into which it is inlined; others go the long way.
-pub fn read_argument(s: &[u8], at: usize, n: usize, unread: &mut bool) -> Argument
+pub(crate) fn read_argument(s: &[u8], at: usize, n: usize, unread: &mut bool) -> Argument
     ensures { λ r. ⌜ r ≡ argumentIn (now (s .entry)) at n ⌝ }
 {
     let all = s.len();
