@@ -469,9 +469,9 @@ struct karramotx_value karramotx_next_argument(const uint8_t *frame, size_t end,
 
 /*
  * Look and message from one reading, and what the frame touches in the tables, so that a host reads a frame twice
- * in all, here and in the step; walking its arguments goes over their bytes once more. Keep what is yours of a statement or a cursor, as a plan or a result, in arrays of
- * KARRAMOTX_MAX_STMTS and KARRAMOTX_MAX_CURSORS places, each at the entry's own place. After a step that answers
- * reason 0:
+ * in all, here and in the step; walking its arguments goes over their bytes once more. Keep what is yours of a
+ * statement or a cursor, as a plan or a result, in arrays of KARRAMOTX_MAX_STMTS and KARRAMOTX_MAX_CURSORS places, each
+ * at the entry's own place. After a step that answers reason 0:
  *
  *     for each bit i of told.ends, `told.ends >> i & 1`: free the result at place i; its cursor has ended
  *     Prepare: what was kept at told.stmt_place is replaced by the new statement
@@ -487,8 +487,8 @@ struct karramotx_value karramotx_next_argument(const uint8_t *frame, size_t end,
 struct karramotx_inspection {
     struct karramotx_look look;           /* as karramotx_look answers */
     struct karramotx_message message;     /* as karramotx_read answers, in a closed session too */
-    size_t stmt_place;             /* Execute, Deallocate, Open: where the statement of that id is live; Prepare: where it
-                                      will stand; KARRAMOTX_MAX_STMTS where there is none */
+    size_t stmt_place;             /* Execute, Deallocate, Open: where the statement of that id is live; Prepare: where
+                                      it will stand; KARRAMOTX_MAX_STMTS where there is none */
     size_t cursor_place;           /* Close, Fetch: where the cursor of that id is live; Open: where it will stand;
                                       KARRAMOTX_MAX_CURSORS where there is none */
     uint64_t ends;                 /* bit i: the cursor at place i is live, and the frame ends it once accepted */

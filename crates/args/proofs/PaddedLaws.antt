@@ -1,4 +1,5 @@
--- Whether the short ways for one field or two read a padded varint, step by step, and what that says of the whole message.
+-- Whether the short ways for one field or two read a padded varint, step by step, and what that says of the whole
+-- message.
 -- Assumes nothing.
 use Prim.Native.Nat.{ℕ, _+_, _-_, _%_, _≤_, _<_}
 use native.Mathlib.Omega.{arith}
@@ -117,7 +118,8 @@ module _ (s : List ℕ) (at n : ℕ) where
 pub first-padded : (s : List ℕ) (at : ℕ) → at < length s → fieldPadded s at ≡ true → listPadded s at ≡ true
 first-padded s at h e =
     flag-turn nothingInside (length s) s at (omega arith) h (fieldAt s at) refl
-    ∙ ap (λ (b : Bool). b || (false || onward (λ next. paddedFrom nothingInside (length s - 1) s next) (fieldAt s at))) e
+    ∙ ap (λ (b : Bool). b || (false || onward (λ next. paddedFrom nothingInside (length s - 1) s next)
+    (fieldAt s at))) e
 
 -- field 1 in two bytes is not padded
 module _ {s : List ℕ} {at first : ℕ} (t : FieldOne s at first) where

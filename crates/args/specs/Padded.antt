@@ -1,4 +1,5 @@
--- Padded arguments (W20): an Any's own fields, those of its scalar where its type chooses it, and those of the octets or
+-- Padded arguments (W20): an Any's own fields, those of its scalar where its type chooses it, and those of the octets
+-- or
 -- the string where the Scalar's type chooses one. What a type does not choose is not read, and does not count.
 use Prim.Native.Nat.{ℕ, _+_}
 use mathlib.Core.Bool.{Bool, false, cond, _||_}

@@ -1,5 +1,5 @@
-// The way through the arguments of a message, and what all of them together say. Whether a varint is padded is asked where
-// the message is judged, and not here: `unread` is a flag that nobody looks at.
+// The way through the arguments of a message, and what all of them together say. Whether a varint is padded is asked
+// where the message is judged, and not here: `unread` is a flag that nobody looks at.
 ghost use mathlib.Core.Path.{_≡_};
 ghost use Prim.Native.Nat.{_^_, _<_};
 ghost use Rattle.args.specs.Arguments.{

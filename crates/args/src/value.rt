@@ -129,7 +129,8 @@ fn scalar_value(
     ensures told { λ r. ⌜
         now (padded .exit)
         ≡ (now (padded .entry)
-        || insideScalar (now (s .entry)) (fromArrays true (now (seen .entry)) (now (values .entry)) (now (starts .entry))))
+        || insideScalar (now (s .entry))
+        (fromArrays true (now (seen .entry)) (now (values .entry)) (now (starts .entry))))
         ⌝ }
 {
     let t = values[TYPE] % uint32::COUNT;

@@ -58,10 +58,12 @@ module _ (s : Session) (frame : List ℕ) {x : Frame} (e : x ≡ frameOf frame) 
   unfolding lookAt
   look-unread {y} {l} {n} f mute g h =
       let read = sym f ∙ e in
-      g ∙ ap (λ (b : Bool). lookWith b (lookRefused n)) (sym (said-none n)) ∙ ap (lookSays false) (h ∙ ap (lookOf s) read)
+      g ∙ ap (λ (b : Bool). lookWith b (lookRefused n)) (sym (said-none n)) ∙ ap (lookSays false)
+      (h ∙ ap (lookOf s) read)
       ∙ ap (λ (b : Bool). lookSays b (lookOf s (frameOf frame))) (mute-says frame read mute)
 
-  pub look-told : {used : ℕ} {q : Request} {b : Bool} {l : Look} (flag : Bool) → x ≡ Good used q → Tells x flag (paddedOf frame) →
+  pub look-told : {used : ℕ} {q : Request} {b : Bool} {l : Look} (flag : Bool) → x ≡ Good used q → Tells x flag
+      (paddedOf frame) →
       l ≡ lookOf s (Good used q) → b ≡ said (l .reason) flag →
       lookWith b l ≡ lookAt s frame
   unfolding lookAt
@@ -93,7 +95,8 @@ says-none a e = ap (λ (p : Bool). answerWith p a) (e ∙ sym (said-none (a .rea
 
 module _ (s : Session) (frame : List ℕ) (r : Report) (b : List ℕ) {x : Frame} (e : x ≡ frameOf frame)
     {a : Answer} {s' : Session} {after : List ℕ} where
-  pub does-unread : {y : Frame} → x ≡ y → Mute y → Does (stepOn s y r b) a s' after → Does (stepOf s frame r b) a s' after
+  pub does-unread : {y : Frame} → x ≡ y → Mute y → Does (stepOn s y r b) a s' after → Does
+      (stepOf s frame r b) a s' after
   does-unread {y} f mute h =
       let read = sym f ∙ e in
       record {

@@ -64,7 +64,8 @@ module _ {inside : Field → Bool} {s : List ℕ} {from p : ℕ} {before flag : 
         or-same flag (sym (flag-turn inside (m .most) s p (omega (arith, m .enough)) h f e)) ∙ m .whole
 
     -- behind a bad field nothing is read
-    pub marks-bad : fieldAt s p ≡ Field.Bad → inside Field.Bad ≡ false → {now : Bool} → now ≡ (flag || fieldPadded s p) →
+    pub marks-bad : fieldAt s p ≡ Field.Bad → inside Field.Bad ≡ false → {now : Bool} →
+        now ≡ (flag || fieldPadded s p) →
         now ≡ (before || paddedList inside s from)
     marks-bad e z q =
         q

@@ -35,9 +35,9 @@ use Rattle.args.specs.private.Pair.{pairPadded}
 use Rattle.args.proofs.PaddedLaws.{pair-absorbed}
 use Rattle.message.specs.Head.{headOf}
 use Rattle.message.specs.Payload.{payload}
-use Rattle.message.specs.Frame.{frameOf, refusedHead}
+use Rattle.message.specs.Frame.{frameIn, frameOf, refusedHead}
 use Rattle.message.specs.Padded.{ownPadded, preparePadded, openExecutePadded, openStmtPadded, openPadded}
-use Rattle.message.specs.Padded.{whereGood, headPadded, paddedOf}
+use Rattle.message.specs.Padded.{kindPadded, whereGood, headPadded, paddedOf}
 use Rattle.message.specs.private.First.{idTag, Starts}
 use Rattle.message.specs.private.Marks.{Tells, TellsChosen, TellsInner}
 use Rattle.message.specs.declared.prepare.Chosen.{Chosen}
@@ -56,6 +56,12 @@ tells-as Frame.BadLength flag e t = tt
 tells-as (Frame.UnknownType used) flag e t = tt
 tells-as (Frame.BadPayload used kind) flag e t = tt
 tells-as (Frame.Good used q) flag e t = t ∙ e
+
+-- by the type that a frame was read as
+pub as-kind : (s : List ℕ) (r : Frame) (flag : Bool) {kind n : ℕ} → kind ≡ n →
+    (r ≡ frameIn s n) × Tells r flag (kindPadded s n) →
+    (r ≡ frameIn s kind) × Tells r flag (kindPadded s kind)
+as-kind s r flag e h = (h .0 ∙ ap (frameIn s) (sym e), tells-as r flag (ap (kindPadded s) (sym e)) (h .1))
 
 pub tells : (r : Frame) {flag p : Bool} → flag ≡ p → Tells r flag p
 tells Frame.NotAllThere e = tt

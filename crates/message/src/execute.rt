@@ -73,7 +73,9 @@ fn rest(s: &[u8]) -> usize
 // An Execute in the `n` bytes of the payload. Field 1, stmt_id, tells whether it is good.
 fn execute_from(s: &[u8], n: usize, padded: &mut bool) -> Frame
     ensures answer { λ r. ⌜ r ≡ executeFrom (now (s .entry)) (executeIn (now (s .entry)) payload n) ⌝ }
-    ensures told { λ r. ⌜ Tells r (now (padded .exit)) (now (padded .entry) || executePadded (now (s .entry)) payload n) ⌝ }
+    ensures told { λ r. ⌜
+        Tells r (now (padded .exit)) (now (padded .entry) || executePadded (now (s .entry)) payload n)
+        ⌝ }
 {
     let b = args::bound::read_bound(s, PAYLOAD, n, false, padded);
     if !b.hasone {
@@ -159,7 +161,9 @@ fn open_from(
         ≡ openFrom (now (s .entry)) id (optionalBy has asked) (record { start = start; len = len })
         (executeIn (now (s .entry)) start len)
         ⌝ }
-    ensures told { λ r. ⌜ Tells r (now (padded .exit)) (now (padded .entry) || executePadded (now (s .entry)) start len) ⌝ }
+    ensures told { λ r. ⌜
+        Tells r (now (padded .exit)) (now (padded .entry) || executePadded (now (s .entry)) start len)
+        ⌝ }
 {
     let b = args::bound::read_bound(s, start, len, false, padded);
     if !b.hasone {

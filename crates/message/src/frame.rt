@@ -41,8 +41,8 @@ fn refused_head(reason: u64) -> Frame
     Frame::NotAllThere
 }
 
-// The frame that a byte string begins with; bytes past it are not read. Where it holds a request the flag says whether a
-// varint that was read in its payload is padded, whatever it said before; else nothing is said of it.
+// The frame that a byte string begins with; bytes past it are not read. Where it holds a request the flag says whether
+// a varint that was read in its payload is padded, whatever it said before; else nothing is said of it.
 pub fn read_frame(s: &[u8], padded: &mut bool) -> Frame
     ensures answer { λ r. ⌜ r ≡ frameOf (now (s .entry)) ⌝ }
     ensures told { λ r. ⌜ Tells r (now (padded .exit)) (paddedOf (now (s .entry))) ⌝ }

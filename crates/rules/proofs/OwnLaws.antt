@@ -1,4 +1,5 @@
--- An id that is live finds its own place, another the lowest free one; what an Open and a Fetch without fetch_rows send. Assumes nothing.
+-- An id that is live finds its own place, another the lowest free one; what an Open and a Fetch without fetch_rows
+-- send. Assumes nothing.
 use Prim.Native.Nat.{ℕ, zero, suc, _+_, _<_}
 use native.Mathlib.Omega.{arith}
 use mathlib.Core.Bool.{Bool, true, false, not, cond, _&&_, and-false, false≢true}

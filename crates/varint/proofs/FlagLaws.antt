@@ -80,7 +80,8 @@ module _ (s : List ℕ) (at : ℕ) (inside : at < length s) (more : 128 ≤ getD
     where
       by-weight : (low high : ℕ) → low < 128 → eqb high 0 ≡ ltb (low + high * 128) 128
       by-weight low zero h = sym (lt-ltb (low + 0 * 128) 128 (omega arith))
-      by-weight low (suc high) h = ne-eqb (suc high) 0 (λ e. absurd (omega arith)) ∙ sym (le-ltb (low + suc high * 128) 128 (omega arith))
+      by-weight low (suc high) h =
+          ne-eqb (suc high) 0 (λ e. absurd (omega arith)) ∙ sym (le-ltb (low + suc high * 128) 128 (omega arith))
 
 -- ---- what is written
 

@@ -90,7 +90,8 @@ shortest-tops zero (suc n) v d h a b l =
     let e : v + d * 128 ^ 0 ≡ d = omega arith in
     rw (e, shortest-last n d b)
 shortest-tops (suc k) (suc n) v d h a b l =
-    let big : 128 ≤ v + d * 128 ^ suc k = omega (arith, one-le-pow (suc k) 128 (omega arith), mul-le-mul-right (128 ^ suc k) a) in
+    let big : 128 ≤ v + d * 128 ^ suc k = omega
+    (arith, one-le-pow (suc k) 128 (omega arith), mul-le-mul-right (128 ^ suc k) a) in
     ap₂ (λ (m : ℕ) (t : List ℕ). (128 + m) ∷ t) (sym (kept k v d))
     (shortest-tops k n (v / 128) d (omega arith) a b (omega arith) ∙ ap (shortest n) (sym (carried k v d)))
     ∙ sym (shortest-more n (v + d * 128 ^ suc k) big)

@@ -1,5 +1,5 @@
-// Skipping a group: its fields up to the end tag that carries its number. Whether a varint in it is padded is not asked:
-// `unread` is a flag that nobody looks at.
+// Skipping a group: its fields up to the end tag that carries its number. Whether a varint in it is padded is not
+// asked: `unread` is a flag that nobody looks at.
 ghost use mathlib.Core.Path.{_≡_};
 ghost use Rattle.wire.specs.Group.{groupEnd, skipValue};
 use crate::tag::Tag;

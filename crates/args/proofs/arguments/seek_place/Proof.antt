@@ -50,11 +50,14 @@ loop-less-2 c = omega (
 loop-again-2 : tie.Need-loop-again-2 Inv-loop μ-loop
 loop-again-2 c = other-number (c .before .before .before .before .before .before .before .loop .inv)
     (c .before .before .before .before .before .before .loop-test .taken)
-    (sym (c .before .before .before .before .long-field .ensures .0) ∙ c .before .before .number .given .1) (c .if1 .left)
+    (sym (c .before .before .before .before .long-field .ensures .0) ∙ c .before .before .number .given .1)
+    (c .if1 .left)
 
 pub seek-place-spec : {M : Type 1} → statement M
 seek-place-spec = tie.close (tie.spec Inv-loop μ-loop (λ c. starts (c .before .args .s .now) (c .before .args .at))
     (λ c κs. tt) (λ c. search needs) (λ c. search needs)
-    (λ c. no-field (c .before .before .before .before .before .loop .inv) (c .before .before .before .before .loop-test .taken)
-    (sym (c .before .before .long-field .ensures .0) ∙ c .enum-told .given .1)) returns-2 loop-less loop-again loop-less-2
+    (λ c. no-field (c .before .before .before .before .before .loop .inv)
+    (c .before .before .before .before .loop-test .taken)
+    (sym (c .before .before .long-field .ensures .0)
+    ∙ c .enum-told .given .1)) returns-2 loop-less loop-again loop-less-2
     loop-again-2 (λ c. ends (c .before .loop .inv) (c .loop-test .left)))

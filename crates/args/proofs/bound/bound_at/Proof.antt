@@ -110,7 +110,8 @@ loop-again-2 c =
           (passes (looping f .loop .inv .0) (inside f) (read f (n .number .given .1)) other)),
       marks-on (looping f .loop .inv .1) (inside f) (read f (n .number .given .1)) (f .field-at .ensures .1)
           (or-none (f .field-at .last .1 .1 .0)
-          (inside-other s (g .0) (g .1 .0) (g .1 .1 .0) (g .1 .1 .1 .0) (g .1 .1 .1 .1 .0) (g .1 .1 .1 .1 .1 .0) other)),
+          (inside-other s (g .0) (g .1 .0) (g .1 .1 .0) (g .1 .1 .1 .0) (g .1 .1 .1 .1 .0)
+          (g .1 .1 .1 .1 .1 .0) other)),
     )
 
 pub bound-at-spec : {M : Type 1} → statement M

@@ -108,7 +108,8 @@ returns-9 c =
     let r = c .before .before .before .before .before in
     let a = start r .args in
     let s = a .s .now in
-    let is = c .any-type3 .ensures ∙ ap anyTypeOf (long-scalar-read s (a .at) (a .n) (c .before .long-scalar .ensures .0))
+    let is = c .any-type3 .ensures ∙ ap anyTypeOf
+    (long-scalar-read s (a .at) (a .n) (c .before .long-scalar .ensures .0))
     in (
       is,
       λ h.

@@ -42,7 +42,8 @@ returns-2 c =
     let good = not-false _ (e .if1 .left) in (
       c .scalar-value .ensures .0 ∙ scalar-held s (a .at) (a .n) held good,
       or-then (a .padded .now) (partPadded s (a .at) (a .n)) (insideScalar s _) (f .fill-part .ensures .1)
-          (c .scalar-value .ensures .1) (scalar-in s (a .at) (a .n) refl (scalar-inside-held s (a .at) (a .n) held good)),
+          (c .scalar-value .ensures .1) (scalar-in s (a .at) (a .n) refl
+          (scalar-inside-held s (a .at) (a .n) held good)),
     )
 
 pub long-scalar-spec : {M : Type 1} → statement M

@@ -25,9 +25,11 @@ read-argument-spec = tie.close (tie.spec (λ c κs. search needs)
     (c .before .before .read-lone .ensures) (c .if2 .taken)) (λ c κs. search needs) (λ c. search needs)
     (λ c. omega (arith, named-fits (held (c .before)))) (λ c. omega (arith, named-fits (held (c .before))))
     (λ c κs. search needs)
-    (λ c. c .read-scalar .ensures ∙ scalar-read (held (c .before .before .before .before)) (c .before .before .if3 .taken))
+    (λ c. c .read-scalar .ensures ∙ scalar-read (held (c .before .before .before .before))
+    (c .before .before .if3 .taken))
     (λ c. search needs)
-    (λ c. sym (ap length (take-length (c .before .before .before .before .before .before .before .before .args .s .now))))
+    (λ c. let a = c .before .before .before .before .before .before .before .before .args in
+    sym (ap length (take-length (a .s .now))))
     (λ c κs. search needs)
     (λ c. let a = c .before .before .before .before .before .before .before .before .before .before .args in
     long-argument-read (a .s .now) (a .at) (a .n) (c .long-argument .ensures .0)))

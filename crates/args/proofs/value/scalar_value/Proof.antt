@@ -51,7 +51,8 @@ scalar-value-spec = tie.close (tie.spec (λ c. search needs) (λ c. search needs
     (λ c κs. search needs) (λ c κs. search needs)
     (λ c. let k = c .before .before .before .before in let st = k .before .before .before in (
       seen-needed
-          (st .args .seen .now) 2 (c .needed .ensures) (c .before .signed-argument .ensures) ∙ by st 1 (k .match .keys1),
+          (st .args .seen .now) 2 (c .needed .ensures) (c .before .signed-argument .ensures) ∙ by st 1
+          (k .match .keys1),
       or-none (st .args .padded .now) (flag st 1 (k .match .keys1)),
     ))
     (λ c. let k = c .before .before .before in let st = k .before .before .before in (
@@ -73,12 +74,14 @@ scalar-value-spec = tie.close (tie.spec (λ c. search needs) (λ c. search needs
     ))
     (λ c. let k = c .before .before .before .before in let st = k .before .before .before in (
       seen-needed
-          (st .args .seen .now) 6 (c .needed4 .ensures) (c .before .double-argument .ensures) ∙ by st 5 (k .match .keys5),
+          (st .args .seen .now) 6 (c .needed4 .ensures) (c .before .double-argument .ensures) ∙ by st 5
+          (k .match .keys5),
       or-none (st .args .padded .now) (flag st 5 (k .match .keys5)),
     ))
     (λ c. let k = c .before .before .before .before in let st = k .before .before .before in (
       seen-needed
-          (st .args .seen .now) 7 (c .needed5 .ensures) (c .before .float-argument .ensures) ∙ by st 6 (k .match .keys6),
+          (st .args .seen .now) 7 (c .needed5 .ensures) (c .before .float-argument .ensures) ∙ by st 6
+          (k .match .keys6),
       or-none (st .args .padded .now) (flag st 6 (k .match .keys6)),
     ))
     (λ c. let k = c .before .before .before in let st = k .before .before .before in (

@@ -11,7 +11,8 @@ use Rattle.keeper.proofs.padded.said.Tie as tie
 returns : tie.Need-returns
 returns c =
     let a = c .before .before .args in
-    yes false (a .padded) {b = saysNo (a .reason)} (rw (le-leb Reason.notAllThere (a .reason) (c .before .if1 .taken)) (c .if2 .taken))
+    yes false (a .padded) {b = saysNo (a .reason)}
+    (rw (le-leb Reason.notAllThere (a .reason) (c .before .if1 .taken)) (c .if2 .taken))
 
 returns-2 : tie.Need-returns-2
 returns-2 c =

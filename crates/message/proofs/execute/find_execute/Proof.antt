@@ -98,8 +98,10 @@ returns-2 c =
     let mid = r .read-pair .last .1 .1 .1 .0 in
     let flag = c .long-inner .last .1 .1 .1 .0 in (
       subst (λ (l : List ℕ). Runs l (a .at) (a .n) (c .long-inner .result)) whole (c .long-inner .ensures .0),
-      inner-again (a .s .now) (a .at) (a .n) (c .long-inner .result) (a .padded .now) mid flag (r .read-pair .ensures .1)
-          (subst (λ (l : List ℕ). TellsInner l (a .at) (a .n) (c .long-inner .result) mid flag) whole (c .long-inner .ensures .1)),
+      inner-again (a .s .now) (a .at) (a .n) (c .long-inner .result) (a .padded .now) mid flag
+          (r .read-pair .ensures .1)
+          (subst (λ (l : List ℕ). TellsInner l (a .at) (a .n) (c .long-inner .result) mid flag) whole
+          (c .long-inner .ensures .1)),
     )
 
 pub find-execute-spec : {M : Type 1} → statement M

@@ -15,7 +15,8 @@ returns c =
     let n = c .before .before in
     let s = n .before .before .args .s .now in (
       c .execute-from .ensures .0 ∙ ap (λ (k : ℕ). executeFrom s (executeIn s payload k)) (n .rest .ensures),
-      tells-as (c .execute-from .result) (c .execute-from .last .1 .1 .0) (ap (executePadded s payload) (n .rest .ensures))
+      tells-as (c .execute-from .result) (c .execute-from .last .1 .1 .0)
+          (ap (executePadded s payload) (n .rest .ensures))
           (c .execute-from .ensures .1),
     )
 

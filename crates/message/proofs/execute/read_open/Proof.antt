@@ -18,7 +18,8 @@ returns c =
     let s = start f .args .s .now in (
       c .open-inside .ensures .0 ∙ ap (ofOpening s) (sym (i .id .given .1)) ∙ f .find-opening .ensures .0,
       tells-as (c .open-inside .result) (c .open-inside .last .1 .1 .1 .1 .1 .1 .0)
-          (subst (λ (r : Opening). TellsOpening s r (f .find-opening .last .1 .0)) (i .id .given .1) (f .find-opening .ensures .1))
+          (subst (λ (r : Opening). TellsOpening s r (f .find-opening .last .1 .0)) (i .id .given .1)
+          (f .find-opening .ensures .1))
           (c .open-inside .ensures .1),
     )
 

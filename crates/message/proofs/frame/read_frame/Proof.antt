@@ -41,7 +41,8 @@ returns-2 c =
     let s = a .s .now in (
       c .refused-head .ensures
           ∙ ap (ofHead s) (sym (c .before .before .reason .given .1) ∙ h .read-head .ensures),
-      rw (c .refused-head .ensures) (refused-tells (c .before .before .reason .given .0 .0) (a .padded .now) (paddedOf s)),
+      rw (c .refused-head .ensures) (refused-tells (c .before .before .reason .given .0 .0) (a .padded .now)
+          (paddedOf s)),
     )
 
 pub read-frame-spec : {M : Type 1} → statement M

@@ -45,7 +45,8 @@ returns-3 c =
     )
 
 abbrev bytes : tie.Else2 → List ℕ
-bytes e = start (e .before .before .before .before .before .before .before .before .before .before .before) .args .s .now
+bytes e =
+    start (e .before .before .before .before .before .before .before .before .before .before .before) .args .s .now
 
 returns-7 : tie.Need-returns-7
 returns-7 c =

@@ -37,11 +37,16 @@ returns c =
     let f = c .before .before in
     let r = f .before .before in
     let a = start r .args in
-    let found = pair-bytes (a .s .now) (a .at) (a .n) (f .first .given .1) (r .read-pair .ensures .0) (rowsOf prepareStmt)
+    let found = pair-bytes (a .s .now) (a .at) (a .n) (f .first .given .1) (r .read-pair .ensures .0)
+    (rowsOf prepareStmt)
     5 50 (c .if1 .taken) (omega arith) refl refl refl in
     let good = sym (ap (λ (x : Slots). x .good) found) in (
       λ id. ap (prepareRead (a .s .now) id) found,
-      (r .read-pair .ensures .1 ∙ or-same (a .padded .now) (pair-part (held f) (omega (arith, held-short (held f), c .if1 .taken))), good),
+      (
+        r .read-pair .ensures .1 ∙ or-same (a .padded .now)
+            (pair-part (held f) (omega (arith, held-short (held f), c .if1 .taken))),
+        good,
+      ),
     )
 
 returns-2 : tie.Need-returns-2
@@ -52,8 +57,10 @@ returns-2 c =
     let mid = r .read-pair .last .1 .1 .1 .0 in
     let flag = c .long-chosen .last .1 .1 .1 .0 in (
       subst (λ (l : List ℕ). Chooses l (a .at) (a .n) (c .long-chosen .result)) whole (c .long-chosen .ensures .0),
-      chosen-again (a .s .now) (a .at) (a .n) (c .long-chosen .result) (a .padded .now) mid flag (r .read-pair .ensures .1)
-          (subst (λ (l : List ℕ). TellsChosen l (a .at) (a .n) (c .long-chosen .result) mid flag) whole (c .long-chosen .ensures .1)),
+      chosen-again (a .s .now) (a .at) (a .n) (c .long-chosen .result) (a .padded .now) mid flag
+          (r .read-pair .ensures .1)
+          (subst (λ (l : List ℕ). TellsChosen l (a .at) (a .n) (c .long-chosen .result) mid flag) whole
+          (c .long-chosen .ensures .1)),
     )
 
 pub find-body-spec : {M : Type 1} → statement M

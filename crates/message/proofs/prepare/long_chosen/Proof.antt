@@ -14,7 +14,8 @@ held : (c : tie.After-fill-part) →
     let a = c .before .before .before .before .before .before .before .before .args in let l = c .fill-part in
     let m = l .last .1 .1 .1 .1 in
     Holds (embedded (rowsOf prepareStmt) (a .s .now) (a .at) (a .n)) (l .result) (m .0) (m .1 .0) (m .1 .1 .0)
-held c = rw (c .before .before .before .before .before .before .prepare-stmt-rows .ensures) at (c .fill-part .ensures .0)
+held c = rw (c .before .before .before .before .before .before .prepare-stmt-rows .ensures) at
+    (c .fill-part .ensures .0)
 
 returns : tie.Need-returns
 returns c =

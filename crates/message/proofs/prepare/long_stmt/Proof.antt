@@ -16,7 +16,8 @@ returns : tie.Need-returns
 returns c =
     let f = c .before in
     let s = rows f .before .before .args .s .now in (
-      prepare-refused s (rw (rows f .prepare-rows .ensures) at (f .fill-payload .ensures .0)) (not-true _ (c .if1 .taken)),
+      prepare-refused s (rw (rows f .prepare-rows .ensures) at (f .fill-payload .ensures .0))
+          (not-true _ (c .if1 .taken)),
       tt,
     )
 

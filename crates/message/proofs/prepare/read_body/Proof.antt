@@ -22,7 +22,8 @@ returns c =
 
 pub read-body-spec : {M : Type 1} → statement M
 read-body-spec = tie.close (tie.spec (λ c κs. search needs) (λ c. search needs)
-    (λ c. let t = c .before .before in let a = t .before .before .before .before .args in let x = told (a .s .now) (a .at)
+    (λ c. let t = c .before .before in let a = t .before .before .before .before .args in let x = told (a .s .now)
+    (a .at)
     (a .n) (c .enum-told .given .1) (t .read-text .ensures .0) in record { fits = omega (arith, x .0) })
     (λ c κs. search needs) returns (λ c. search needs)
     (λ c. sym (ap length (take-length (c .before .before .before .args .s .now)))) (λ c κs. search needs)

@@ -28,7 +28,8 @@ returns-2 c =
     let s = rows f .before .before .args .s .now in (
       rw (c .low .ensures)
           (named-held s Client.deallocate Request.Deallocate
-          (rw (rows f .deallocate-rows .ensures) at (f .fill-payload .ensures .0)) (not-false _ (c .before .if1 .left))),
+          (rw (rows f .deallocate-rows .ensures) at (f .fill-payload .ensures .0))
+          (not-false _ (c .before .if1 .left))),
       f .fill-payload .ensures .1,
     )
 

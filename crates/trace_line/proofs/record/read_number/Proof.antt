@@ -10,5 +10,6 @@ read-number-spec = tie.close (tie.spec (λ c κs. search needs) (λ c. search ne
     (λ c κs. search needs)
     (λ c. let r = c .before .before .before in let a = r .before .before .before .args in number-is (a .s .now) (a .at)
     (sym (c .before .value .given .1) ∙ r .read-varint .ensures .0))
-    (λ c. let r = c .before .before .before in let a = r .before .before .before .args in c .why-unended .ensures ∙ number-is
+    (λ c. let r = c .before .before .before in let a = r .before .before .before .args in c .why-unended .ensures
+    ∙ number-is
     (a .s .now) (a .at) (sym (c .before .enum-told .given .1) ∙ r .read-varint .ensures .0)))

@@ -90,12 +90,14 @@ module _ (t : ℕ) where
 
   group : (k : Inner) → Skipped (turn (k .before .before .before .before .before .before)) (k .skip-group .result)
   group k =
-      group-lent (turn (k .before .before .before .before .before .before)) (k .before .before .before .before .if2 .left)
+      group-lent (turn (k .before .before .before .before .before .before))
+      (k .before .before .before .before .if2 .left)
       (k .before .before .before .if4 .taken) (k .skip-group .ensures)
 
   value : (k : Valued) → Skipped (turn (k .before .before .before .before .before .before)) (k .skip-value .result)
   value k =
-      value-lent (turn (k .before .before .before .before .before .before)) (k .before .before .before .before .if2 .left)
+      value-lent (turn (k .before .before .before .before .before .before))
+      (k .before .before .before .before .if2 .left)
       (k .before .before .before .if4 .left) (k .skip-value .ensures)
 
 pub +skip-group-spec : {M : Type 1} → statement M

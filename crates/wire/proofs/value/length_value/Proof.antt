@@ -28,7 +28,8 @@ returns-2 c =
 returns-3 : tie.Need-returns-3
 returns-3 c =
     let r = c .before .before in (
-      ap (ofLength (r .before .before .before .args .s .now)) (sym (c .enum-told .given .1) ∙ r .read-varint .ensures .0),
+      ap (ofLength (r .before .before .before .args .s .now))
+          (sym (c .enum-told .given .1) ∙ r .read-varint .ensures .0),
       r .read-varint .ensures .1,
     )
 

@@ -10,7 +10,8 @@ use Rattle.wire.proofs.value.number_value.Tie as tie
 returns : tie.Need-returns
 returns c =
     let r = c .before .before .before in (
-      ap (ofVarint (r .before .before .before .args .at)) (sym (c .before .value .given .1) ∙ r .read-varint .ensures .0),
+      ap (ofVarint (r .before .before .before .args .at))
+          (sym (c .before .value .given .1) ∙ r .read-varint .ensures .0),
       r .read-varint .ensures .1,
     )
 

@@ -14,7 +14,8 @@ returns c =
     let t = c .before .before in
     let a = t .before .before .args in (
       c .number-value .ensures .0 ∙ value-number _ _ _ (t .if1 .taken),
-      c .number-value .ensures .1 ∙ or-same (a .padded .now) (number-flag (a .s .now) (a .wire) (a .at) (t .if1 .taken)),
+      c .number-value .ensures .1 ∙ or-same (a .padded .now)
+          (number-flag (a .s .now) (a .wire) (a .at) (t .if1 .taken)),
     )
 
 returns-2 : tie.Need-returns-2
@@ -34,7 +35,8 @@ returns-3 c =
     let a = t .before .before .before .before .args in (
       c .length-value .ensures .0
           ∙ value-length _ _ _ (t .before .before .if1 .left) (t .before .if2 .left) (t .if3 .taken),
-      c .length-value .ensures .1 ∙ or-same (a .padded .now) (length-flag (a .s .now) (a .wire) (a .at) (t .if3 .taken)),
+      c .length-value .ensures .1 ∙ or-same (a .padded .now)
+          (length-flag (a .s .now) (a .wire) (a .at) (t .if3 .taken)),
     )
 
 returns-4 : tie.Need-returns-4
