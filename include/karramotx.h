@@ -270,15 +270,16 @@ struct karramotx_next_frame karramotx_next_frame(struct karramotx_reader reader,
  * and so are nine bytes ff and one 7f for 2^64 - 1, though nothing shorter has that value. A padded number is good and
  * means what it would mean without padding.
  *
- * A look, a step and karramotx_read say `padded` if any varint that they read in the payload is. Use it to find clients
- * that write so, such as one that writes every id in five bytes: count the answers of a connection that say it, or log
- * the first. What counts:
+ * A look, an inspection, a step and karramotx_read say `padded` if any varint that they read in the payload is. Use it
+ * to find clients that write so, such as one that writes every id in five bytes: count the answers of a connection that
+ * say it, or log the first. What counts:
  *
  *     of every field, known or not, the tag, and the length or the number
  *     of a group, its start tag
  *     of a Prepare, its own fields and those of its statement
  *     of an Execute, its own fields and all that is read of its arguments
  *     of an Open, its own fields, those of its statement and of its Execute, and all that is read of the arguments
+ *     of the other five, their own fields
  *
  * What does not count: the rest of a group; the bytes inside a Prepare's body; and the bytes inside a part that is
  * skipped unread, which is an embedded message that a later occurrence of its field replaces, or a body, a scalar,
@@ -288,7 +289,8 @@ struct karramotx_next_frame karramotx_next_frame(struct karramotx_reader reader,
  *
  * Of a frame refused 1 to 6 they say false, whatever it holds: 3 in a step and 4 in a closed session are among these.
  * Of any other frame, refused or accepted, they say what was read. So a look and a step say the same, unless the step
- * is refused 3.
+ * is refused 3. karramotx_read knows of no session, and says false where the frame is refused by itself: 1, 2, 5 or 6.
+ * So in a closed session an inspection's look says false, and its message what was read.
  */
 
 /* The work that a frame wants of your engine. */

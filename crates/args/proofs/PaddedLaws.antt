@@ -1,6 +1,5 @@
 -- Whether the short ways for one field or two read a padded varint, step by step, and what that says of the whole
--- message.
--- Assumes nothing.
+-- message. Assumes nothing.
 use Prim.Native.Nat.{ℕ, _+_, _-_, _%_, _≤_, _<_}
 use native.Mathlib.Omega.{arith}
 use mathlib.Core.Bool.{Bool, true, false, cond, _||_}

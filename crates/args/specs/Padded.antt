@@ -1,6 +1,5 @@
 -- Padded arguments (W20): an Any's own fields, those of its scalar where its type chooses it, and those of the octets
--- or
--- the string where the Scalar's type chooses one. What a type does not choose is not read, and does not count.
+-- or the string where the Scalar's type chooses one. What a type does not choose is not read, and does not count.
 use Prim.Native.Nat.{ℕ, _+_}
 use mathlib.Core.Bool.{Bool, false, cond, _||_}
 use mathlib.Core.List.{List}
@@ -55,9 +54,10 @@ insideArgs s (Field.Good number wire value start len next) =
     cond (isArgs number wire value) (argumentPadded s start len) false
 insideArgs s Field.Bad = false
 
--- a message with arguments in n bytes of s from the place `at` on: its own fields, and all of its arguments
+-- a message with arguments, from the place `from` to the end of s: its own fields, and all of its arguments
 abbrev pub boundPadded : List ℕ → ℕ → Bool
 boundPadded s from = paddedList (insideArgs s) s from
 
+-- the same in n bytes of s from the place `at` on
 unfoldable pub executePadded : List ℕ → ℕ → ℕ → Bool
 executePadded s at n = cond (leb (at + n) (length s)) (boundPadded (take (at + n) s) at) false

@@ -1,4 +1,4 @@
--- Appending pads nothing (W20, C11): every varint of what is appended is the shortest.
+-- Appending pads nothing (W20, C14): every varint of what is appended is the shortest.
 use Prim.Native.Nat.{ℕ, _^_, _<_}
 use mathlib.Core.Path.{_≡_}
 use mathlib.Core.Bool.{true, false}

@@ -11,3 +11,4 @@ pub mod OuterLaws
 pub mod OneFieldLaws
 pub mod NestedLaws
 pub mod PaddedLaws
+pub mod PaddedSampleLaws

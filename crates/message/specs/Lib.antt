@@ -7,6 +7,7 @@ pub mod Execute
 pub mod Prepare
 pub mod Frame
 pub mod Padded
+pub mod PaddedSamples
 pub mod WithinRules
 pub mod UnreadRules
 pub mod private

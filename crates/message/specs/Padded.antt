@@ -30,10 +30,11 @@ ownPadded s = listPadded s payload
 abbrev pub preparePadded : List ℕ → Slots → Bool
 preparePadded s x = ownPadded s || slotPadded s x Fields.prepareStmt
 
--- an Open's statement in n bytes of s from the place `at` on
+-- by what an Open's statement holds
 abbrev pub openExecutePadded : List ℕ → Slots → Bool
 openExecutePadded s y = executePadded s (startOf y Fields.openExecute) (lenOf y Fields.openExecute)
 
+-- an Open's statement in n bytes of s from the place `at` on
 unfoldable pub openStmtPadded : List ℕ → ℕ → ℕ → Bool
 openStmtPadded s at n = partPadded s at n || openExecutePadded s (embedded (rowsOf openStmt) s at n)
 

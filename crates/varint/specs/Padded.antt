@@ -1,6 +1,5 @@
 -- Padded varints (W18): whether a varint has the bytes that are written for its number. The bytes count and not how
--- many
--- they are: nine bytes 255 and one 127 are padded, though the number has no shorter form.
+-- many they are: nine bytes 255 and one 127 are padded, though the number has no shorter form.
 use Prim.Native.Nat.{ℕ, _-_}
 use mathlib.Core.Bool.{Bool, true, false, not, _&&_}
 use mathlib.Core.List.{List, [], _∷_}

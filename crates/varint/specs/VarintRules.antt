@@ -19,11 +19,11 @@ ReadsBack =
 abbrev pub NoneShorter : Type 0
 NoneShorter = (s : List ℕ) (at v next : ℕ) → varintAt s at ≡ Number v next → at + length (varintBytes v) ≤ next
 
--- and is not padded (W18)
+-- what is written is not padded (W18)
 abbrev pub WrittenPlain : Type 0
 WrittenPlain = (v : ℕ) (p q : List ℕ) → v < 2 ^ 64 → paddedAt (p ++ varintBytes v ++ q) (length p) ≡ false
 
--- no other bytes of that number are not padded
+-- and of the bytes that read as a number only those are not padded
 abbrev pub OnlyWritten : Type 0
 OnlyWritten =
     (s : List ℕ) (at v next : ℕ) →

@@ -1,4 +1,4 @@
--- What is written is padded only where a stretch of arguments was handed in so (W20, C10): every varint that the writer
+-- What is written is padded only where a stretch of arguments was handed in so (W20, C14): every varint that the writer
 -- makes is the shortest.
 use Prim.Native.Nat.{ℕ}
 use mathlib.Core.Path.{_≡_}

@@ -63,7 +63,8 @@
 //!
 //! Of a frame refused as [`Refusal::NotAllThere`] to [`Refusal::BadPayload`], numbers 1 to 6, they say
 //! no; of any other, refused or accepted, what was read. So a look and a step say the same, unless the
-//! step is refused as [`Refusal::NoRoom`].
+//! step is refused as [`Refusal::NoRoom`]. A [`Message`] knows of no session: in a closed one the look
+//! of an inspection says no, and its message what was read.
 #![deny(missing_docs)]
 
 mod argument;
