@@ -1,9 +1,8 @@
 -- A frame as one struct, by its case, and what it says of padding. Assumes nothing.
 use Prim.Native.Nat.{ℕ}
-use mathlib.Core.Bool.{Bool, false, cond}
+use mathlib.Core.Bool.{Bool, false}
 use mathlib.Core.Path.{_≡_, refl, sym, ap, _∙_}
 use mathlib.Core.List.{List}
-use lib.Dec.{eqb}
 use Rattle.protocol.specs.Reason as Reason
 use Rattle.message.specs.Frame.{frameOf}
 use Rattle.message.specs.Padded.{whereGood, paddedOf}
@@ -11,6 +10,7 @@ use Rattle.message.specs.private.Marks.{Tells}
 use Rattle.message.specs.declared.request.Request.{Request}
 use Rattle.message.specs.declared.request.Frame.{Frame}
 use Rattle.message.specs.declared.request.Frame.the-variants.{NotAllThere, BadLength, UnknownType, BadPayload, Good}
+use Rattle.rules.specs.Step.{said}
 use Rattle.keeper.proofs.PaddedLaws.{flag-says}
 use Rattle.karramotx.specs.Message.{messageOf, messageSays, messageAt}
 use Rattle.karramotx.specs.declared.told.Message.{Message}
@@ -23,11 +23,8 @@ as-request used e = ap (λ x. messageOf (Frame.Good used x)) (sym e)
 
 -- ---- padding
 
--- a frame that is refused says no, any other what was read
-abbrev pub saidBy : ℕ → Bool → Bool
-saidBy reason padded = cond (eqb reason Reason.accepted) padded false
-
-pub where-said : (x : Frame) (padded : Bool) → saidBy (messageOf x .reason) padded ≡ whereGood x padded
+-- a frame that is refused by itself says no, any other what was read
+pub where-said : (x : Frame) (padded : Bool) → said (messageOf x .reason) padded ≡ whereGood x padded
 where-said NotAllThere padded = refl
 where-said BadLength padded = refl
 where-said (UnknownType used) padded = refl
@@ -42,13 +39,26 @@ unsaid (UnknownType used) = refl
 unsaid (BadPayload used kind) = refl
 unsaid (Good used q) = refl
 
+-- by its reason
+refused-none : (x : Frame) (padded : Bool) → (messageOf x .reason ≡ Reason.accepted → ⊥) → false ≡ whereGood x padded
+refused-none NotAllThere padded some = refl
+refused-none BadLength padded some = refl
+refused-none (UnknownType used) padded some = refl
+refused-none (BadPayload used kind) padded some = refl
+refused-none (Good used q) padded some = absurd (some refl)
+
 module _ (s : List ℕ) {x : Frame} (flag : Bool) (e : x ≡ frameOf s) (t : Tells x flag (paddedOf s)) {m : Message}
     (f : m ≡ messageOf x) where
-  pub read-says : {b : Bool} → b ≡ saidBy (m .reason) flag → messageSays b m ≡ messageAt s
-  read-says h =
-      ap (λ (b : Bool). messageSays b m)
-      (h ∙ ap (λ y. saidBy (y .reason) flag) f ∙ where-said x flag ∙ flag-says s x flag e t)
+  says : {b : Bool} → b ≡ whereGood x flag → messageSays b m ≡ messageAt s
+  says h =
+      ap (λ (b : Bool). messageSays b m) (h ∙ flag-says s x flag e t)
       ∙ ap (messageSays (paddedOf s)) (f ∙ ap messageOf e)
 
-  pub refused-says : false ≡ saidBy (m .reason) flag → m ≡ messageAt s
-  refused-says h = ap (λ (b : Bool). messageSays b m) (ap (λ y. y .padded) f ∙ unsaid x) ∙ read-says h
+  pub read-says : m .reason ≡ Reason.accepted → messageSays flag m ≡ messageAt s
+  read-says h =
+      says (ap (λ n. said n flag) (sym h) ∙ ap (λ y. said (y .reason) flag) f ∙ where-said x flag)
+
+  pub refused-says : (m .reason ≡ Reason.accepted → ⊥) → m ≡ messageAt s
+  refused-says some =
+      ap (λ (b : Bool). messageSays b m) (ap (λ y. y .padded) f ∙ unsaid x)
+      ∙ says (refused-none x flag (λ z. some (ap (λ y. y .reason) f ∙ z)))

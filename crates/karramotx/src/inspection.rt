@@ -28,7 +28,7 @@ pub fn inspect(session: &[u32; WORDS], frame: Frame, padded: bool) -> Inspection
 {
     let found = keeper::inspect::inspect(session, frame);
     let mut message = told::message_of(frame);
-    message.padded = told::said(message.reason, padded);
+    message.padded = keeper::padded::said(message.reason, padded);
     let mut look = found.look;
     look.padded = keeper::padded::said(look.reason, message.padded);
     let touches = found.touches;

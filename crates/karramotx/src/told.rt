@@ -1,8 +1,5 @@
 // A frame as one struct, for hosts that have no enum.
 ghost use mathlib.Core.Path.{_≡_};
-ghost use mathlib.Core.Bool.{cond, false};
-ghost use lib.Dec.{eqb};
-ghost use Rattle.protocol.specs.Reason as Reason;
 ghost use Rattle.message.specs.declared.request.Frame.{Frame};
 ghost use Rattle.message.specs.declared.request.Request.{Request};
 ghost use Rattle.karramotx.specs.Message.{argsTold, blank, messageOf, refused};
@@ -48,16 +45,6 @@ pub struct Args {
     pub index: usize,
     pub start: usize,
     pub end: usize,
-}
-
-// What a message says of padding: a frame that is refused says no, any other what was read.
-pub fn said(reason: u64, padded: bool) -> bool
-    ensures { λ r. ⌜ r ≡ cond (eqb reason Reason.accepted) padded false ⌝ }
-{
-    if reason != reason::ACCEPTED {
-        return false;
-    }
-    padded
 }
 
 // Nothing is said of padding yet.

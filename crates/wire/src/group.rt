@@ -28,7 +28,7 @@ fn skip_value(s: &[u8], wire: u64, at: usize, unread: &mut bool) -> Skip
 
 // Skips the group `number`, whose start tag ends at `at`, with at most `depth` groups one in another,
 // itself among them.
-pub fn skip_group(s: &[u8], at: usize, number: u64, depth: u64, unread: &mut bool) -> Skip
+pub(crate) fn skip_group(s: &[u8], at: usize, number: u64, depth: u64, unread: &mut bool) -> Skip
     ensures { λ r. ⌜ r ≡ groupEnd depth (now (s .entry)) at number ⌝ }
 {
     if depth == 0 {

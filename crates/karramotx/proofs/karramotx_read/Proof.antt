@@ -1,9 +1,5 @@
 -- `karramotx::karramotx_read` meets its contract: what was read is told. Assumes nothing.
 use borrow.Author.Needs.{needs}
-use borrow.Author.Tests.{eq-eqb, ne-eqb}
-use mathlib.Core.Bool.{Bool, false}
-use Rattle.prelude.proofs.Cases.{yes, no as without}
-use Rattle.protocol.specs.Reason as Reason
 use Rattle.karramotx.proofs.MessageLaws.{read-says, refused-says}
 use Rattle.karramotx.proofs.karramotx_read.Statement.{statement}
 use Rattle.karramotx.proofs.karramotx_read.Tie as tie
@@ -14,7 +10,7 @@ returns c =
     let f = m .before in
     let read = f .read-frame .ensures in
     refused-says (f .before .before .before .args .frame .now) _ (read .0) (read .1) (m .message-of .ensures)
-    (without _ false (ne-eqb (m .message-of .result .reason) Reason.accepted (c .if1 .taken)))
+    (c .if1 .taken)
 
 returns-2 : tie.Need-returns-2
 returns-2 c =
@@ -22,7 +18,7 @@ returns-2 c =
     let f = m .before in
     let read = f .read-frame .ensures in
     read-says (f .before .before .before .args .frame .now) _ (read .0) (read .1) (m .message-of .ensures)
-    (yes _ false (eq-eqb (m .message-of .result .reason) Reason.accepted (c .if1 .left)))
+    (c .if1 .left)
 
 pub karramotx-read-spec : {M : Type 1} → statement M
 karramotx-read-spec = tie.close (tie.spec (λ c κs. search needs) (λ c κs. search needs) returns returns-2)

@@ -10,7 +10,7 @@ use Rattle.keeper.proofs.PaddedLaws.{lookWith}
 use Rattle.karramotx.specs.declared.told.Message.{Message}
 use Rattle.karramotx.specs.declared.inspection.Inspection.{Inspection}
 use Rattle.karramotx.specs.Message.{messageSays}
-use Rattle.karramotx.proofs.MessageLaws.{saidBy, where-said}
+use Rattle.karramotx.proofs.MessageLaws.{where-said}
 use Rattle.karramotx.proofs.inspection.inspect.Statement.{statement}
 use Rattle.karramotx.proofs.inspection.inspect.Tie as tie
 
@@ -35,7 +35,7 @@ returns c =
     let a = m .before .before .args in
     let f = m .before .inspect .ensures in
     let read = m .message-of .ensures in
-    let says = p .said .ensures ∙ ap (λ y. saidBy (y .reason) (a .padded)) read ∙ where-said (a .frame) (a .padded) in
+    let says = p .said .ensures ∙ ap (λ y. said (y .reason) (a .padded)) read ∙ where-said (a .frame) (a .padded) in
     together _ _ (look-with (f .0) (d .said2 .ensures) says)
     (ap (λ (b : Bool). messageSays b (m .message-of .result)) says
     ∙ ap (messageSays (whereGood (a .frame) (a .padded))) read)
