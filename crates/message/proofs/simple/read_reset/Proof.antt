@@ -9,23 +9,16 @@ use borrow.Author.Needs.{needs}
 use Rattle.message.proofs.simple.read_reset.Statement.{statement}
 use Rattle.message.proofs.simple.read_reset.Tie as tie
 
-returns : tie.Need-returns
+pub read-reset-spec : {M : Type 1} → statement M
 unfolding resetFrame
-returns c =
-    let p = c .before in (
+read-reset-spec = tie.close (tie.spec (λ c κs. search needs)
+    (λ c. let p = c .before in (
       payload-bad (p .before .before .before .args .s .now) Client.reset Request.Reset
           (sym (p .is-plain .ensures .0) ∙ not-true _ (c .if1 .taken)),
       tt,
-    )
-
-returns-2 : tie.Need-returns-2
-unfolding resetFrame
-returns-2 c =
-    let p = c .before in (
+    ))
+    (λ c. let p = c .before in (
       payload-good (p .before .before .before .args .s .now) Client.reset Request.Reset
           (sym (p .is-plain .ensures .0) ∙ not-false _ (c .if1 .left)),
       p .is-plain .ensures .1,
-    )
-
-pub read-reset-spec : {M : Type 1} → statement M
-read-reset-spec = tie.close (tie.spec (λ c κs. search needs) returns returns-2)
+    )))

@@ -9,23 +9,16 @@ use borrow.Author.Needs.{needs}
 use Rattle.message.proofs.simple.read_session_close.Statement.{statement}
 use Rattle.message.proofs.simple.read_session_close.Tie as tie
 
-returns : tie.Need-returns
+pub read-session-close-spec : {M : Type 1} → statement M
 unfolding sessionCloseFrame
-returns c =
-    let p = c .before in (
+read-session-close-spec = tie.close (tie.spec (λ c κs. search needs)
+    (λ c. let p = c .before in (
       payload-bad (p .before .before .before .args .s .now) Client.sessionClose Request.SessionClose
           (sym (p .is-plain .ensures .0) ∙ not-true _ (c .if1 .taken)),
       tt,
-    )
-
-returns-2 : tie.Need-returns-2
-unfolding sessionCloseFrame
-returns-2 c =
-    let p = c .before in (
+    ))
+    (λ c. let p = c .before in (
       payload-good (p .before .before .before .args .s .now) Client.sessionClose Request.SessionClose
           (sym (p .is-plain .ensures .0) ∙ not-false _ (c .if1 .left)),
       p .is-plain .ensures .1,
-    )
-
-pub read-session-close-spec : {M : Type 1} → statement M
-read-session-close-spec = tie.close (tie.spec (λ c κs. search needs) returns returns-2)
+    )))

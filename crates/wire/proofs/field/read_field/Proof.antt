@@ -1,15 +1,17 @@
 -- `wire::field::read_field` meets its contract: a tag of one byte is judged by that byte; the rest goes the long way.
 -- Assumes nothing.
 use borrow.Author.Needs.{needs}
-use Prim.Native.Nat.{ℕ, _/_}
+use Prim.Native.Nat.{ℕ, _+_, _/_, _%_, _<_}
 use native.Mathlib.Omega.{arith}
-use mathlib.Core.Path.{sym, ap, _∙_}
+use mathlib.Core.Bool.{Bool, _||_}
+use mathlib.Core.Path.{_≡_, sym, ap, _∙_}
 use mathlib.Core.List.{List}
 use lib.ListN.{length}
 use lib.Seq.{take-length}
 use Rattle.prelude.proofs.OrLaws.{or-none, or-same}
-use Rattle.wire.specs.Field.{ofValue, fieldAt}
-use Rattle.wire.specs.Padded.{fieldPadded}
+use Rattle.wire.specs.Field.{ofValue, fieldOf, fieldAt}
+use Rattle.wire.specs.Padded.{fieldPadded, valuePadded}
+use Rattle.wire.specs.declared.field.Field.{Field}
 use Rattle.wire.proofs.FieldLaws.{quick-none, quick-low, quick-wire}
 use Rattle.wire.proofs.PaddedLaws.{quick-flag-none, quick-flag-low, quick-flag}
 use Rattle.wire.proofs.field.read_field.Statement.{statement}
@@ -36,41 +38,35 @@ returns-2 c =
           (quick-flag-low (a .s .now) (a .at) (b .result) inside (b .ensures) (omega arith) (c .if2 .taken)),
     )
 
-returns-3 : tie.Need-returns-3
-returns-3 c =
-    let t = c .before .before .before in
-    let h = t .before in
+-- a byte that is a tag, by its wire type: what is behind it is the field, and is all that may be padded
+by-wire : (h : tie.Then3) (wire : ℕ) → h .before .before .wide .result % 8 ≡ wire → wire < 6 → {r : Field} {now : Bool} →
+    let a = start (h .before .before) .args in
+    r ≡ fieldOf (a .s .now) (h .before .before .wide .result / 8) wire (a .at + 1) →
+    now ≡ (a .padded .now || valuePadded (a .s .now) wire (a .at + 1)) →
+    (r ≡ fieldAt (a .s .now) (a .at)) × (now ≡ (a .padded .now || fieldPadded (a .s .now) (a .at)))
+by-wire h wire e small is told =
     let w = h .before .before in
     let a = start w .args in
     let b = w .wide in
     let inside = w .before .before .if1 .left in (
-      c .valued .ensures
-          ∙ ap (ofValue (b .result / 8) 0) (c .before .number-value .ensures .0)
-          ∙ quick-wire (a .s .now) (a .at) (b .result) inside (b .ensures) (h .if3 .taken) 0 (h .before .if2 .left)
-          (t .if4 .taken) (omega arith),
-      c .before .number-value .ensures .1
-          ∙ or-same (a .padded .now)
-          (quick-flag (a .s .now) (a .at) (b .result) inside (b .ensures) (h .if3 .taken) 0 (h .before .if2 .left)
-          (t .if4 .taken) (omega arith)),
+      is ∙ quick-wire (a .s .now) (a .at) (b .result) inside (b .ensures) (h .if3 .taken) wire (h .before .if2 .left) e
+          small,
+      told ∙ or-same (a .padded .now)
+          (quick-flag (a .s .now) (a .at) (b .result) inside (b .ensures) (h .if3 .taken) wire (h .before .if2 .left) e
+          small),
     )
+
+returns-3 : tie.Need-returns-3
+returns-3 c =
+    let t = c .before .before .before in
+    let v = c .before .number-value .ensures in
+    by-wire (t .before) 0 (t .if4 .taken) (omega arith) (c .valued .ensures ∙ ap (ofValue _ 0) (v .0)) (v .1)
 
 returns-4 : tie.Need-returns-4
 returns-4 c =
     let t = c .before .before .before in
-    let h = t .before .before in
-    let w = h .before .before in
-    let a = start w .args in
-    let b = w .wide in
-    let inside = w .before .before .if1 .left in (
-      c .valued2 .ensures
-          ∙ ap (ofValue (b .result / 8) 2) (c .before .length-value .ensures .0)
-          ∙ quick-wire (a .s .now) (a .at) (b .result) inside (b .ensures) (h .if3 .taken) 2 (h .before .if2 .left)
-          (t .if5 .taken) (omega arith),
-      c .before .length-value .ensures .1
-          ∙ or-same (a .padded .now)
-          (quick-flag (a .s .now) (a .at) (b .result) inside (b .ensures) (h .if3 .taken) 2 (h .before .if2 .left)
-          (t .if5 .taken) (omega arith)),
-    )
+    let v = c .before .length-value .ensures in
+    by-wire (t .before .before) 2 (t .if5 .taken) (omega arith) (c .valued2 .ensures ∙ ap (ofValue _ 2) (v .0)) (v .1)
 
 returns-5 : tie.Need-returns-5
 returns-5 c =

@@ -1,9 +1,11 @@
 -- A tag of one byte is judged by that byte; the rest goes the long way.
 use Prim.Native.Nat.{_≤_}
-use mathlib.Core.Path.{sym, ap, _∙_}
+use mathlib.Core.Bool.{_||_}
+use mathlib.Core.Path.{_≡_, sym, ap, _∙_}
 use lib.ListN.{length, getD}
 use lib.Seq.{take-length}
 use Rattle.prelude.proofs.OrLaws.{or-none, or-same}
+use Rattle.varint.specs.Padded.{paddedAt}
 use Rattle.varint.proofs.FlagLaws.{padded-none, behind-answer, behind-flag}
 use Rattle.wire.specs.Tag.{tagOf}
 use Rattle.wire.proofs.FieldLaws.{short-low, short-unlisted, short-good}
@@ -35,36 +37,43 @@ returns-2 c =
 abbrev start : tie.Else2 → tie.Start
 start e = e .before .before .before .before .before
 
+-- a byte below 128 is not padded
+plain : (e : tie.Else2) → start e .args .padded .now
+    ≡ (start e .args .padded .now || paddedAt (start e .args .s .now) (start e .args .at))
+plain e =
+    let a = start e .args in
+    let b = e .before .wide in
+    or-none (a .padded .now)
+    (one-flag (a .s .now) (a .at) (b .result) (e .before .before .before .if1 .left) (b .ensures) (e .if2 .left))
+
 returns-3 : tie.Need-returns-3
 returns-3 c =
     let e = c .before in
     let a = start e .args in
-    let b = e .before .wide in
-    let inside = e .before .before .before .if1 .left in (
-      short-low (a .s .now) (a .at) (b .result) inside (b .ensures) (e .if2 .left) (c .if3 .taken),
-      or-none (a .padded .now) (one-flag (a .s .now) (a .at) (b .result) inside (b .ensures) (e .if2 .left)),
+    let b = e .before .wide in (
+      short-low (a .s .now) (a .at) (b .result) (e .before .before .before .if1 .left) (b .ensures) (e .if2 .left)
+          (c .if3 .taken),
+      plain e,
     )
 
 returns-4 : tie.Need-returns-4
 returns-4 c =
     let e = c .before .before in
     let a = start e .args in
-    let b = e .before .wide in
-    let inside = e .before .before .before .if1 .left in (
-      short-unlisted (a .s .now) (a .at) (b .result) inside (b .ensures) (e .if2 .left) (c .before .if3 .left)
-          (c .if4 .taken),
-      or-none (a .padded .now) (one-flag (a .s .now) (a .at) (b .result) inside (b .ensures) (e .if2 .left)),
+    let b = e .before .wide in (
+      short-unlisted (a .s .now) (a .at) (b .result) (e .before .before .before .if1 .left) (b .ensures) (e .if2 .left)
+          (c .before .if3 .left) (c .if4 .taken),
+      plain e,
     )
 
 returns-5 : tie.Need-returns-5
 returns-5 c =
     let e = c .before .before in
     let a = start e .args in
-    let b = e .before .wide in
-    let inside = e .before .before .before .if1 .left in (
-      short-good (a .s .now) (a .at) (b .result) inside (b .ensures) (e .if2 .left) (c .before .if3 .left)
-          (c .if4 .left),
-      or-none (a .padded .now) (one-flag (a .s .now) (a .at) (b .result) inside (b .ensures) (e .if2 .left)),
+    let b = e .before .wide in (
+      short-good (a .s .now) (a .at) (b .result) (e .before .before .before .if1 .left) (b .ensures) (e .if2 .left)
+          (c .before .if3 .left) (c .if4 .left),
+      plain e,
     )
 
 pub read-tag-spec : {M : Type 1} → statement M
