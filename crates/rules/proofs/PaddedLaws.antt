@@ -9,7 +9,6 @@ use lib.ListN.{length}
 use lib.Dec.{eqb, leb}
 use borrow.Author.Tests.{eqb-true, le-leb, le-ltb, lt-leb, not-true}
 use Rattle.prelude.proofs.Cases.{both, no}
-use Rattle.protocol.specs.Reason as Reason
 use Rattle.message.specs.Frame.{frameOf}
 use Rattle.message.specs.Padded.{paddedOf}
 use Rattle.message.specs.declared.request.Frame.{Frame}
@@ -17,7 +16,7 @@ use Rattle.session.specs.Session.{Session}
 use Rattle.reply.specs.ReplyRules.{minBuffer}
 use Rattle.rules.specs.declared.Report.{Report}
 use Rattle.rules.specs.Refusal.{lookReason, reportReason, stepReason}
-use Rattle.rules.specs.Step.{saysNo, said, lookAt}
+use Rattle.rules.specs.Step.{firstNo, lastNo, saysNo, said, lookAt}
 use Rattle.rules.specs.PaddedRules.{Says, LookSays, StepSays, SaysAlike}
 use Rattle.rules.proofs.RefusalLaws.{report-passes}
 use Rattle.rules.proofs.LookLaws.{look-reason, step-reason}
@@ -32,11 +31,11 @@ said-read reason padded e = sym (no false padded e)
 says : (frame : List ℕ) (reason : ℕ) → Says frame reason (said reason (paddedOf frame))
 says frame reason =
     record {
-      no = λ low high. rw (le-leb Reason.notAllThere reason low, le-leb reason Reason.badPayload high);
+      no = λ low high. rw (le-leb firstNo reason (omega arith), le-leb reason lastNo (omega arith));
       accepted = λ e. ap (λ n. said n (paddedOf frame)) e;
       later = λ h.
           said-read reason (paddedOf frame) (rw
-          (le-leb Reason.notAllThere reason (omega arith), lt-leb reason Reason.badPayload h));
+          (le-leb firstNo reason (omega arith), lt-leb reason lastNo (omega arith)));
     }
 
 pub look-says : LookSays

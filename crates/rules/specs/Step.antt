@@ -67,9 +67,15 @@ stepOn s x r buffer = cond (short buffer) (tooShort s buffer) (stepBy x buffer (
 
 -- ---- what is said of padding
 
--- "A frame refused 1 to 6 says no"
+-- "A frame refused 1 to 6 says no": the first and the last of these
+abbrev pub firstNo : ℕ
+firstNo = Reason.notAllThere
+
+abbrev pub lastNo : ℕ
+lastNo = Reason.badPayload
+
 abbrev pub saysNo : ℕ → Bool
-saysNo reason = leb Reason.notAllThere reason && leb reason Reason.badPayload
+saysNo reason = leb firstNo reason && leb reason lastNo
 
 abbrev pub said : ℕ → Bool → Bool
 said reason padded = cond (saysNo reason) false padded

@@ -39,7 +39,8 @@ returns-2 c =
     )
 
 -- a byte that is a tag, by its wire type: what is behind it is the field, and is all that may be padded
-by-wire : (h : tie.Then3) (wire : ℕ) → h .before .before .wide .result % 8 ≡ wire → wire < 6 → {r : Field} {now : Bool} →
+by-wire : (h : tie.Then3) (wire : ℕ) → h .before .before .wide .result % 8 ≡ wire → wire < 6 →
+    {r : Field} {now : Bool} →
     let a = start (h .before .before) .args in
     r ≡ fieldOf (a .s .now) (h .before .before .wide .result / 8) wire (a .at + 1) →
     now ≡ (a .padded .now || valuePadded (a .s .now) wire (a .at + 1)) →
