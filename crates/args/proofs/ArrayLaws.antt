@@ -10,7 +10,7 @@ use Rattle.layout.specs.Table.{rowsOf, any, scalar, bytes}
 use Rattle.layout.specs.private.Arrays.{once, Holds, fromArrays, inArrays}
 use Rattle.layout.specs.declared.slots.Slots.{Slots}
 use Rattle.layout.proofs.ArrayLaws.{holds-arrays, same-absent, bytes-long-to}
-use Rattle.args.specs.Part.{embedded, valueOf, lenOf, low32}
+use Rattle.layout.specs.Part.{embedded, valueOf, lenOf, low32}
 use Rattle.args.specs.Value.{bad, present, bytesOf, bytesIn, ofType, scalarOf, scalarIn, ofAnyType, anyOf}
 use Rattle.args.specs.Value.{argumentIn}
 use Rattle.args.proofs.ValueLaws.{bytes-bad, scalar-bad, any-bad}

@@ -20,7 +20,7 @@ use Rattle.layout.specs.declared.slots.Slots.{Slots}
 use Rattle.layout.specs.declared.fields.Use.{Use}
 use Rattle.layout.proofs.CountLaws.{noted-length}
 use Rattle.layout.proofs.FieldsLaws as Fields
-use Rattle.args.specs.Part.{embedded, valueOf}
+use Rattle.layout.specs.Part.{embedded, valueOf}
 use Rattle.args.specs.Value.{argumentIn}
 use Rattle.args.specs.Arguments.{nextArgument, argumentsAt, anyTypeOf, noArguments, badArguments, withType}
 use Rattle.args.specs.Arguments.{argumentsIn, isArgs}
@@ -33,7 +33,7 @@ use Rattle.args.specs.declared.arguments.NextArgument.{NextArgument}
 use Rattle.args.specs.declared.bound.Own.{Own}
 use Rattle.args.specs.declared.bound.Bound.{Bound}
 use Rattle.args.proofs.ArgsFieldLaws.{args-field}
-use Rattle.args.proofs.PartLaws.{part-within}
+use Rattle.layout.proofs.PartLaws.{part-within}
 use Rattle.args.proofs.PlaceLaws as Place
 use Rattle.args.proofs.EnoughLaws.{next-skips}
 use Rattle.args.proofs.ArgumentsLaws.{Walking}

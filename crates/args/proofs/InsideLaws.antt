@@ -16,10 +16,11 @@ use Rattle.layout.specs.Row.{rowFor}
 use Rattle.layout.specs.Fields.{hasRequired}
 use Rattle.layout.specs.private.Arrays.{Holds, fromArrays, inArrays}
 use Rattle.layout.specs.declared.slots.Slots.{Slots}
-use Rattle.args.specs.Part.{embedded, valueOf, startOf, lenOf, low32}
+use Rattle.layout.specs.Part.{embedded, valueOf, startOf, lenOf, low32}
 use Rattle.args.specs.Value.{scalarOf, scalarIn, anyOf, argumentIn}
 use Rattle.args.specs.Arguments.{anyTypeOf}
-use Rattle.args.specs.Padded.{partPadded, bytesPadded, insideScalar, scalarPadded, insideAny, argumentPadded}
+use Rattle.layout.specs.Padded.{partPadded}
+use Rattle.args.specs.Padded.{bytesPadded, insideScalar, scalarPadded, insideAny, argumentPadded}
 use Rattle.args.specs.private.Pair.{loneIn, pairPadded}
 use Rattle.args.proofs.ArrayLaws.{arrays-good, octets-long, string-long, scalar-long}
 use Rattle.args.proofs.PairLaws.{lone-kept, pair-kept, pair-bytes}

@@ -26,13 +26,13 @@ use Rattle.layout.specs.Slots.{badSlots}
 use Rattle.layout.specs.Fields.{hasRequired, checked, fieldList, fieldsAt}
 use Rattle.layout.specs.declared.slots.Slots.{Slots}
 use Rattle.layout.proofs.AlikeLaws.{Alike, alike-as, fields-alike}
-use Rattle.args.specs.Part.{embedded, countOf, valueOf, startOf, lenOf, low32}
+use Rattle.layout.specs.Part.{embedded, countOf, valueOf, startOf, lenOf, low32}
 use Rattle.args.specs.Value.{bad, present, bytesOf, bytesIn, ofType, scalarOf, ofAnyType, anyOf, argumentIn}
 use Rattle.args.specs.Arguments.{argPlace, ofPlace, nextArgument, andMore, argumentsFrom}
 use Rattle.args.specs.Moved.{moved}
 use Rattle.args.specs.declared.arguments.ArgPlace.{ArgPlace}
 use Rattle.args.specs.declared.arguments.NextArgument.{NextArgument}
-use Rattle.args.proofs.PartLaws.{part-within}
+use Rattle.layout.proofs.PartLaws.{part-within}
 use Rattle.args.proofs.PlaceLaws.{Seeking, starts, ends, no-field, advances, found, other-wire, other-number}
 use Rattle.args.proofs.PlaceLaws.{next-end, next-placed}
 use Rattle.args.proofs.ArgumentsLaws.{from-none, advances as next-advances}

@@ -14,15 +14,15 @@ use Rattle.layout.specs.Table.{rowsOf, any, scalar}
 use Rattle.layout.specs.Row.{isRepeated, rowFor}
 use Rattle.layout.specs.Slots.{noSlots}
 use Rattle.layout.specs.Fields.{hasRequired, checked}
-use Rattle.layout.specs.Padded.{nothingInside, paddedTo}
+use Rattle.layout.specs.Padded.{nothingInside, paddedTo, partPadded}
 use Rattle.layout.specs.declared.slots.Slots.{Slots}
 use Rattle.layout.proofs.FieldsLaws.{from-end}
 use Rattle.layout.proofs.AlikeLaws.{Alike}
 use Rattle.layout.proofs.AbsentLaws.{Absent, bad-absent, fields-absent}
 use Rattle.layout.proofs.PaddedLaws.{flag-end, padded-outside, padded-inside}
 use Rattle.layout.proofs.MovedFlagLaws.{to-flag-moved}
-use Rattle.args.specs.Part.{embedded, valueOf, startOf, lenOf, low32}
-use Rattle.args.specs.Padded.{partPadded, bytesPadded, insideScalar, scalarPadded, insideAny}
+use Rattle.layout.specs.Part.{embedded, valueOf, startOf, lenOf, low32}
+use Rattle.args.specs.Padded.{bytesPadded, insideScalar, scalarPadded, insideAny}
 use Rattle.args.specs.Padded.{argumentPadded}
 use Rattle.args.proofs.MovedArgLaws.{embedded-alike}
 use Rattle.args.proofs.InsideLaws.{scalar-in, scalar-inside-bad}

@@ -20,18 +20,17 @@ use Rattle.wire.proofs.FieldLaws.{quick-low}
 use Rattle.wire.proofs.PaddedLaws.{quick-flag, no-flag}
 use Rattle.layout.specs.Slots.{noSlots, badSlots}
 use Rattle.layout.specs.Fields.{useOf, fieldList, fieldsAt, checked, hasRequired}
-use Rattle.layout.specs.Padded.{onward, paddedFrom, nothingInside, listPadded}
+use Rattle.layout.specs.Padded.{onward, paddedFrom, nothingInside, listPadded, partPadded}
 use Rattle.layout.specs.declared.slots.Slots.{Slots}
 use Rattle.layout.proofs.FieldsLaws as Fields
 use Rattle.layout.proofs.PaddedLaws.{Marking, marks, marks-on, marked, flag-turn, padded-inside, padded-outside}
-use Rattle.args.specs.Part.{embedded}
-use Rattle.args.specs.Padded.{partPadded}
+use Rattle.layout.specs.Part.{embedded}
 use Rattle.args.specs.private.Pair.{pairIn, pairFlag, pairPadded, textIn, textFlag, textPadded, loneIn}
 use Rattle.args.specs.declared.pair.Pair.{Pair}
 use Rattle.args.specs.declared.pair.Text.{Text}
 use Rattle.args.proofs.PairLaws.{FieldOne, TwoFields, field-one, field-two, wire-low, lone-filled}
 use Rattle.args.proofs.PairLaws as Two
-use Rattle.args.proofs.PartLaws.{part-within}
+use Rattle.layout.proofs.PartLaws.{part-within}
 use Rattle.args.proofs.TextLaws.{Filled}
 use Rattle.args.proofs.TextLaws as Alone
 use Rattle.args.proofs.ScalarLaws.{Held}

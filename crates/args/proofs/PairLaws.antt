@@ -22,10 +22,10 @@ use Rattle.layout.specs.Fields.{useOf, noted, fieldList, checked}
 use Rattle.layout.specs.declared.slots.Slots.{Slots}
 use Rattle.layout.specs.declared.fields.Use.{Use}
 use Rattle.layout.proofs.FieldsLaws.{kept-slot, starts, goes-on, ends}
-use Rattle.args.specs.Part.{embedded}
+use Rattle.layout.specs.Part.{embedded}
 use Rattle.args.specs.private.Pair.{pairOf, pairAt, pairIn, loneIn}
 use Rattle.args.specs.declared.pair.Pair.{Pair}
-use Rattle.args.proofs.PartLaws.{part-within}
+use Rattle.layout.proofs.PartLaws.{part-within}
 
 -- ---- a number or a length of one byte
 

@@ -15,7 +15,7 @@ use Rattle.layout.specs.Table.{rowsOf, any, scalar}
 use Rattle.layout.specs.Row.{rowFor}
 use Rattle.layout.specs.Fields.{hasRequired}
 use Rattle.args.specs.private.Pair.{loneIn, pairIn}
-use Rattle.args.specs.Part.{low32}
+use Rattle.layout.specs.Part.{low32}
 use Rattle.args.specs.Value.{bytesIn, ofType, scalarOf, scalarIn, ofAnyType, anyOf, argumentIn}
 use Rattle.args.specs.declared.pair.Pair.{Pair}
 use Rattle.args.proofs.PairLaws.{lone-kept, named-short, pair-kept, pair-bytes}

@@ -18,11 +18,11 @@ use Rattle.layout.specs.Slots.{noSlots}
 use Rattle.layout.specs.Fields.{useOf, noted, checked}
 use Rattle.layout.specs.declared.fields.Use.{Use}
 use Rattle.layout.proofs.FieldsLaws.{starts, goes-on, ends}
-use Rattle.args.specs.Part.{embedded}
+use Rattle.layout.specs.Part.{embedded}
 use Rattle.args.specs.Arguments.{noArguments, argumentsIn}
 use Rattle.args.specs.private.Pair.{textOf, textAt, textIn}
 use Rattle.args.specs.declared.pair.Text.{Text}
-use Rattle.args.proofs.PartLaws.{part-within}
+use Rattle.layout.proofs.PartLaws.{part-within}
 use Rattle.args.proofs.PlaceLaws as Place
 use Rattle.args.proofs.ArgumentsLaws.{none-left}
 use Rattle.args.proofs.ArgumentsLaws as Walk

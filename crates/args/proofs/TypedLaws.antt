@@ -12,7 +12,7 @@ use Rattle.scalar.specs.declared.argument.Argument.{Argument}
 use Rattle.scalar.specs.declared.argument.Argument.the-variants as Va
 use Rattle.scalar.proofs.ArgumentLaws.{floats-typed}
 use Rattle.layout.specs.declared.slots.Slots.{Slots}
-use Rattle.args.specs.Part.{embedded, countOf, valueOf, startOf, lenOf, low32}
+use Rattle.layout.specs.Part.{embedded, countOf, valueOf, startOf, lenOf, low32}
 use Rattle.args.specs.Value.{bad, present, bytesOf, bytesIn, ofType, scalarOf}
 use Rattle.args.specs.Typed.{ReadAsTyped}
 use Rattle.layout.specs.Table.{rowsOf, bytes}

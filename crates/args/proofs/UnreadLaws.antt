@@ -31,14 +31,14 @@ use Rattle.layout.proofs.ApartLaws.{kept-apart}
 use Rattle.layout.proofs.KeptLaws.{kept-within}
 use Rattle.layout.proofs.UnreadLaws.{from-tail, kept-behind, bytes-unread}
 use Rattle.layout.proofs.UnreadLaws.{reaches-later, field-itself, field-on-way, tail-behind, field-unread}
-use Rattle.args.specs.Part.{embedded, countOf, startOf, lenOf, absent}
+use Rattle.layout.specs.Part.{embedded, countOf, startOf, lenOf, absent}
 use Rattle.args.specs.Value.{bad, present, bytesOf, bytesIn, ofType, scalarOf, ofAnyType, anyOf, argumentIn}
 use Rattle.args.specs.Moved.{moved}
 use Rattle.args.specs.Arguments.{isArgs, argPlace, nextArgument, andMore, argumentsFrom, argumentsAt}
 use Rattle.args.specs.UnreadRules.{typeIn, OnlyField, AnyUnread, ScalarUnread, OneField, ListUnread}
 use Rattle.args.specs.UnreadRules.{ObjectUnread, UnchosenScalarUnread}
 use Rattle.args.specs.declared.arguments.ArgPlace.{ArgPlace}
-use Rattle.args.proofs.PartLaws.{part-within}
+use Rattle.layout.proofs.PartLaws.{part-within}
 use Rattle.args.proofs.MovedArgLaws.{argument-moved, field-inside, args-moved}
 use Rattle.args.proofs.PlaceLaws.{starts, by-args, on, next-placed}
 use Rattle.args.proofs.ArgumentsLaws.{from-found}

@@ -8,7 +8,7 @@ use Rattle.prelude.proofs.Cases.{yes, no as without}
 use Rattle.scalar.specs.declared.argument.Argument.{Argument}
 use Rattle.scalar.specs.declared.argument.Argument.the-variants as Va
 use Rattle.layout.specs.declared.slots.Slots.{Slots}
-use Rattle.args.specs.Part.{startOf, lenOf, valueOf, low32}
+use Rattle.layout.specs.Part.{startOf, lenOf, valueOf, low32}
 use Rattle.args.specs.Value.{bad, bytesOf, ofType, scalarOf, ofAnyType, anyOf}
 
 module _ (b : Bool) (x : Slots) where

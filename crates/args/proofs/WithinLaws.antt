@@ -16,7 +16,7 @@ use Rattle.layout.specs.Row.{slotCount}
 use Rattle.layout.specs.Table.{rowsOf, any, scalar, bytes}
 use Rattle.layout.specs.declared.slots.Slots.{Slots}
 use Rattle.layout.proofs.KeptLaws.{zeros, kept-within}
-use Rattle.args.specs.Part.{embedded, countOf, valueOf, startOf, lenOf, low32}
+use Rattle.layout.specs.Part.{embedded, countOf, valueOf, startOf, lenOf, low32}
 use Rattle.args.specs.Value.{bad, present, bytesIn, ofType, scalarOf, scalarIn, ofAnyType, anyOf, argumentIn}
 use Rattle.args.specs.WithinRules.{EndsBy}
 

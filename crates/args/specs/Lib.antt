@@ -1,4 +1,3 @@
-pub mod Part
 pub mod Value
 pub mod Arguments
 pub mod Padded

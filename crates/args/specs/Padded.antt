@@ -10,18 +10,10 @@ use Rattle.protocol.specs.Fields as Fields
 use Rattle.protocol.specs.Scalars as Scalars
 use Rattle.wire.specs.declared.field.Field.{Field}
 use Rattle.layout.specs.Table.{rowsOf, any, scalar}
-use Rattle.layout.specs.Padded.{paddedList, paddedTo}
+use Rattle.layout.specs.Padded.{paddedList, partPadded, slotPadded}
 use Rattle.layout.specs.declared.slots.Slots.{Slots}
-use Rattle.args.specs.Part.{embedded, valueOf, startOf, lenOf, low32}
+use Rattle.layout.specs.Part.{embedded, valueOf, startOf, lenOf, low32}
 use Rattle.args.specs.Arguments.{isArgs}
-
--- the own fields of a message in `len` bytes of s from the place `start` on
-abbrev pub partPadded : List ℕ → ℕ → ℕ → Bool
-partPadded s start len = paddedTo s start (start + len)
-
--- the message in field k of another; one that is not there has no bytes
-abbrev pub slotPadded : List ℕ → Slots → ℕ → Bool
-slotPadded s x k = partPadded s (startOf x k) (lenOf x k)
 
 -- inside a Scalar: the octets or the string, if its type chooses one
 abbrev pub bytesPadded : List ℕ → Slots → ℕ → Bool

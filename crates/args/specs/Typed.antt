@@ -4,7 +4,7 @@ use mathlib.Core.Path.{_≡_}
 use mathlib.Core.List.{List}
 use Rattle.scalar.specs.Argument.{reasonOf, typeOf}
 use Rattle.layout.specs.declared.slots.Slots.{Slots}
-use Rattle.args.specs.Part.{valueOf, low32}
+use Rattle.layout.specs.Part.{valueOf, low32}
 use Rattle.args.specs.Value.{scalarOf}
 
 abbrev pub ReadAsTyped : Type 0

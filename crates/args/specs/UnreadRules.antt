@@ -11,7 +11,7 @@ use Rattle.layout.specs.Reaches.{Reaches}
 use Rattle.layout.specs.Table.{rowsOf, any, scalar, len}
 use Rattle.layout.specs.FieldsRules.{startIn, endIn}
 use Rattle.layout.specs.declared.slots.Slots.{Slots}
-use Rattle.args.specs.Part.{embedded, absent, valueOf, startOf, lenOf, low32}
+use Rattle.layout.specs.Part.{embedded, absent, valueOf, startOf, lenOf, low32}
 use Rattle.args.specs.Value.{scalarIn, argumentIn}
 use Rattle.args.specs.Arguments.{isArgs, argumentsAt}
 

@@ -14,7 +14,7 @@ use Rattle.scalar.specs.declared.argument.Argument.{Argument}
 use Rattle.scalar.specs.declared.argument.Argument.the-variants as Va
 use Rattle.layout.specs.Table.{rowsOf, any, scalar, bytes}
 use Rattle.layout.specs.declared.slots.Slots.{Slots}
-use Rattle.args.specs.Part.{embedded, countOf, valueOf, startOf, lenOf, low32}
+use Rattle.layout.specs.Part.{embedded, countOf, valueOf, startOf, lenOf, low32}
 
 -- a bad payload
 abbrev pub bad : Argument

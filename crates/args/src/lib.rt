@@ -4,5 +4,4 @@ pub mod bound;
 mod keys;
 pub mod kind;
 pub mod pair;
-pub mod part;
 pub mod value;

@@ -1,9 +1,10 @@
 // The value of one argument: an Any, and the Scalar in it.
 ghost use mathlib.Core.Path.{_≡_};
-ghost use mathlib.Core.Bool.{_||_, cond, true};
+ghost use mathlib.Core.Bool.{_||_, true};
 ghost use Rattle.layout.specs.private.Arrays.{fromArrays};
-ghost use Rattle.args.specs.Value.{anyOf, argumentIn, bad, bytesIn, scalarIn, scalarOf};
-ghost use Rattle.args.specs.Padded.{argumentPadded, insideAny, insideScalar, partPadded, scalarPadded};
+ghost use Rattle.args.specs.Value.{anyOf, argumentIn, bytesIn, present, scalarIn, scalarOf};
+ghost use Rattle.layout.specs.Padded.{partPadded};
+ghost use Rattle.args.specs.Padded.{argumentPadded, insideAny, insideScalar, scalarPadded};
 use crate::keys;
 use crate::pair::Pair;
 use crate::pair::Text;
@@ -59,24 +60,23 @@ pub fn long_argument(s: &[u8], at: usize, n: usize, padded: &mut bool) -> Argume
     ensures told { λ r. ⌜ now (padded .exit) ≡ (now (padded .entry) || argumentPadded (now (s .entry)) at n) ⌝ }
 {
     let rows = layout::rows::any_rows();
-    let mut seen = [false; SLOTS];
+    let mut times = [0; SLOTS];
     let mut values = [0; SLOTS];
     let mut starts = [0; SLOTS];
-    if !crate::part::fill_part(&rows, s, at, n, &mut seen, &mut values, &mut starts, padded) {
+    if !layout::part::fill_part(&rows, s, at, n, &mut times, &mut values, &mut starts, padded) {
         return Argument::Refused(reason::BAD_PAYLOAD);
     }
-    any_value(s, &seen, &values, &starts, padded)
+    any_value(s, &times, &values, &starts, padded)
 }
 
 // The named value must be present.
-fn needed(has: bool, a: Argument) -> Argument
-    ensures { λ r. ⌜ r ≡ cond has a bad ⌝ }
+fn needed(times: u8, a: Argument) -> Argument
+    ensures { λ r. ⌜ r ≡ present times a ⌝ }
 {
-    if has {
-        a
-    } else {
-        Argument::Refused(reason::BAD_PAYLOAD)
+    if times == 0 {
+        return Argument::Refused(reason::BAD_PAYLOAD);
     }
+    a
 }
 
 // The bytes of an octets or a string message, the long way.
@@ -85,10 +85,10 @@ fn long_bytes(s: &[u8], at: usize, n: usize, octets: bool, padded: &mut bool) ->
     ensures told { λ r. ⌜ now (padded .exit) ≡ (now (padded .entry) || partPadded (now (s .entry)) at n) ⌝ }
 {
     let rows = layout::rows::bytes_rows();
-    let mut seen = [false; SLOTS];
+    let mut times = [0; SLOTS];
     let mut values = [0; SLOTS];
     let mut starts = [0; SLOTS];
-    if !crate::part::fill_part(&rows, s, at, n, &mut seen, &mut values, &mut starts, padded) {
+    if !layout::part::fill_part(&rows, s, at, n, &mut times, &mut values, &mut starts, padded) {
         return Argument::Refused(reason::BAD_PAYLOAD);
     }
     let start = starts[BYTES];
@@ -117,29 +117,29 @@ pub(crate) fn read_bytes(s: &[u8], at: usize, n: usize, octets: bool, padded: &m
 // The value that a Scalar's type names.
 fn scalar_value(
     s: &[u8],
-    seen: &[bool; SLOTS],
+    times: &[u8; SLOTS],
     values: &[u64; SLOTS],
     starts: &[usize; SLOTS],
     padded: &mut bool,
 ) -> Argument
     ensures answer { λ r. ⌜
         r
-        ≡ scalarOf (now (s .entry)) (fromArrays true (now (seen .entry)) (now (values .entry)) (now (starts .entry)))
+        ≡ scalarOf (now (s .entry)) (fromArrays true (now (times .entry)) (now (values .entry)) (now (starts .entry)))
         ⌝ }
     ensures told { λ r. ⌜
         now (padded .exit)
         ≡ (now (padded .entry)
         || insideScalar (now (s .entry))
-        (fromArrays true (now (seen .entry)) (now (values .entry)) (now (starts .entry))))
+        (fromArrays true (now (times .entry)) (now (values .entry)) (now (starts .entry))))
         ⌝ }
 {
     let t = values[TYPE] % uint32::COUNT;
     match t {
-        scalars::SINT => needed(seen[SINT_FIELD], signed_argument(values[SINT_FIELD])),
-        scalars::UINT => needed(seen[UINT_FIELD], Argument::Unsigned(values[UINT_FIELD])),
+        scalars::SINT => needed(times[SINT_FIELD], signed_argument(values[SINT_FIELD])),
+        scalars::UINT => needed(times[UINT_FIELD], Argument::Unsigned(values[UINT_FIELD])),
         scalars::NULL => Argument::Null,
         scalars::OCTETS => needed(
-            seen[OCTETS_FIELD],
+            times[OCTETS_FIELD],
             long_bytes(
                 s,
                 starts[OCTETS_FIELD],
@@ -148,14 +148,14 @@ fn scalar_value(
                 padded,
             ),
         ),
-        scalars::DOUBLE => needed(seen[DOUBLE_FIELD], double_argument(values[DOUBLE_FIELD])),
+        scalars::DOUBLE => needed(times[DOUBLE_FIELD], double_argument(values[DOUBLE_FIELD])),
         scalars::FLOAT => needed(
-            seen[FLOAT_FIELD],
+            times[FLOAT_FIELD],
             float_argument((values[FLOAT_FIELD] % uint32::COUNT) as u32),
         ),
-        scalars::BOOL => needed(seen[BOOL_FIELD], Argument::Bool(values[BOOL_FIELD] != 0)),
+        scalars::BOOL => needed(times[BOOL_FIELD], Argument::Bool(values[BOOL_FIELD] != 0)),
         scalars::STRING => needed(
-            seen[STRING_FIELD],
+            times[STRING_FIELD],
             long_bytes(
                 s,
                 starts[STRING_FIELD],
@@ -174,36 +174,36 @@ pub(crate) fn long_scalar(s: &[u8], at: usize, n: usize, padded: &mut bool) -> A
     ensures told { λ r. ⌜ now (padded .exit) ≡ (now (padded .entry) || scalarPadded (now (s .entry)) at n) ⌝ }
 {
     let rows = layout::rows::scalar_rows();
-    let mut seen = [false; SLOTS];
+    let mut times = [0; SLOTS];
     let mut values = [0; SLOTS];
     let mut starts = [0; SLOTS];
-    if !crate::part::fill_part(&rows, s, at, n, &mut seen, &mut values, &mut starts, padded) {
+    if !layout::part::fill_part(&rows, s, at, n, &mut times, &mut values, &mut starts, padded) {
         return Argument::Refused(reason::BAD_PAYLOAD);
     }
-    scalar_value(s, &seen, &values, &starts, padded)
+    scalar_value(s, &times, &values, &starts, padded)
 }
 
 // The value of an Any: a scalar, an object or an array.
 fn any_value(
     s: &[u8],
-    seen: &[bool; SLOTS],
+    times: &[u8; SLOTS],
     values: &[u64; SLOTS],
     starts: &[usize; SLOTS],
     padded: &mut bool,
 ) -> Argument
     ensures answer { λ r. ⌜
-        r ≡ anyOf (now (s .entry)) (fromArrays true (now (seen .entry)) (now (values .entry)) (now (starts .entry)))
+        r ≡ anyOf (now (s .entry)) (fromArrays true (now (times .entry)) (now (values .entry)) (now (starts .entry)))
         ⌝ }
     ensures told { λ r. ⌜
         now (padded .exit)
         ≡ (now (padded .entry)
-        || insideAny (now (s .entry)) (fromArrays true (now (seen .entry)) (now (values .entry)) (now (starts .entry))))
+        || insideAny (now (s .entry)) (fromArrays true (now (times .entry)) (now (values .entry)) (now (starts .entry))))
         ⌝ }
 {
     let t = values[TYPE] % uint32::COUNT;
     match t {
         anys::SCALAR => needed(
-            seen[SCALAR_FIELD],
+            times[SCALAR_FIELD],
             long_scalar(
                 s,
                 starts[SCALAR_FIELD],

@@ -21,9 +21,9 @@ use Rattle.encode.specs.Field.{numberField, bytesField, fixedField}
 use Rattle.encode.specs.Fixed.{fixedBytes}
 use Rattle.layout.specs.Table.{rowsOf, scalar}
 use Rattle.layout.specs.Slots.{noSlots}
-use Rattle.layout.specs.Padded.{paddedFrom, nothingInside}
+use Rattle.layout.specs.Padded.{paddedFrom, nothingInside, partPadded}
 use Rattle.layout.specs.declared.slots.Slots.{Slots}
-use Rattle.args.specs.Padded.{partPadded, insideArgs, insideScalar, scalarPadded, insideAny, argumentPadded}
+use Rattle.args.specs.Padded.{insideArgs, insideScalar, scalarPadded, insideAny, argumentPadded}
 use Rattle.args.proofs.MovedArgLaws.{field-inside}
 use Rattle.writer.specs.Judge.{argsFrom, goodStretch}
 use Rattle.writer.specs.RoundTrip.{hasArgs}

@@ -25,7 +25,7 @@ use Rattle.layout.specs.declared.slots.Slots.{Slots}
 use Rattle.layout.specs.declared.fields.Use.{Use}
 use Rattle.layout.proofs.FieldsLaws.{Listing}
 use Rattle.encode.specs.Field.{numberField, bytesField}
-use Rattle.args.specs.Part.{embedded, low32}
+use Rattle.layout.specs.Part.{embedded, low32}
 use Rattle.args.specs.Value.{bytesOf as bytesTaken, bytesIn, ofType, scalarOf, ofAnyType, anyOf, argumentIn}
 use Rattle.varint.proofs.TailLaws.{Stands, stands-length, stands-bytes, stands-next}
 use Rattle.writer.proofs.FieldLaws.{Reads, withNumber, withBytes, reads-number, reads-bytes, reads-then, embedded-good}

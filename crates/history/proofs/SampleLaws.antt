@@ -13,7 +13,7 @@ use Rattle.layout.specs.Row.{rowFor}
 use Rattle.protocol.specs.Client.{open'}
 use Rattle.layout.specs.Table.{rowsOf, openStmt}
 use Rattle.layout.specs.declared.slots.Slots.{Slots}
-use Rattle.args.specs.Part.{embedded}
+use Rattle.layout.specs.Part.{embedded}
 use Rattle.args.specs.Arguments.{noArguments, argumentsFrom, placeFrom, nextArgument, together}
 use Rattle.message.specs.Request.{noOptional}
 use Rattle.message.specs.Payload.{payload}

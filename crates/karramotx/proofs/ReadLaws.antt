@@ -17,7 +17,7 @@ use Rattle.scalar.specs.declared.argument.Argument.{Argument}
 use Rattle.scalar.specs.declared.argument.Argument.the-variants as Va
 use Rattle.layout.specs.Table.{rowsOf, any, scalar, bytes}
 use Rattle.layout.specs.declared.slots.Slots.{Slots}
-use Rattle.args.specs.Part.{embedded, countOf, valueOf as fieldValue, startOf, lenOf, low32}
+use Rattle.layout.specs.Part.{embedded, countOf, valueOf as fieldValue, startOf, lenOf, low32}
 use Rattle.args.specs.Value.{bad, present, bytesOf, bytesIn, ofType, scalarOf, ofAnyType, anyOf}
 use Rattle.args.specs.Arguments.{argPlace, ofPlace, nextArgument, andMore, argumentsFrom, argumentsAt, handedOut}
 use Rattle.args.specs.declared.arguments.ArgPlace.{ArgPlace}

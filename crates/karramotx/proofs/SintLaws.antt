@@ -25,7 +25,7 @@ use Rattle.layout.specs.Fields.{useOf, noted, onField, fieldsFrom, hasRequired}
 use Rattle.layout.specs.Slots.{noSlots, badSlots}
 use Rattle.layout.specs.declared.slots.Slots.{Slots}
 use Rattle.layout.specs.declared.fields.Use.{Use}
-use Rattle.args.specs.Part.{embedded, valueOf}
+use Rattle.layout.specs.Part.{embedded, valueOf}
 
 -- ---- a field whose wire type is 0
 

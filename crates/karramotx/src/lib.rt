@@ -17,7 +17,7 @@ ghost use Rattle.karramotx.specs.Given.{givenArgument};
 ghost use Rattle.karramotx.specs.Inspection.{inspectionOf};
 ghost use Rattle.karramotx.specs.Message.{messageAt};
 ghost use Rattle.karramotx.specs.Value.{nextValueOf, valueOf};
-use args::part::Part;
+use layout::part::Part;
 use given::Scalar;
 use inspection::Inspection;
 use protocol::reason;

@@ -4,7 +4,7 @@ ghost use Rattle.message.specs.declared.request.Frame.{Frame};
 ghost use Rattle.message.specs.declared.request.Request.{Request};
 ghost use Rattle.karramotx.specs.Message.{argsTold, blank, messageOf, refused};
 use args::arguments::Arguments;
-use args::part::Part;
+use layout::part::Part;
 use message::request::Execute;
 use message::request::Fetch;
 use message::request::Frame;

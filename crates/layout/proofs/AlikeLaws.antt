@@ -15,10 +15,10 @@ use Rattle.wire.proofs.PastLaws.{field-past}
 use Rattle.wire.proofs.MovedLaws.{movedField, field-moved, Tail, tail-length}
 use Rattle.layout.specs.Row.{isRepeated, rowFor, slotCount}
 use Rattle.layout.specs.Slots.{noSlots, badSlots}
-use Rattle.layout.specs.Fields.{useOf, noted, fieldList, hasRequired, checked, fieldsAt}
+use Rattle.layout.specs.Fields.{useOf, noted, fieldsOnto, hasRequired, checked, fieldsAt}
 use Rattle.layout.specs.declared.slots.Slots.{Slots}
 use Rattle.layout.specs.declared.fields.Use.{Use}
-use Rattle.layout.proofs.FieldsLaws.{Listing, starts, ends, no-field, advances, goes-on, kept-slot}
+use Rattle.layout.proofs.FieldsLaws.{Towards, starts-onto, ends, no-field, advances, goes-on, kept-slot}
 use Rattle.layout.proofs.FieldsLaws.{checked-good, checked-bad}
 use Rattle.layout.specs.FieldsRules.{startIn}
 use Rattle.layout.proofs.KeptLaws.{zeros, same-or-not, Kept, none-kept, bad-kept, noted-kept}
@@ -115,55 +115,58 @@ module _ (rows : List (List ℕ)) (d n : ℕ) where
         small-too : number < length (y .start)
         small-too = omega (arith, kept-slot rows number w v (sym e), a .starts)
 
--- two walks through a field list, one in the bytes and one in what holds them
-module _ (rows : List (List ℕ)) {s : List ℕ} {d : ℕ} {t : List ℕ} (k : Tail s d t) (from : ℕ) where
-  abbrev Same : Type 0
-  Same = Alike rows d (length t) (fieldList rows t from) (fieldList rows s (d + from))
+-- asking for what is required
+pub checked-alike : (rows : List (List ℕ)) (d n : ℕ) {x y : Slots} → Alike rows d n x y →
+    Alike rows d n (checked rows x) (checked rows y)
+checked-alike rows d n {x} {y} a = go (hasRequired rows (x .count)) refl
+  where
+    go : (b : Bool) → hasRequired rows (x .count) ≡ b → Alike rows d n (checked rows x) (checked rows y)
+    go true e =
+        alike-as rows d n (checked-good rows x e) (checked-good rows y (ap (hasRequired rows) (a .count) ∙ e)) a
+    go false e =
+        alike-as rows d n (checked-bad rows x e) (checked-bad rows y (ap (hasRequired rows) (a .count) ∙ e))
+        (bad-alike rows d n)
 
-  module _ (p : ℕ) (i : p < length t) {x y : Slots} (f : Listing rows t from p x)
-      (g : Listing rows s (d + from) (d + p) y)
-      (a : Alike rows d (length t) x y)
-      (on : (q : ℕ) → p < q → (x′ y′ : Slots) → Listing rows t from q x′ → Listing rows s (d + from) (d + q) y′ →
-      Alike rows d (length t) x′ y′ → Same) where
+-- two walks through a field list, one in the bytes and one in what holds them
+module _ (rows : List (List ℕ)) {s : List ℕ} {d : ℕ} {t : List ℕ} (k : Tail s d t) (n : ℕ) (few : length t ≤ n)
+    (xs ys : Slots) where
+  abbrev Same : Type 0
+  Same = Alike rows d n xs ys
+
+  module _ (p : ℕ) (i : p < length t) {x y : Slots} (f : Towards rows t p x xs) (g : Towards rows s (d + p) y ys)
+      (a : Alike rows d n x y)
+      (on : (q : ℕ) → p < q → (x′ y′ : Slots) → Towards rows t q x′ xs → Towards rows s (d + q) y′ ys →
+      Alike rows d n x′ y′ → Same) where
     j : d + p < length s
     j = omega (arith, tail-length k)
 
     by-field : (z : Field) → fieldAt t p ≡ z → Same
     by-field Field.Bad e =
-        alike-as rows d (length t) (no-field f i e) (no-field g j (field-moved k p ∙ ap (movedField d) e))
-        (bad-alike rows d (length t))
+        alike-as rows d n (no-field f i e) (no-field g j (field-moved k p ∙ ap (movedField d) e)) (bad-alike rows d n)
     by-field (Field.Good number w v st ln next) e =
         let e′ = field-moved k p ∙ ap (movedField d) e in
         let u = useOf rows number w v in
         on next (advances f i e) (noted u x number v st ln) (noted u y number v (d + st) ln)
         (goes-on f i e (useOf rows number w v) refl) (goes-on g j e′ (useOf rows number w v) refl)
-        (noted-alike rows d (length t) a number w v st ln (within (field-past t p)) (useOf rows number w v) refl)
+        (noted-alike rows d n a number w v st ln (within (field-past t p)) (useOf rows number w v) refl)
       where
-        within : PastField p (length t) (fieldAt t p) → st + ln ≤ length t
+        within : PastField p (length t) (fieldAt t p) → st + ln ≤ n
         within = rw e (λ h. omega arith)
 
-  walks : (most p : ℕ) → length t ≤ p + most → {x y : Slots} → Listing rows t from p x →
-      Listing rows s (d + from) (d + p) y →
-      Alike rows d (length t) x y → Same
-  walks zero p h f g a = alike-as rows d (length t) (ends f (omega arith)) (ends g (omega (arith, tail-length k))) a
+  pub walks : (most p : ℕ) → length t ≤ p + most → {x y : Slots} → Towards rows t p x xs →
+      Towards rows s (d + p) y ys → Alike rows d n x y → Same
+  walks zero p h f g a = alike-as rows d n (ends f (omega arith)) (ends g (omega (arith, tail-length k))) a
   walks (suc most) p h f g a =
       less-or-not p (length t) (λ i. by-field p i f g a (λ q z x′ y′. walks most q (omega arith)) (fieldAt t p) refl)
-      (λ i. alike-as rows d (length t) (ends f i) (ends g (omega (arith, tail-length k))) a)
+      (λ i. alike-as rows d n (ends f i) (ends g (omega (arith, tail-length k))) a)
 
-  list-alike : Same
-  list-alike =
-      walks (length t) from (omega arith) (starts rows t from) (starts rows s (d + from)) (none-alike rows d (length t))
+module _ (rows : List (List ℕ)) {s : List ℕ} {d : ℕ} {t : List ℕ} (k : Tail s d t) (from : ℕ) where
+  -- behind slots that are alike
+  pub onto-alike : (n : ℕ) → length t ≤ n → {x y : Slots} → Alike rows d n x y →
+      Alike rows d n (fieldsOnto rows t from x) (fieldsOnto rows s (d + from) y)
+  onto-alike n few {x} {y} a =
+      walks rows k n few (fieldsOnto rows t from x) (fieldsOnto rows s (d + from) y) (length t) from (omega arith) (starts-onto rows t from x) (starts-onto rows s (d + from) y) a
 
   pub fields-alike : Alike rows d (length t) (fieldsAt rows t from) (fieldsAt rows s (d + from))
   fields-alike =
-      go (fieldList rows t from) (fieldList rows s (d + from)) list-alike
-      (hasRequired rows (fieldList rows t from .count)) refl
-    where
-      go : (x y : Slots) → Alike rows d (length t) x y → (b : Bool) → hasRequired rows (x .count) ≡ b →
-          Alike rows d (length t) (checked rows x) (checked rows y)
-      go x y a true e =
-          alike-as rows d (length t) (checked-good rows x e)
-          (checked-good rows y (ap (hasRequired rows) (a .count) ∙ e)) a
-      go x y a false e =
-          alike-as rows d (length t) (checked-bad rows x e) (checked-bad rows y (ap (hasRequired rows) (a .count) ∙ e))
-          (bad-alike rows d (length t))
+      checked-alike rows d (length t) (onto-alike (length t) (omega arith) (none-alike rows d (length t)))

@@ -1,15 +1,14 @@
--- What lent arrays leave out can be told from the rest: whether a field occurs says as much as how often, and of a
--- field with bytes
--- the value is the length. Assumes nothing.
+-- What lent arrays leave out can be told from the rest: whether a field occurs, and of a field with bytes the length,
+-- which is its value. Assumes nothing.
 use Prim.Native.Nat.{ℕ, zero, suc}
 use native.Mathlib.Omega.{arith}
-use mathlib.Core.Bool.{Bool, true, false, not, cond}
+use mathlib.Core.Bool.{Bool, true, false, cond}
 use mathlib.Core.Path.{_≡_, refl, sym, ap, subst, _∙_}
 use mathlib.Core.List.{List, [], _∷_, map}
 use lib.ListN.{length, getD, set, take, length-set}
 use lib.Seq.{getD-set-other, take-length}
 use lib.Dec.{ltb, leb, eqb}
-use borrow.Author.Tests.{le-leb, eqb-true, eqb-false}
+use borrow.Author.Tests.{le-leb, eq-eqb, eqb-true, eqb-false}
 use Rattle.prelude.proofs.Cases.{both}
 use Rattle.wire.specs.Field.{fieldAt}
 use Rattle.wire.specs.declared.field.Field.{Field}
@@ -18,14 +17,14 @@ use Rattle.layout.specs.Row.{numberOf, wireOf, isRepeated, rowFor, slotC
 use Rattle.layout.specs.Slots.{noSlots, badSlots}
 use Rattle.layout.specs.Fields.{useOf, noted, onField, fieldsFrom, fieldList, hasRequired, fieldsAt}
 use Rattle.layout.specs.Fields.{fieldsTo}
-use Rattle.layout.specs.private.Arrays.{occurs, once, Holds, fromArrays, inArrays}
-use Rattle.layout.proofs.FieldsLaws.{getD-seen}
+use Rattle.layout.specs.private.Arrays.{upToTwo, Holds, fromArrays, inArrays}
+use Rattle.layout.proofs.FieldsLaws.{getD-times, up-to-none}
 use Rattle.layout.specs.declared.slots.Slots.{Slots}
 use Rattle.layout.specs.declared.fields.Use.{Use}
 
-pub holds-arrays : {x : Slots} {g : Bool} {v : List Bool} {w u : List ℕ} → Holds x g v w u →
+pub holds-arrays : {x : Slots} {g : Bool} {v w u : List ℕ} → Holds x g v w u →
     fromArrays g v w u ≡ inArrays x
-holds-arrays h = rw (h .answer, h .held .seen-is, h .held .value-is, h .held .start-is)
+holds-arrays h = rw (h .answer, h .held .times-are, h .held .value-is, h .held .start-is)
 
 -- a message that ends where s does
 pub fields-whole : (rows : List (List ℕ)) (s : List ℕ) (from : ℕ) →
@@ -33,13 +32,13 @@ pub fields-whole : (rows : List (List ℕ)) (s : List ℕ) (from : ℕ) →
 fields-whole rows s from =
     simp (le-leb (length s) (length s) (omega arith)) (ap (λ (l : List ℕ). fieldsAt rows l from) (take-length s))
 
-pub holds-whole : (rows : List (List ℕ)) (s : List ℕ) (from : ℕ) {g : Bool} {v : List Bool} {w u : List ℕ} →
+pub holds-whole : (rows : List (List ℕ)) (s : List ℕ) (from : ℕ) {g : Bool} {v w u : List ℕ} →
     Holds (fieldsTo rows s from (length s)) g v w u → Holds (fieldsAt rows s from) g v w u
 holds-whole rows s from {g} {v} {w} {u} h = subst (λ (y : Slots). Holds y g v w u) (fields-whole rows s from) h
 
 -- ---- what the arrays hold, by field number
 
-module _ {x : Slots} {g : Bool} {v : List Bool} {w u : List ℕ} (h : Holds x g v w u) where
+module _ {x : Slots} {g : Bool} {v w u : List ℕ} (h : Holds x g v w u) where
   pub held-good : {b : Bool} → g ≡ b → x .good ≡ b
   held-good e = sym (h .answer) ∙ e
 
@@ -50,32 +49,23 @@ module _ {x : Slots} {g : Bool} {v : List Bool} {w u : List ℕ} (h : Holds x g 
     pub held-start : getD u k 0 ≡ getD (x .start) k 0
     held-start = ap (λ (l : List ℕ). getD l k 0) (h .held .start-is)
 
-    pub held-seen : getD v k false ≡ occurs (getD (x .count) k 0)
-    held-seen = ap (λ (l : List Bool). getD l k false) (h .held .seen-is) ∙ getD-seen (x .count) k
+    pub held-times : getD v k 0 ≡ upToTwo (getD (x .count) k 0)
+    held-times = ap (λ (l : List ℕ). getD l k 0) (h .held .times-are) ∙ getD-times (x .count) k
 
-    pub held-absent : getD v k false ≡ false → getD (x .count) k 0 ≡ 0
-    held-absent e = go (eqb (getD (x .count) k 0) 0) refl
-      where
-        go : (b : Bool) → eqb (getD (x .count) k 0) 0 ≡ b → getD (x .count) k 0 ≡ 0
-        go true t = eqb-true (getD (x .count) k 0) 0 t
-        go false t = absurd (let z : _≡_ {A = ℕ} 0 1 = cc (sym e ∙ held-seen ∙ ap not t) in omega arith)
+    -- none or some, by what is noted
+    pub held-none : eqb (getD v k 0) 0 ≡ eqb (getD (x .count) k 0) 0
+    held-none = ap (λ (n : ℕ). eqb n 0) held-times ∙ up-to-none (getD (x .count) k 0)
 
-    pub held-present : getD v k false ≡ true → getD (x .count) k 0 ≡ 0 → ⊥
-    held-present e z = let y : _≡_ {A = ℕ} 0 1 = cc (sym e ∙ held-seen ∙ ap occurs z) in omega arith
+    pub held-absent : getD v k 0 ≡ 0 → getD (x .count) k 0 ≡ 0
+    held-absent e = eqb-true (getD (x .count) k 0) 0 (sym held-none ∙ eq-eqb (getD v k 0) 0 e)
+
+    pub held-present : (getD v k 0 ≡ 0 → ⊥) → getD (x .count) k 0 ≡ 0 → ⊥
+    held-present e z = e (eqb-true (getD v k 0) 0 (held-none ∙ eq-eqb (getD (x .count) k 0) 0 z))
 
 -- ---- how often, and whether
 
-once-occurs : (n : ℕ) → eqb (once (occurs n)) 0 ≡ eqb n 0
-once-occurs n = go (eqb n 0) refl
-  where
-    go : (b : Bool) → eqb n 0 ≡ b → eqb (once (occurs n)) 0 ≡ eqb n 0
-    go true e = rw e
-    go false e = rw e
-
-pub same-absent : (l : List ℕ) (k : ℕ) → eqb (getD (map once (map occurs l)) k 0) 0 ≡ eqb (getD l k 0) 0
-same-absent [] k = refl
-same-absent (x ∷ l) zero = once-occurs x
-same-absent (x ∷ l) (suc k) = same-absent l k
+pub same-absent : (l : List ℕ) (k : ℕ) → eqb (getD (map upToTwo l) k 0) 0 ≡ eqb (getD l k 0) 0
+same-absent l k = ap (λ (n : ℕ). eqb n 0) (getD-times l k) ∙ up-to-none (getD l k 0)
 
 -- ---- value and length
 

@@ -24,7 +24,7 @@ module _ (rows : List (List ℕ)) (s : List ℕ) where
       e next (noted (useOf rows number wire v) x number v start len) (h .2)
   field-same at x Field.Bad h f g e = refl
 
-  fields-same : (m n at : ℕ) (x : Slots) → length s ≤ at + m → length s ≤ at + n →
+  pub fields-same : (m n at : ℕ) (x : Slots) → length s ≤ at + m → length s ≤ at + n →
       fieldsFrom m rows s at x ≡ fieldsFrom n rows s at x
   unfolding fieldsFrom
   fields-same zero n at x h i = sym (from-end n rows s at x (omega arith))

@@ -2,13 +2,13 @@
 use Prim.Native.Nat.{ℕ, zero, suc, _+_, _-_, _≤_, _<_}
 use native.Mathlib.Numerals.{add-one}
 use native.Mathlib.Omega.{arith}
-use mathlib.Core.Bool.{Bool, true, false, cond}
+use mathlib.Core.Bool.{Bool, true, false, not, cond}
 use mathlib.Core.Path.{_≡_, refl, sym, ap, subst, _∙_}
 use mathlib.Core.List.{List, [], _∷_, map}
 use lib.ListN.{length, getD, set, take, drop, drop-of-length-le, List·getD-eq-default}
 use lib.Seq.{drop-cons}
-use lib.Dec.{ltb}
-use borrow.Author.Tests.{lt-ltb, le-ltb, lt-leb, le-leb, eq-eqb, ne-eqb, ltb-true}
+use lib.Dec.{ltb, eqb}
+use borrow.Author.Tests.{lt-ltb, le-ltb, lt-leb, le-leb, eq-eqb, ne-eqb, eqb-true, eqb-false, ltb-true}
 use Rattle.prelude.proofs.Cases.{before-suc}
 use Rattle.wire.specs.Field.{fieldAt}
 use Rattle.wire.specs.Past.{PastField}
@@ -16,9 +16,9 @@ use Rattle.wire.specs.declared.field.Field.{Field}
 use Rattle.wire.proofs.PastLaws.{field-past}
 use Rattle.layout.specs.Row.{numberOf, noRow, takes, slotCount}
 use Rattle.layout.specs.Slots.{noSlots, badSlots}
-use Rattle.layout.specs.Fields.{useBy, useOf, noted, onField, fieldsFrom, fieldList, hasRequired, checked}
-use Rattle.layout.specs.Fields.{fieldsTo}
-use Rattle.layout.specs.private.Arrays.{occurs, metBy, hasSeen, Noted, Listed, Holds}
+use Rattle.layout.specs.Fields.{useBy, useOf, noted, onField, fieldsFrom, fieldsOnto, fieldList, met}
+use Rattle.layout.specs.Fields.{hasRequired, checked, fieldsTo}
+use Rattle.layout.specs.private.Arrays.{upToTwo, Noted, Listed, Holds}
 use Rattle.layout.specs.declared.slots.Slots.{Slots}
 use Rattle.layout.specs.declared.fields.Use.{Use}
 
@@ -58,14 +58,22 @@ pub kept-slot : (rows : List (List ℕ)) (number wire value : ℕ) → Use.Kept 
     number < slotCount
 kept-slot rows number wire value e = use-slot rows number wire value (λ u. let z : _≡_ {A = ℕ} 0 1 = cc in omega arith)
 
--- where the loop stands: what is left at p answers for the whole list
-pub record Listing (rows : List (List ℕ)) (s : List ℕ) (from p : ℕ) (x : Slots) : Type 0 where
+-- where a walk stands: what is left at p, behind what x holds, comes to y
+pub record Towards (rows : List (List ℕ)) (s : List ℕ) (p : ℕ) (x y : Slots) : Type 0 where
   pub most : ℕ
   pub enough : length s ≤ p + most
-  pub whole : fieldsFrom most rows s p x ≡ fieldList rows s from
+  pub whole : fieldsFrom most rows s p x ≡ y
+
+-- to the whole list
+abbrev pub Listing : List (List ℕ) → List ℕ → ℕ → ℕ → Slots → Type 0
+Listing rows s from p x = Towards rows s p x (fieldList rows s from)
+
+pub starts-onto : (rows : List (List ℕ)) (s : List ℕ) (from : ℕ) (x : Slots) →
+    Towards rows s from x (fieldsOnto rows s from x)
+starts-onto rows s from x = record { most = length s; enough = omega arith; whole = refl }
 
 pub starts : (rows : List (List ℕ)) (s : List ℕ) (from : ℕ) → Listing rows s from from noSlots
-starts rows s from = record { most = length s; enough = omega arith; whole = refl }
+starts rows s from = starts-onto rows s from noSlots
 
 pub from-end : (most : ℕ) (rows : List (List ℕ)) (s : List ℕ) (p : ℕ) (x : Slots) → length s ≤ p →
     fieldsFrom most rows s p x ≡ x
@@ -73,9 +81,8 @@ unfolding fieldsFrom
 from-end zero rows s p x h = refl
 from-end (suc m) rows s p x h = simp (le-ltb p (length s) h)
 
-pub ends : {rows : List (List ℕ)} {s : List ℕ} {from p : ℕ} {x : Slots} → Listing rows s from p x → length s ≤ p →
-    x ≡ fieldList rows s from
-ends {rows} {s} {from} {p} {x} l h = sym (from-end (l .most) rows s p x h) ∙ l .whole
+pub ends : {rows : List (List ℕ)} {s : List ℕ} {p : ℕ} {x y : Slots} → Towards rows s p x y → length s ≤ p → x ≡ y
+ends {rows} {s} {p} {x} l h = sym (from-end (l .most) rows s p x h) ∙ l .whole
 
 unroll : (most : ℕ) (rows : List (List ℕ)) (s : List ℕ) (p : ℕ) (x : Slots) → 0 < most → p < length s →
     fieldsFrom most rows s p x ≡ onField rows x (λ next y. fieldsFrom (most - 1) rows s next y) (fieldAt s p)
@@ -85,17 +92,16 @@ unroll (suc m) rows s p x g h =
     simp (lt-ltb p (length s) h)
     (ap (λ (k : ℕ). onField rows x (λ next y. fieldsFrom k rows s next y) (fieldAt s p)) (before-suc m))
 
-module _ {rows : List (List ℕ)} {s : List ℕ} {from p : ℕ} {x : Slots} (l : Listing rows s from p x)
+module _ {rows : List (List ℕ)} {s : List ℕ} {p : ℕ} {x y : Slots} (l : Towards rows s p x y)
     (inside : p < length s) where
-  turn : (f : Field) → fieldAt s p ≡ f → onField rows x (λ next y. fieldsFrom (l .most - 1) rows s next y) f ≡
-      fieldList rows s from
+  turn : (f : Field) → fieldAt s p ≡ f → onField rows x (λ next z. fieldsFrom (l .most - 1) rows s next z) f ≡ y
   turn f e =
       sym
       (unroll (l .most) rows s p x (omega (arith, l .enough)) inside
-      ∙ ap (onField rows x (λ next y. fieldsFrom (l .most - 1) rows s next y)) e)
+      ∙ ap (onField rows x (λ next z. fieldsFrom (l .most - 1) rows s next z)) e)
       ∙ l .whole
 
-  pub no-field : fieldAt s p ≡ Field.Bad → badSlots ≡ fieldList rows s from
+  pub no-field : fieldAt s p ≡ Field.Bad → badSlots ≡ y
   no-field e = turn Field.Bad e
 
   module _ {number wire value start len next : ℕ} (e : fieldAt s p ≡ Field.Good number wire value start len next) where
@@ -106,7 +112,7 @@ module _ {rows : List (List ℕ)} {s : List ℕ} {from p : ℕ} {x : Slots} (l :
         go = rw e (λ h. h .2)
 
     pub goes-on : (u : Use) → u ≡ useOf rows number wire value →
-        Listing rows s from next (noted u x number value start len)
+        Towards rows s next (noted u x number value start len) y
     goes-on u v =
         record {
           most = l .most - 1;
@@ -118,129 +124,153 @@ module _ {rows : List (List ℕ)} {s : List ℕ} {from p : ℕ} {x : Slots} (l :
 
 -- ---- the arrays
 
-map-set : (f : ℕ → Bool) (l : List ℕ) (k v : ℕ) → map f (set l k v) ≡ set (map f l) k (f v)
+map-set : (f : ℕ → ℕ) (l : List ℕ) (k v : ℕ) → map f (set l k v) ≡ set (map f l) k (f v)
 map-set f [] k v = refl
 map-set f (x ∷ l) zero v = refl
-map-set f (x ∷ l) (suc k) v = ap (λ (m : List Bool). f x ∷ m) (map-set f l k v)
+map-set f (x ∷ l) (suc k) v = ap (λ (m : List ℕ). f x ∷ m) (map-set f l k v)
 
-one-more : (n : ℕ) → occurs (n + 1) ≡ true
-one-more n = simp (ne-eqb (n + 1) 0 (λ h. omega arith))
+-- a number up to two says whether it is none, and what one more comes to
+pub up-to-none : (n : ℕ) → eqb (upToTwo n) 0 ≡ eqb n 0
+up-to-none n = go (eqb n 0) refl (eqb n 1) refl
+  where
+    go : (b : Bool) → eqb n 0 ≡ b → (c : Bool) → eqb n 1 ≡ c → eqb (upToTwo n) 0 ≡ eqb n 0
+    go true e c f = rw e
+    go false e true f = rw (e, f)
+    go false e false f = rw (e, f)
 
-seen-set : (l : List ℕ) (k : ℕ) → set (map occurs l) k true ≡ map occurs (set l k (getD l k 0 + 1))
-seen-set l k = sym (map-set occurs l k (getD l k 0 + 1) ∙ ap (set (map occurs l) k) (one-more (getD l k 0)))
+pub getD-times : (l : List ℕ) (k : ℕ) → getD (map upToTwo l) k 0 ≡ upToTwo (getD l k 0)
+getD-times [] k = refl
+getD-times (x ∷ l) zero = refl
+getD-times (x ∷ l) (suc k) = getD-times l k
 
--- where the loop stands: the arrays hold slots that answer for the whole
-pub record Filling (rows : List (List ℕ)) (s : List ℕ) (from p : ℕ) (seen : List Bool) (values starts : List ℕ) : Type
-    0 where
+pub more-than-none : (n : ℕ) → n ≡ 0 → 1 ≡ upToTwo (n + 1)
+more-than-none n e = rw e
+
+pub more-than-some : (n : ℕ) → (n ≡ 0 → ⊥) → 2 ≡ upToTwo (n + 1)
+more-than-some n h = simp (ne-eqb (n + 1) 0 (λ e. omega arith), ne-eqb (n + 1) 1 (λ e. h (omega arith)))
+
+once-more : (n : ℕ) → upToTwo (upToTwo n + 1) ≡ upToTwo (n + 1)
+once-more n = go (eqb n 0) refl
+  where
+    go : (b : Bool) → eqb n 0 ≡ b → upToTwo (upToTwo n + 1) ≡ upToTwo (n + 1)
+    go true e = let z = eqb-true n 0 e in rw z
+    go false e =
+        sym (more-than-some (upToTwo n) (λ z. eqb-false n 0 e (eqb-true n 0 (sym (up-to-none n) ∙ eq-eqb _ 0 z))))
+        ∙ more-than-some n (eqb-false n 0 e)
+
+-- the array after one more of the number k
+times-set : (l : List ℕ) (k : ℕ) {v : ℕ} → v ≡ upToTwo (getD (map upToTwo l) k 0 + 1) →
+    set (map upToTwo l) k v ≡ map upToTwo (set l k (getD l k 0 + 1))
+times-set l k e =
+    ap (set (map upToTwo l) k)
+    (e ∙ ap (λ (n : ℕ). upToTwo (n + 1)) (getD-times l k) ∙ once-more (getD l k 0))
+    ∙ sym (map-set upToTwo l k (getD l k 0 + 1))
+
+-- where the loop stands: the arrays hold slots from which what is left comes to y
+pub record Filling (rows : List (List ℕ)) (s : List ℕ) (y : Slots) (p : ℕ) (times values starts : List ℕ) : Type 0
+    where
   pub slots : Slots
   pub sound : slots .good ≡ true
-  pub listing : Listing rows s from p slots
-  pub held : Noted slots seen values starts
+  pub towards : Towards rows s p slots y
+  pub held : Noted slots times values starts
 
-pub filling : (rows : List (List ℕ)) (s : List ℕ) (from : ℕ) {seen : List Bool} {values starts : List ℕ} →
-    Noted noSlots seen values starts → Filling rows s from from seen values starts
-filling rows s from h = record { slots = noSlots; sound = refl; listing = starts rows s from; held = h }
+pub filling : (rows : List (List ℕ)) (s : List ℕ) (from : ℕ) {times values starts : List ℕ} (x : Slots) →
+    x .good ≡ true → Noted x times values starts → Filling rows s (fieldsOnto rows s from x) from times values starts
+filling rows s from x g h = record { slots = x; sound = g; towards = starts-onto rows s from x; held = h }
 
-module _ {rows : List (List ℕ)} {s : List ℕ} {from p : ℕ} {seen : List Bool} {values starts : List ℕ}
-    (l : Filling rows s from p seen values starts) where
-  pub filled : length s ≤ p → Listed (fieldList rows s from) true seen values starts
+module _ {rows : List (List ℕ)} {s : List ℕ} {y : Slots} {p : ℕ} {times values starts : List ℕ}
+    (l : Filling rows s y p times values starts) where
+  pub filled : length s ≤ p → Listed y true times values starts
   filled h =
-      subst (λ (y : Slots). Listed y true seen values starts) (ends (l .listing) h)
+      subst (λ (z : Slots). Listed z true times values starts) (ends (l .towards) h)
       (record {
         answer = sym (l .sound);
         held = λ _. l .held;
         bad = λ e. absurd (let z : _≡_ {A = ℕ} 0 1 = cc (l .sound) in omega arith);
       })
 
-  pub spoiled : p < length s → fieldAt s p ≡ Field.Bad → Listed (fieldList rows s from) false seen values starts
+  pub spoiled : p < length s → fieldAt s p ≡ Field.Bad → Listed y false times values starts
   spoiled h e =
-      subst (λ (y : Slots). Listed y false seen values starts) (no-field (l .listing) h e)
+      subst (λ (z : Slots). Listed z false times values starts) (no-field (l .towards) h e)
       (record { answer = refl; held = λ t. absurd (let z : _≡_ {A = ℕ} 0 1 = cc in omega arith); bad = λ _. refl })
 
   module _ (inside : p < length s) {number wire value start len next : ℕ}
       (e : fieldAt s p ≡ Field.Good number wire value start len next) where
-    pub ahead : p < next
-    ahead = advances (l .listing) inside e
-
-    pub fills-unknown : Use.Unknown ≡ useOf rows number wire value → Filling rows s from next seen values starts
-    fills-unknown u = record {
-      slots = l .slots;
-      sound = l .sound;
-      listing = goes-on (l .listing) inside e Use.Unknown
-          u;
-      held = l .held;
-    }
-
-    pub fills-counted : Use.Counted ≡ useOf rows number wire value →
-        Filling rows s from next (set seen number true) values starts
-    fills-counted u =
+    pub fills-unknown : Use.Unknown ≡ useOf rows number wire value → Filling rows s y next times values starts
+    fills-unknown u =
         record {
-          slots = noted Use.Counted (l .slots) number value start len;
+          slots = l .slots;
           sound = l .sound;
-          listing = goes-on (l .listing) inside e Use.Counted u;
-          held =
-              record {
-                seen-is = ap (λ (m : List Bool). set m number true) (l .held .seen-is)
-                    ∙ seen-set (l .slots .count) number;
-                value-is = l .held .value-is;
-                start-is = l .held .start-is;
-              };
+          towards = goes-on (l .towards) inside e Use.Unknown u;
+          held = l .held;
         }
 
-    pub fills-kept : Use.Kept ≡ useOf rows number wire value →
-        Filling rows s from next (set seen number true) (set values number value) (set starts number start)
-    fills-kept u =
-        record {
-          slots = noted Use.Kept (l .slots) number value start len;
-          sound = l .sound;
-          listing = goes-on (l .listing) inside e Use.Kept u;
-          held =
-              record {
-                seen-is = ap (λ (m : List Bool). set m number true) (l .held .seen-is)
-                    ∙ seen-set (l .slots .count) number;
-                value-is = ap (λ (m : List ℕ). set m number value) (l .held .value-is);
-                start-is = ap (λ (m : List ℕ). set m number start) (l .held .start-is);
-              };
-        }
+    module _ {v : ℕ} (more : v ≡ upToTwo (getD times number 0 + 1)) where
+      counts : set times number v ≡ map upToTwo (set (l .slots .count) number (getD (l .slots .count) number 0 + 1))
+      counts =
+          ap (λ (m : List ℕ). set m number v) (l .held .times-are)
+          ∙ times-set (l .slots .count) number
+          (more ∙ ap (λ (m : List ℕ). upToTwo (getD m number 0 + 1)) (l .held .times-are))
+
+      pub fills-counted : Use.Counted ≡ useOf rows number wire value →
+          Filling rows s y next (set times number v) values starts
+      fills-counted u =
+          record {
+            slots = noted Use.Counted (l .slots) number value start len;
+            sound = l .sound;
+            towards = goes-on (l .towards) inside e Use.Counted u;
+            held = record { times-are = counts; value-is = l .held .value-is; start-is = l .held .start-is };
+          }
+
+      pub fills-kept : Use.Kept ≡ useOf rows number wire value →
+          Filling rows s y next (set times number v) (set values number value) (set starts number start)
+      fills-kept u =
+          record {
+            slots = noted Use.Kept (l .slots) number value start len;
+            sound = l .sound;
+            towards = goes-on (l .towards) inside e Use.Kept u;
+            held =
+                record {
+                  times-are = counts;
+                  value-is = ap (λ (m : List ℕ). set m number value) (l .held .value-is);
+                  start-is = ap (λ (m : List ℕ). set m number start) (l .held .start-is);
+                };
+          }
 
 -- ---- required fields
 
-module _ (row : List ℕ) (seen : List Bool) where
-  pub met-optional : (getD row 3 0 ≡ 1 → ⊥) → true ≡ metBy row seen
+module _ (row times : List ℕ) where
+  pub met-optional : (getD row 3 0 ≡ 1 → ⊥) → true ≡ met row times
   met-optional h = simp (ne-eqb (getD row 3 0) 1 h)
 
-  pub met-seen : getD row 3 0 ≡ 1 → getD seen (numberOf row) false ≡ metBy row seen
+  pub met-seen : getD row 3 0 ≡ 1 → not (eqb (getD times (numberOf row) 0) 0) ≡ met row times
   met-seen h = simp (eq-eqb (getD row 3 0) 1 h)
 
   -- past the slots nothing is seen
-  pub met-past : getD row 3 0 ≡ 1 → length seen ≤ numberOf row → false ≡ metBy row seen
-  met-past h g = sym (List·getD-eq-default seen false g) ∙ met-seen h
+  pub met-past : getD row 3 0 ≡ 1 → length times ≤ numberOf row → false ≡ met row times
+  met-past h g = ap (λ (n : ℕ). not (eqb n 0)) (sym (List·getD-eq-default times 0 g)) ∙ met-seen h
 
 -- row by row
-module _ (rows : List (List ℕ)) (seen : List Bool) (i : ℕ) where
-  pub need-end : length rows ≤ i → true ≡ hasSeen (drop i rows) seen
-  unfolding hasSeen
+module _ (rows : List (List ℕ)) (times : List ℕ) (i : ℕ) where
+  pub need-end : length rows ≤ i → true ≡ hasRequired (drop i rows) times
+  unfolding hasRequired
   need-end h = rw (drop-of-length-le rows h)
 
-  pub need-met : i < length rows → metBy (getD rows i []) seen ≡ true →
-      hasSeen (drop (i + 1) rows) seen ≡ hasSeen (drop i rows) seen
-  unfolding hasSeen
+  pub need-met : i < length rows → met (getD rows i []) times ≡ true →
+      hasRequired (drop (i + 1) rows) times ≡ hasRequired (drop i rows) times
+  unfolding hasRequired
   need-met h e = rw (add-one, drop-cons rows i [] h) (simp e)
 
-  pub need-missing : i < length rows → metBy (getD rows i []) seen ≡ false → false ≡ hasSeen (drop i rows) seen
-  unfolding hasSeen
+  pub need-missing : i < length rows → met (getD rows i []) times ≡ false → false ≡ hasRequired (drop i rows) times
+  unfolding hasRequired
   need-missing h e = rw (drop-cons rows i [] h) (simp e)
 
-pub getD-seen : (l : List ℕ) (k : ℕ) → getD (map occurs l) k false ≡ occurs (getD l k 0)
-getD-seen [] k = refl
-getD-seen (x ∷ l) zero = refl
-getD-seen (x ∷ l) (suc k) = getD-seen l k
-
--- what is seen says as much as the counts
-seen-required : (rows : List (List ℕ)) (count : List ℕ) → hasSeen rows (map occurs count) ≡ hasRequired rows count
-unfolding hasSeen hasRequired
-seen-required [] count = refl
-seen-required (r ∷ rs) count = rw (getD-seen count (numberOf r), seen-required rs count)
+-- what is noted says as much as the counts
+times-required : (rows : List (List ℕ)) (count : List ℕ) → hasRequired rows (map upToTwo count) ≡ hasRequired rows count
+unfolding hasRequired
+times-required [] count = refl
+times-required (r ∷ rs) count =
+    rw (getD-times count (numberOf r), up-to-none (getD count (numberOf r) 0), times-required rs count)
 
 pub checked-good : (rows : List (List ℕ)) (x : Slots) → hasRequired rows (x .count) ≡ true → x ≡ checked rows x
 checked-good rows x e = simp e
@@ -250,46 +280,50 @@ checked-bad rows x e = simp e
 
 -- ---- the message in the arrays
 
-module _ {x : Slots} {g : Bool} {v : List Bool} {w u : List ℕ} (l : Listed x g v w u) (good : g ≡ true) where
+-- arrays that hold nothing hold an empty list
+pub holds-none : {times values starts : List ℕ} → Noted badSlots times values starts → Noted noSlots times values starts
+holds-none h = record { times-are = h .times-are; value-is = h .value-is; start-is = h .start-is }
+
+module _ {x : Slots} {g : Bool} {v w u : List ℕ} (l : Listed x g v w u) (good : g ≡ true) where
   kept : Noted x v w u
   kept = l .held (sym (l .answer) ∙ good)
 
-  required : (rows : List (List ℕ)) {b : Bool} → hasSeen rows v ≡ b → hasRequired rows (x .count) ≡ b
-  required rows e = sym (ap (hasSeen rows) (kept .seen-is) ∙ seen-required rows (x .count)) ∙ e
+  required : (rows : List (List ℕ)) {b : Bool} → hasRequired rows v ≡ b → hasRequired rows (x .count) ≡ b
+  required rows e = sym (ap (hasRequired rows) (kept .times-are) ∙ times-required rows (x .count)) ∙ e
 
 module _ (rows : List (List ℕ)) (s : List ℕ) (from end : ℕ) where
   same-either : (b : Bool) (x : Slots) → cond b x x ≡ x
   same-either true x = refl
   same-either false x = refl
 
-  module _ {seen : List Bool} {values starts : List ℕ} where
-    empty : badSlots ≡ fieldsTo rows s from end → Noted badSlots seen values starts →
-        Holds (fieldsTo rows s from end) false seen values starts
-    empty e h = subst (λ (y : Slots). Holds y false seen values starts) e (record { answer = refl; held = h })
+  module _ {times values starts : List ℕ} where
+    empty : badSlots ≡ fieldsTo rows s from end → Noted badSlots times values starts →
+        Holds (fieldsTo rows s from end) false times values starts
+    empty e h = subst (λ (y : Slots). Holds y false times values starts) e (record { answer = refl; held = h })
 
-    pub holds-outside : length s < end → Noted badSlots seen values starts →
-        Holds (fieldsTo rows s from end) false seen values starts
+    pub holds-outside : length s < end → Noted badSlots times values starts →
+        Holds (fieldsTo rows s from end) false times values starts
     holds-outside h = empty (simp (lt-leb end (length s) h))
 
-    pub holds-bad : {g : Bool} {v : List Bool} {w u : List ℕ} → end ≤ length s →
+    pub holds-bad : {g : Bool} {v w u : List ℕ} → end ≤ length s →
         Listed (fieldList rows (take end s) from) g v w u →
-        g ≡ false → Noted badSlots seen values starts → Holds (fieldsTo rows s from end) false seen values starts
+        g ≡ false → Noted badSlots times values starts → Holds (fieldsTo rows s from end) false times values starts
     holds-bad h l e =
         empty
         (sym (same-either (hasRequired rows (badSlots .count)) badSlots)
         ∙ ap (checked rows) (sym (l .bad (sym (l .answer) ∙ e)))
         ∙ simp (le-leb end (length s) h))
 
-    pub holds-missing : {g : Bool} {v : List Bool} {w u : List ℕ} → end ≤ length s →
+    pub holds-missing : {g : Bool} {v w u : List ℕ} → end ≤ length s →
         Listed (fieldList rows (take end s) from) g v w u →
-        g ≡ true → hasSeen rows v ≡ false → Noted badSlots seen values starts →
-        Holds (fieldsTo rows s from end) false seen values starts
+        g ≡ true → hasRequired rows v ≡ false → Noted badSlots times values starts →
+        Holds (fieldsTo rows s from end) false times values starts
     holds-missing h l good e = empty (checked-bad rows (fieldList rows (take end s) from) (required l good rows e)
         ∙ simp (le-leb end (length s) h))
 
-  pub holds-good : {g : Bool} {v : List Bool} {w u : List ℕ} → end ≤ length s →
+  pub holds-good : {g : Bool} {v w u : List ℕ} → end ≤ length s →
       Listed (fieldList rows (take end s) from) g v w u → g ≡ true →
-      hasSeen rows v ≡ true → Holds (fieldsTo rows s from end) true v w u
+      hasRequired rows v ≡ true → Holds (fieldsTo rows s from end) true v w u
   holds-good {v = v} {w = w} {u = u} h l good e =
       subst (λ (y : Slots). Holds y true v w u)
       (checked-good rows (fieldList rows (take end s) from) (required l good rows e) ∙ simp (le-leb end (length s) h))

@@ -8,6 +8,8 @@ pub mod KeptLaws
 pub mod UnreadLaws
 pub mod ApartLaws
 pub mod AlikeLaws
+pub mod PartLaws
+pub mod MergedLaws
 pub mod PaddedLaws
 pub mod AbsentLaws
 pub mod MovedFlagLaws

@@ -59,9 +59,13 @@ fieldsFrom (suc most) rows s at x =
     let more = onField rows x (λ next y. fieldsFrom most rows s next y) (fieldAt s at) in
     cond (ltb at (length s)) more x
 
--- a field has a byte at least, so there are no more fields than bytes
+-- the fields from the place `from` to the end of s, behind what x holds; a field has a byte at least, so there are no
+-- more fields than bytes
+abbrev pub fieldsOnto : List (List ℕ) → List ℕ → ℕ → Slots → Slots
+fieldsOnto rows s from x = fieldsFrom (length s) rows s from x
+
 abbrev pub fieldList : List (List ℕ) → List ℕ → ℕ → Slots
-fieldList rows s from = fieldsFrom (length s) rows s from noSlots
+fieldList rows s from = fieldsOnto rows s from noSlots
 
 -- a row's field occurs, if it is required
 abbrev pub met : List ℕ → List ℕ → Bool

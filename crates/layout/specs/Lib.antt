@@ -2,9 +2,12 @@ pub mod Table
 pub mod Row
 pub mod Slots
 pub mod Fields
+pub mod Part
+pub mod Merged
 pub mod Padded
 pub mod TableRules
 pub mod FieldsRules
+pub mod MergedRules
 pub mod SameBut
 pub mod Reaches
 pub mod private

@@ -1,6 +1,6 @@
 -- Padded field lists (W20): whether any varint that is a field's own is padded, or what `inside` says of any field. The
 -- rows do not matter: unknown fields count as known ones do.
-use Prim.Native.Nat.{ℕ, zero, suc}
+use Prim.Native.Nat.{ℕ, zero, suc, _+_}
 use mathlib.Core.Bool.{Bool, false, cond, _||_}
 use mathlib.Core.List.{List}
 use lib.ListN.{length, take}
@@ -8,6 +8,8 @@ use lib.Dec.{ltb, leb}
 use Rattle.wire.specs.Field.{fieldAt}
 use Rattle.wire.specs.Padded.{fieldPadded}
 use Rattle.wire.specs.declared.field.Field.{Field}
+use Rattle.layout.specs.Part.{startOf, lenOf}
+use Rattle.layout.specs.declared.slots.Slots.{Slots}
 
 -- what is said of the fields behind a good one
 abbrev pub onward : (ℕ → Bool) → Field → Bool
@@ -35,3 +37,11 @@ listPadded s from = paddedList nothingInside s from
 -- the same up to the place `end`, where the message ends inside s
 abbrev pub paddedTo : List ℕ → ℕ → ℕ → Bool
 paddedTo s from end = cond (leb end (length s)) (listPadded (take end s) from) false
+
+-- the own fields of a message in `len` bytes of s from the place `start` on
+abbrev pub partPadded : List ℕ → ℕ → ℕ → Bool
+partPadded s start len = paddedTo s start (start + len)
+
+-- the message in field k of another; one that is not there has no bytes
+abbrev pub slotPadded : List ℕ → Slots → ℕ → Bool
+slotPadded s x k = partPadded s (startOf x k) (lenOf x k)

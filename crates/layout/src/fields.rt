@@ -1,11 +1,11 @@
 // The one field-list reader, driven by a message's rows.
 ghost use mathlib.Core.Path.{_≡_};
 ghost use mathlib.Core.Bool.{_||_};
-ghost use Prim.Native.Nat.{_<_};
-ghost use Rattle.layout.specs.Slots.{badSlots, noSlots};
-ghost use Rattle.layout.specs.Fields.{fieldList, fieldsTo, useBy, useOf};
+ghost use Prim.Native.Nat.{_+_, _<_};
+ghost use Rattle.layout.specs.Slots.{badSlots};
+ghost use Rattle.layout.specs.Fields.{fieldsOnto, fieldsTo, hasRequired, met, useBy, useOf};
 ghost use Rattle.layout.specs.Padded.{listPadded, paddedTo};
-ghost use Rattle.layout.specs.private.Arrays.{Holds, Listed, Noted, hasSeen, metBy};
+ghost use Rattle.layout.specs.private.Arrays.{Adds, Holds, Noted, upToTwo};
 use crate::row::COLUMNS;
 use crate::row::NUMBER;
 use crate::row::REPEATED;
@@ -50,28 +50,34 @@ fn use_of(rows: &[[u16; COLUMNS]], number: u64, wire: u64, value: u64) -> Use
 }
 
 // Arrays that hold nothing.
-pub fn clear(seen: &mut [bool; SLOTS], values: &mut [u64; SLOTS], starts: &mut [usize; SLOTS])
-    ensures { λ r. ⌜ Noted badSlots (now (seen .exit)) (now (values .exit)) (now (starts .exit)) ⌝ }
+pub fn clear(times: &mut [u8; SLOTS], values: &mut [u64; SLOTS], starts: &mut [usize; SLOTS])
+    ensures { λ r. ⌜ Noted badSlots (now (times .exit)) (now (values .exit)) (now (starts .exit)) ⌝ }
 {
-    *seen = [false; SLOTS];
+    *times = [0; SLOTS];
     *values = [0; SLOTS];
     *starts = [0; SLOTS];
 }
 
-// The fields of s from `from` on, noted in arrays that hold nothing yet; answers whether all are good.
-fn list_fields(
+// Once more than this; 2 says twice or more.
+fn once_more(times: u8) -> u8
+    ensures { λ r. ⌜ r ≡ upToTwo (times + 1) ⌝ }
+{
+    if times == 0 { 1 } else { 2 }
+}
+
+// The fields of s from `from` on, noted in arrays behind what these hold; answers whether all are good.
+pub(crate) fn list_fields(
     rows: &[[u16; COLUMNS]],
     s: &[u8],
     from: usize,
-    seen: &mut [bool; SLOTS],
+    times: &mut [u8; SLOTS],
     values: &mut [u64; SLOTS],
     starts: &mut [usize; SLOTS],
     padded: &mut bool,
 ) -> bool
-    requires { ⌜ Noted noSlots (now seen) (now values) (now starts) ⌝ }
     ensures listed { λ r. ⌜
-        Listed (fieldList (now (rows .entry)) (now (s .entry)) from) r (now (seen .exit)) (now (values .exit))
-        (now (starts .exit))
+        Adds (fieldsOnto (now (rows .entry)) (now (s .entry)) from) (now (times .entry)) (now (values .entry))
+        (now (starts .entry)) r (now (times .exit)) (now (values .exit)) (now (starts .exit))
         ⌝ }
     ensures told { λ r. ⌜ now (padded .exit) ≡ (now (padded .entry) || listPadded (now (s .entry)) from) ⌝ }
 {
@@ -92,10 +98,10 @@ fn list_fields(
         match use_of(rows, number, wire, value) {
             Use::Unknown => {}
             Use::Counted => {
-                seen[k] = true;
+                times[k] = once_more(times[k]);
             }
             Use::Kept => {
-                seen[k] = true;
+                times[k] = once_more(times[k]);
                 values[k] = value;
                 starts[k] = start;
             }
@@ -106,26 +112,26 @@ fn list_fields(
 }
 
 // Whether a row's field occurs, if it is required.
-fn row_met(row: [u16; COLUMNS], seen: &[bool]) -> bool
-    ensures { λ r. ⌜ r ≡ metBy row (now (seen .entry)) ⌝ }
+fn row_met(row: [u16; COLUMNS], times: &[u8]) -> bool
+    ensures { λ r. ⌜ r ≡ met row (now (times .entry)) ⌝ }
 {
     if row[REQUIRED] != 1 {
         return true;
     }
     let k = crate::row::wide(row[NUMBER]) as usize;
-    if seen.len() <= k {
+    if times.len() <= k {
         return false;
     }
-    seen[k]
+    times[k] != 0
 }
 
 // Whether each required field of the message occurs.
-fn has_required(rows: &[[u16; COLUMNS]], seen: &[bool]) -> bool
-    ensures { λ r. ⌜ r ≡ hasSeen (now (rows .entry)) (now (seen .entry)) ⌝ }
+pub(crate) fn has_required(rows: &[[u16; COLUMNS]], times: &[u8]) -> bool
+    ensures { λ r. ⌜ r ≡ hasRequired (now (rows .entry)) (now (times .entry)) ⌝ }
 {
     let mut i = 0;
     while i < rows.len() {
-        if !row_met(rows[i], seen) {
+        if !row_met(rows[i], times) {
             return false;
         }
         i += 1;
@@ -134,33 +140,33 @@ fn has_required(rows: &[[u16; COLUMNS]], seen: &[bool]) -> bool
 }
 
 // The message with these rows whose bytes go from `from` to `end`. Answers whether it is good; the
-// arrays then hold, by field number, whether it occurs, its value and its place.
+// arrays then hold, by field number, whether it occurs never (0), once or more often (2), its value and its place.
 pub fn fill_fields(
     rows: &[[u16; COLUMNS]],
     s: &[u8],
     from: usize,
     end: usize,
-    seen: &mut [bool; SLOTS],
+    times: &mut [u8; SLOTS],
     values: &mut [u64; SLOTS],
     starts: &mut [usize; SLOTS],
     padded: &mut bool,
 ) -> bool
     ensures holds { λ r. ⌜
-        Holds (fieldsTo (now (rows .entry)) (now (s .entry)) from end) r (now (seen .exit)) (now (values .exit))
+        Holds (fieldsTo (now (rows .entry)) (now (s .entry)) from end) r (now (times .exit)) (now (values .exit))
         (now (starts .exit))
         ⌝ }
     ensures told { λ r. ⌜ now (padded .exit) ≡ (now (padded .entry) || paddedTo (now (s .entry)) from end) ⌝ }
 {
-    clear(seen, values, starts);
+    clear(times, values, starts);
     if s.len() < end {
         return false;
     }
-    if !list_fields(rows, &s[..end], from, seen, values, starts, padded) {
-        clear(seen, values, starts);
+    if !list_fields(rows, &s[..end], from, times, values, starts, padded) {
+        clear(times, values, starts);
         return false;
     }
-    if !has_required(rows, seen) {
-        clear(seen, values, starts);
+    if !has_required(rows, times) {
+        clear(times, values, starts);
         return false;
     }
     true

@@ -15,7 +15,7 @@ use Rattle.layout.specs.private.Arrays.{Holds}
 use Rattle.layout.specs.declared.slots.Slots.{Slots}
 use Rattle.layout.proofs.ArrayLaws.{held-good, held-value, held-start, held-seen, held-absent, held-present}
 use Rattle.layout.proofs.ArrayLaws.{bytes-long, bytes-long-to}
-use Rattle.args.specs.Part.{embedded, absent, countOf, valueOf, startOf, lenOf, low32}
+use Rattle.layout.specs.Part.{embedded, absent, countOf, valueOf, startOf, lenOf, low32}
 use Rattle.args.specs.declared.arguments.Arguments.{Arguments}
 use Rattle.message.specs.Operation as Operation
 use Rattle.message.specs.Payload.{payload, ifGood, optionalBy, optionalOf}

@@ -9,7 +9,7 @@ use Rattle.layout.specs.Table.{rowsOf, stmtExecute}
 use Rattle.layout.specs.Fields.{hasRequired}
 use Rattle.layout.specs.declared.slots.Slots.{Slots}
 use Rattle.layout.proofs.CountLaws.{good-list}
-use Rattle.args.specs.Part.{embedded, valueOf, low32}
+use Rattle.layout.specs.Part.{embedded, valueOf, low32}
 use Rattle.args.specs.private.Pair.{textIn}
 use Rattle.args.specs.Arguments.{noArguments, badArguments, argumentsIn}
 use Rattle.args.specs.private.Bound.{rowsBy, boundIn, argsOf}

@@ -8,7 +8,7 @@ use borrow.Author.Tests.{eq-eqb, ne-eqb, le-leb, lt-leb}
 use Rattle.prelude.proofs.Cases.{yes, no as without}
 use Rattle.protocol.specs.Client as Client
 use Rattle.args.specs.Arguments.{noArguments, badArguments, argumentsIn}
-use Rattle.args.specs.Part.{embedded, valueOf, low32}
+use Rattle.layout.specs.Part.{embedded, valueOf, low32}
 use Rattle.args.specs.declared.arguments.Arguments.{Arguments}
 use Rattle.layout.specs.declared.slots.Slots.{Slots}
 use Rattle.layout.specs.Table.{rowsOf, stmtExecute}

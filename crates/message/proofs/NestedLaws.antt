@@ -14,7 +14,7 @@ use Rattle.layout.specs.FieldsRules.{startIn, endIn}
 use Rattle.layout.specs.Slots.{badSlots}
 use Rattle.layout.specs.declared.slots.Slots.{Slots}
 use Rattle.layout.proofs.UnreadLaws.{kept-behind, bytes-unread}
-use Rattle.args.specs.Part.{embedded, absent, countOf, startOf, lenOf}
+use Rattle.layout.specs.Part.{embedded, absent, countOf, startOf, lenOf}
 use Rattle.args.proofs.UnreadLaws.{same-wider, field-in, embedded-unread}
 use Rattle.message.specs.Payload.{payload}
 

@@ -18,7 +18,7 @@ use Rattle.layout.specs.Fields.{hasRequired, fieldsAt}
 use Rattle.layout.specs.FieldsRules.{startIn, endIn}
 use Rattle.layout.specs.declared.slots.Slots.{Slots}
 use Rattle.scalar.specs.declared.argument.Argument.{Argument}
-use Rattle.args.specs.Part.{embedded, absent, valueOf, startOf, lenOf, low32}
+use Rattle.layout.specs.Part.{embedded, absent, valueOf, startOf, lenOf, low32}
 use Rattle.args.specs.Arguments.{noArguments, badArguments, together, argumentsAt}
 use Rattle.args.specs.UnreadRules.{typeIn, OneField}
 use Rattle.args.specs.declared.arguments.Arguments.{Arguments}

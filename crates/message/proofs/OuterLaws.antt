@@ -21,7 +21,7 @@ use Rattle.layout.specs.Fields.{noted, hasRequired, checked, fieldsAt}
 use Rattle.layout.specs.declared.slots.Slots.{Slots}
 use Rattle.layout.specs.declared.fields.Use.{Use}
 use Rattle.layout.proofs.FieldsLaws.{Listing, goes-on, ends}
-use Rattle.args.specs.Part.{valueOf, startOf, lenOf}
+use Rattle.layout.specs.Part.{valueOf, startOf, lenOf}
 use Rattle.message.specs.Payload.{payload, optionalBy, optionalOf}
 use Rattle.message.specs.Execute.{openInside, openFrame}
 use Rattle.message.specs.private.First.{Starts}

@@ -23,14 +23,14 @@ use Rattle.wire.proofs.PaddedLaws.{quick-flag}
 use Rattle.layout.specs.Table.{rowsOf, prepareStmt, openStmt}
 use Rattle.layout.specs.Row.{rowFor}
 use Rattle.layout.specs.Fields.{fieldsAt, hasRequired, checked}
-use Rattle.layout.specs.Padded.{listPadded, paddedTo, nothingInside}
+use Rattle.layout.specs.Padded.{listPadded, paddedTo, nothingInside, partPadded, slotPadded}
 use Rattle.layout.specs.private.Arrays.{Holds}
 use Rattle.layout.specs.declared.slots.Slots.{Slots}
 use Rattle.layout.proofs.FieldsLaws.{ends}
 use Rattle.layout.proofs.PaddedLaws.{Marking, marks, marks-on, marked, padded-inside}
 use Rattle.layout.proofs.ArrayLaws.{held-value, held-start}
-use Rattle.args.specs.Part.{embedded, startOf, lenOf, valueOf}
-use Rattle.args.specs.Padded.{partPadded, slotPadded, executePadded}
+use Rattle.layout.specs.Part.{embedded, startOf, lenOf, valueOf}
+use Rattle.args.specs.Padded.{executePadded}
 use Rattle.args.specs.private.Pair.{pairPadded}
 use Rattle.args.proofs.PaddedLaws.{pair-absorbed}
 use Rattle.message.specs.Head.{headOf}

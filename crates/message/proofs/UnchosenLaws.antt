@@ -15,7 +15,7 @@ use Rattle.layout.specs.Table.{rowsOf, prepareStmt, stmtExecute, len}
 use Rattle.layout.specs.Fields.{hasRequired}
 use Rattle.layout.specs.declared.slots.Slots.{Slots}
 use Rattle.scalar.specs.declared.argument.Argument.{Argument}
-use Rattle.args.specs.Part.{absent, countOf, valueOf, startOf, lenOf, low32}
+use Rattle.layout.specs.Part.{absent, countOf, valueOf, startOf, lenOf, low32}
 use Rattle.args.specs.Arguments.{noArguments, together, argumentsAt}
 use Rattle.args.specs.UnreadRules.{typeIn, OnlyField}
 use Rattle.args.specs.declared.arguments.Arguments.{Arguments}

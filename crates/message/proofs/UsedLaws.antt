@@ -12,7 +12,7 @@ use Rattle.prelude.proofs.Cases.{both}
 use Rattle.protocol.specs.Reason as Reason
 use Rattle.args.specs.Arguments.{nthArgument}
 use Rattle.args.specs.WithinRules.{EndsBy}
-use Rattle.args.specs.declared.part.Part.{Part}
+use Rattle.layout.specs.declared.part.Part.{Part}
 use Rattle.args.proofs.ArgumentsLaws.{nth-within}
 use Rattle.args.proofs.WithinLaws.{ends-later}
 use Rattle.message.specs.Head.{headOf}

@@ -10,7 +10,7 @@ use Rattle.protocol.specs.Reason as Reason
 use Rattle.scalar.specs.declared.argument.Argument.{Argument}
 use Rattle.scalar.specs.declared.argument.Argument.the-variants as Va
 use Rattle.args.specs.Arguments.{nthArgument}
-use Rattle.args.specs.declared.part.Part.{Part}
+use Rattle.layout.specs.declared.part.Part.{Part}
 use Rattle.args.specs.declared.arguments.Arguments.{Arguments}
 use Rattle.message.specs.Head.{headOf}
 use Rattle.message.specs.Request as Request

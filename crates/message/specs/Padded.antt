@@ -10,10 +10,10 @@ use Rattle.protocol.specs.Client as Client
 use Rattle.protocol.specs.Fields as Fields
 use Rattle.layout.specs.Table.{rowsOf, openStmt}
 use Rattle.layout.specs.Fields.{fieldsAt}
-use Rattle.layout.specs.Padded.{listPadded}
+use Rattle.layout.specs.Padded.{listPadded, partPadded, slotPadded}
 use Rattle.layout.specs.declared.slots.Slots.{Slots}
-use Rattle.args.specs.Part.{embedded, startOf, lenOf}
-use Rattle.args.specs.Padded.{partPadded, slotPadded, executePadded}
+use Rattle.layout.specs.Part.{embedded, startOf, lenOf}
+use Rattle.args.specs.Padded.{executePadded}
 use Rattle.message.specs.Head.{headOf}
 use Rattle.message.specs.Payload.{payload}
 use Rattle.message.specs.Frame.{frameOf}

@@ -10,9 +10,9 @@ use Rattle.protocol.specs.Fields as Fields
 use Rattle.layout.specs.Table.{rowsOf, prepareStmt, stmtExecute}
 use Rattle.layout.specs.Fields.{fieldsAt}
 use Rattle.layout.specs.declared.slots.Slots.{Slots}
-use Rattle.args.specs.Part.{embedded, absent, valueOf, startOf, lenOf, low32}
+use Rattle.layout.specs.Part.{embedded, absent, valueOf, startOf, lenOf, low32}
 use Rattle.args.specs.Arguments.{noArguments, badArguments}
-use Rattle.args.specs.declared.part.Part.{Part}
+use Rattle.layout.specs.declared.part.Part.{Part}
 use Rattle.args.specs.declared.arguments.Arguments.{Arguments}
 use Rattle.message.specs.Operation as Operation
 use Rattle.message.specs.Payload.{payload, ifGood}

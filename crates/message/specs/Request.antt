@@ -4,7 +4,7 @@ use Prim.Native.Nat.{ℕ}
 use mathlib.Core.Bool.{false}
 use Rattle.protocol.specs.Client as Client
 use Rattle.args.specs.Arguments.{noArguments}
-use Rattle.args.specs.declared.part.Part.{Part}
+use Rattle.layout.specs.declared.part.Part.{Part}
 use Rattle.args.specs.declared.arguments.Arguments.{Arguments}
 use Rattle.message.specs.declared.request.Optional.{Optional}
 use Rattle.message.specs.declared.request.Request.{Request}

@@ -6,7 +6,7 @@ use Rattle.protocol.specs.Fields as Fields
 use Rattle.layout.specs.Table.{rowsOf}
 use Rattle.layout.specs.Fields.{fieldsAt}
 use Rattle.layout.specs.declared.slots.Slots.{Slots}
-use Rattle.args.specs.Part.{valueOf, low32}
+use Rattle.layout.specs.Part.{valueOf, low32}
 use Rattle.message.specs.Payload.{payload, ifGood, optionalOf}
 use Rattle.message.specs.declared.request.Request.{Request}
 use Rattle.message.specs.declared.request.Frame.{Frame}

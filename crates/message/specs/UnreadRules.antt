@@ -10,7 +10,7 @@ use Rattle.protocol.specs.Reason as Reason
 use Rattle.layout.specs.Table.{rowsOf, prepareStmt}
 use Rattle.layout.specs.Fields.{fieldsAt}
 use Rattle.layout.specs.declared.slots.Slots.{Slots}
-use Rattle.args.specs.Part.{embedded, startOf, lenOf}
+use Rattle.layout.specs.Part.{embedded, startOf, lenOf}
 use Rattle.args.specs.UnreadRules.{typeIn, OnlyField, OneField}
 use Rattle.message.specs.Head.{headOf}
 use Rattle.message.specs.Operation as Operation

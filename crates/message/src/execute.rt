@@ -24,8 +24,8 @@ use crate::request::Open;
 use crate::request::Request;
 use args::bound::Bound;
 use args::pair::Pair;
-use args::part::Part;
-use args::part::fill_part;
+use layout::part::Part;
+use layout::part::fill_part;
 use layout::slots::SLOTS;
 use protocol::client;
 use protocol::fields;
@@ -191,17 +191,17 @@ fn long_opening(s: &[u8], padded: &mut bool) -> Opening
     ensures told { λ r. ⌜ TellsOpening (now (s .entry)) r (now (padded .exit)) ⌝ }
 {
     let rows = layout::rows::open_rows();
-    let mut seen = [false; SLOTS];
+    let mut times = [0; SLOTS];
     let mut values = [0; SLOTS];
     let mut starts = [0; SLOTS];
-    if !fill_payload(&rows, s, &mut seen, &mut values, &mut starts, padded) {
+    if !fill_payload(&rows, s, &mut times, &mut values, &mut starts, padded) {
         return Opening::Bad;
     }
     Opening::Of {
         id: values[fields::ID],
         start: starts[fields::OPEN_STMT],
         len: values[fields::OPEN_STMT] as usize,
-        has: seen[fields::OPEN_ROWS],
+        has: times[fields::OPEN_ROWS] != 0,
         rows: values[fields::OPEN_ROWS],
     }
 }
@@ -238,13 +238,13 @@ fn long_inner(s: &[u8], at: usize, n: usize, padded: &mut bool) -> Inner
     ensures told { λ r. ⌜ TellsInner (now (s .entry)) at n r (now (padded .entry)) (now (padded .exit)) ⌝ }
 {
     let rows = layout::rows::open_stmt_rows();
-    let mut seen = [false; SLOTS];
+    let mut times = [0; SLOTS];
     let mut values = [0; SLOTS];
     let mut starts = [0; SLOTS];
-    if !fill_part(&rows, s, at, n, &mut seen, &mut values, &mut starts, padded) {
+    if !fill_part(&rows, s, at, n, &mut times, &mut values, &mut starts, padded) {
         return Inner::Bad;
     }
-    if !seen[fields::OPEN_EXECUTE] {
+    if times[fields::OPEN_EXECUTE] == 0 {
         return Inner::Bad;
     }
     Inner::At {

@@ -7,7 +7,7 @@ ghost use Rattle.message.specs.private.Marks.{Tells};
 ghost use Rattle.message.specs.Frame.{argumentOf, bodyOf, chosenPart, frameIn, frameOf, refusedHead};
 use crate::head::Head;
 use crate::request::Frame;
-use args::part::Part;
+use layout::part::Part;
 use protocol::client;
 use protocol::reason;
 use scalar::argument::Argument;

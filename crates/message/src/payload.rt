@@ -3,7 +3,7 @@ ghost use mathlib.Core.Path.{_≡_};
 ghost use mathlib.Core.Bool.{_||_};
 ghost use Rattle.layout.specs.Fields.{fieldsAt};
 ghost use Rattle.layout.specs.private.Arrays.{Holds};
-ghost use Rattle.args.specs.Part.{low32};
+ghost use Rattle.layout.specs.Part.{low32};
 ghost use Rattle.message.specs.Padded.{ownPadded};
 ghost use Rattle.message.specs.Payload.{optionalBy, payload, truthOf};
 use crate::request::Optional;
@@ -18,18 +18,18 @@ pub const PAYLOAD: usize = 5;
 pub(crate) fn fill_payload(
     rows: &[[u16; COLUMNS]],
     s: &[u8],
-    seen: &mut [bool; SLOTS],
+    times: &mut [u8; SLOTS],
     values: &mut [u64; SLOTS],
     starts: &mut [usize; SLOTS],
     padded: &mut bool,
 ) -> bool
     ensures holds { λ r. ⌜
-        Holds (fieldsAt (now (rows .entry)) (now (s .entry)) payload) r (now (seen .exit)) (now (values .exit))
+        Holds (fieldsAt (now (rows .entry)) (now (s .entry)) payload) r (now (times .exit)) (now (values .exit))
         (now (starts .exit))
         ⌝ }
     ensures told { λ r. ⌜ now (padded .exit) ≡ (now (padded .entry) || ownPadded (now (s .entry))) ⌝ }
 {
-    layout::fields::fill_fields(rows, s, PAYLOAD, s.len(), seen, values, starts, padded)
+    layout::fields::fill_fields(rows, s, PAYLOAD, s.len(), times, values, starts, padded)
 }
 
 // The lowest 32 bits.

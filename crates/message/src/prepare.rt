@@ -6,7 +6,7 @@ ghost use mathlib.Core.Bool.{_||_, false};
 ghost use Rattle.protocol.specs.Client as Client;
 ghost use Rattle.layout.specs.Table.{rowsOf};
 ghost use Rattle.layout.specs.Fields.{fieldsAt};
-ghost use Rattle.args.specs.Padded.{partPadded};
+ghost use Rattle.layout.specs.Padded.{partPadded};
 ghost use Rattle.message.specs.Padded.{preparePadded};
 ghost use Rattle.message.specs.Payload.{payload};
 ghost use Rattle.message.specs.Prepare.{bodyIn, prepareFrame, prepareFrom, prepareInside};
@@ -22,8 +22,8 @@ use crate::request::Request;
 use args::arguments::Arguments;
 use args::pair::Pair;
 use args::pair::Text;
-use args::part::Part;
-use args::part::fill_part;
+use layout::part::Part;
+use layout::part::fill_part;
 use layout::slots::SLOTS;
 use protocol::client;
 use protocol::fields;
@@ -115,10 +115,10 @@ fn long_stmt(s: &[u8], padded: &mut bool) -> Stmt
     ensures told { λ r. ⌜ TellsStmt (now (s .entry)) r (now (padded .exit)) ⌝ }
 {
     let rows = layout::rows::prepare_rows();
-    let mut seen = [false; SLOTS];
+    let mut times = [0; SLOTS];
     let mut values = [0; SLOTS];
     let mut starts = [0; SLOTS];
-    if !fill_payload(&rows, s, &mut seen, &mut values, &mut starts, padded) {
+    if !fill_payload(&rows, s, &mut times, &mut values, &mut starts, padded) {
         return Stmt::Bad;
     }
     Stmt::At {
@@ -160,15 +160,15 @@ fn long_chosen(s: &[u8], at: usize, n: usize, padded: &mut bool) -> Chosen
     ensures told { λ r. ⌜ TellsChosen (now (s .entry)) at n r (now (padded .entry)) (now (padded .exit)) ⌝ }
 {
     let rows = layout::rows::prepare_stmt_rows();
-    let mut seen = [false; SLOTS];
+    let mut times = [0; SLOTS];
     let mut values = [0; SLOTS];
     let mut starts = [0; SLOTS];
-    if !fill_part(&rows, s, at, n, &mut seen, &mut values, &mut starts, padded) {
+    if !fill_part(&rows, s, at, n, &mut times, &mut values, &mut starts, padded) {
         return Chosen::Bad;
     }
     let operation = values[fields::TYPE] % uint32::COUNT;
     let k = operation::field_of(operation);
-    if !seen[k] {
+    if times[k] == 0 {
         return Chosen::Bad;
     }
     Chosen::Body {
@@ -221,7 +221,7 @@ pub fn long_body(s: &[u8], operation: u64, at: usize, n: usize) -> Arguments
         return b.arguments(at, at + n);
     }
     let rows = layout::rows::stmt_execute_rows();
-    let mut seen = [false; SLOTS];
+    let mut times = [0; SLOTS];
     let mut values = [0; SLOTS];
     let mut starts = [0; SLOTS];
     if !fill_part(
@@ -229,7 +229,7 @@ pub fn long_body(s: &[u8], operation: u64, at: usize, n: usize) -> Arguments
         s,
         at,
         n,
-        &mut seen,
+        &mut times,
         &mut values,
         &mut starts,
         &mut unread,

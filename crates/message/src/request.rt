@@ -2,7 +2,7 @@
 ghost use mathlib.Core.Path.{_≡_};
 ghost use Rattle.message.specs.Request.{argsOf, bodyOf};
 use args::arguments::Arguments;
-use args::part::Part;
+use layout::part::Part;
 
 // An optional field: whether it is present, and its value (0 where it is not).
 #[repr(C)]

@@ -28,10 +28,10 @@ fn is_plain(s: &[u8], padded: &mut bool) -> bool
     ensures told { λ r. ⌜ now (padded .exit) ≡ (now (padded .entry) || ownPadded (now (s .entry))) ⌝ }
 {
     let rows = layout::rows::close_rows();
-    let mut seen = [false; SLOTS];
+    let mut times = [0; SLOTS];
     let mut values = [0; SLOTS];
     let mut starts = [0; SLOTS];
-    fill_payload(&rows[..0], s, &mut seen, &mut values, &mut starts, padded)
+    fill_payload(&rows[..0], s, &mut times, &mut values, &mut starts, padded)
 }
 
 pub fn read_reset(s: &[u8], padded: &mut bool) -> Frame
@@ -74,10 +74,10 @@ pub fn read_deallocate(s: &[u8], padded: &mut bool) -> Frame
 {
     *padded = false;
     let rows = layout::rows::deallocate_rows();
-    let mut seen = [false; SLOTS];
+    let mut times = [0; SLOTS];
     let mut values = [0; SLOTS];
     let mut starts = [0; SLOTS];
-    if !fill_payload(&rows, s, &mut seen, &mut values, &mut starts, padded) {
+    if !fill_payload(&rows, s, &mut times, &mut values, &mut starts, padded) {
         return Frame::BadPayload {
             used: s.len(),
             kind: client::DEALLOCATE,
@@ -95,10 +95,10 @@ pub fn read_close(s: &[u8], padded: &mut bool) -> Frame
 {
     *padded = false;
     let rows = layout::rows::close_rows();
-    let mut seen = [false; SLOTS];
+    let mut times = [0; SLOTS];
     let mut values = [0; SLOTS];
     let mut starts = [0; SLOTS];
-    if !fill_payload(&rows, s, &mut seen, &mut values, &mut starts, padded) {
+    if !fill_payload(&rows, s, &mut times, &mut values, &mut starts, padded) {
         return Frame::BadPayload {
             used: s.len(),
             kind: client::CLOSE,
@@ -130,10 +130,10 @@ fn long_fetch(s: &[u8], padded: &mut bool) -> Frame
     ensures told { λ r. ⌜ Tells r (now (padded .exit)) (now (padded .entry) || ownPadded (now (s .entry))) ⌝ }
 {
     let rows = layout::rows::fetch_rows();
-    let mut seen = [false; SLOTS];
+    let mut times = [0; SLOTS];
     let mut values = [0; SLOTS];
     let mut starts = [0; SLOTS];
-    if !fill_payload(&rows, s, &mut seen, &mut values, &mut starts, padded) {
+    if !fill_payload(&rows, s, &mut times, &mut values, &mut starts, padded) {
         return Frame::BadPayload {
             used: s.len(),
             kind: client::FETCH,
@@ -142,7 +142,7 @@ fn long_fetch(s: &[u8], padded: &mut bool) -> Frame
     fetch_of(
         s.len(),
         values[fields::ID],
-        seen[fields::FETCH_ROWS],
+        times[fields::FETCH_ROWS] != 0,
         values[fields::FETCH_ROWS],
     )
 }

@@ -15,12 +15,12 @@ use Rattle.scalar.specs.declared.argument.Argument.{Argument}
 use Rattle.layout.specs.Table.{rowsOf, prepareStmt, stmtExecute, openStmt}
 use Rattle.layout.specs.Fields.{fieldsAt}
 use Rattle.layout.specs.declared.slots.Slots.{Slots}
-use Rattle.args.specs.Part.{embedded, absent, valueOf, startOf, lenOf, low32}
+use Rattle.layout.specs.Part.{embedded, absent, valueOf, startOf, lenOf, low32}
 use Rattle.args.specs.Arguments.{noArguments, badArguments, counted, withType, anyTypeOf, together, argumentsFrom}
 use Rattle.args.specs.Arguments.{argumentsAt, argumentsIn, nextArgument, andMore}
 use Rattle.args.specs.declared.arguments.Arguments.{Arguments}
 use Rattle.args.specs.declared.arguments.NextArgument.{NextArgument}
-use Rattle.args.specs.declared.part.Part.{Part}
+use Rattle.layout.specs.declared.part.Part.{Part}
 use Rattle.message.specs.Head.{headOf, lengthOf, maxLength, lengthBytes}
 use Rattle.message.specs.Operation as Operation
 use Rattle.message.specs.Payload.{payload, ifGood, optionalOf, truthOf}

@@ -24,7 +24,7 @@ use Rattle.layout.specs.Slots.{noSlots}
 use Rattle.layout.specs.Fields.{useOf, fieldsFrom, fieldsAt, hasRequired}
 use Rattle.layout.specs.declared.slots.Slots.{Slots}
 use Rattle.layout.specs.declared.fields.Use.{Use}
-use Rattle.args.specs.Part.{valueOf, low32}
+use Rattle.layout.specs.Part.{valueOf, low32}
 use Rattle.message.specs.Payload.{payload, ifGood}
 use Rattle.message.specs.Simple.{resetFrame, sessionCloseFrame, deallocateFrame, closeFrame, fetchIn, fetchFrame}
 use Rattle.encode.specs.Field.{optionalField}

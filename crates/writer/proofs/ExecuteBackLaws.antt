@@ -17,7 +17,7 @@ use Rattle.layout.specs.Slots.{noSlots}
 use Rattle.layout.specs.Fields.{useOf, hasRequired, fieldsAt}
 use Rattle.layout.specs.declared.slots.Slots.{Slots}
 use Rattle.layout.specs.declared.fields.Use.{Use}
-use Rattle.args.specs.Part.{embedded, low32}
+use Rattle.layout.specs.Part.{embedded, low32}
 use Rattle.args.specs.Arguments.{noArguments, together, argumentsAt}
 use Rattle.args.specs.declared.arguments.Arguments.{Arguments}
 use Rattle.message.specs.Payload.{payload}

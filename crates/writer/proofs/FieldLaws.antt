@@ -23,8 +23,8 @@ use Rattle.layout.specs.Fields.{useOf, noted, hasRequired, checked, fieldsAt}
 use Rattle.layout.specs.declared.slots.Slots.{Slots}
 use Rattle.layout.specs.declared.fields.Use.{Use}
 use Rattle.layout.proofs.FieldsLaws.{Listing, starts, ends, goes-on, checked-good}
-use Rattle.args.specs.Part.{embedded}
-use Rattle.args.proofs.PartLaws.{part-within}
+use Rattle.layout.specs.Part.{embedded}
+use Rattle.layout.proofs.PartLaws.{part-within}
 use Rattle.encode.specs.Field.{optionalField}
 use Rattle.varint.proofs.TailLaws.{Stands, stands-length, stands-first, stands-next, stands-cut, Tail}
 use Rattle.varint.proofs.TailLaws.{tail-length, tail-stands}

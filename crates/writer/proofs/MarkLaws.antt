@@ -19,9 +19,9 @@ use Rattle.wire.specs.declared.field.Field.{Field}
 use Rattle.wire.proofs.PaddedLaws.{field-flag}
 use Rattle.wire.proofs.MovedFlagLaws.{field-flag-stands}
 use Rattle.encode.specs.Field.{numberField, optionalField, bytesField}
-use Rattle.layout.specs.Padded.{paddedFrom, paddedList, nothingInside}
+use Rattle.layout.specs.Padded.{paddedFrom, paddedList, nothingInside, partPadded}
 use Rattle.layout.proofs.PaddedLaws.{flag-end, flag-turn, padded-inside}
-use Rattle.args.specs.Padded.{partPadded, argumentPadded, insideArgs, boundPadded, executePadded}
+use Rattle.args.specs.Padded.{argumentPadded, insideArgs, boundPadded, executePadded}
 use Rattle.args.specs.Arguments.{isArgs}
 use Rattle.args.proofs.ArgsFieldLaws.{is-args, no-number}
 use Rattle.args.proofs.MovedArgLaws.{field-inside}

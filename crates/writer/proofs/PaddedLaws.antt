@@ -19,11 +19,11 @@ use Rattle.protocol.specs.Client as Client
 use Rattle.layout.specs.Table.{rowsOf}
 use Rattle.layout.specs.Row.{rowFor}
 use Rattle.layout.specs.Fields.{fieldsFrom, hasRequired}
-use Rattle.layout.specs.Padded.{paddedFrom}
+use Rattle.layout.specs.Padded.{paddedFrom, slotPadded}
 use Rattle.layout.specs.declared.slots.Slots.{Slots}
-use Rattle.args.specs.Part.{startOf, lenOf}
+use Rattle.layout.specs.Part.{startOf, lenOf}
 use Rattle.args.specs.Value.{ofAnyType, anyOf}
-use Rattle.args.specs.Padded.{slotPadded, insideAny, argumentPadded, insideArgs, executePadded}
+use Rattle.args.specs.Padded.{insideAny, argumentPadded, insideArgs, executePadded}
 use Rattle.message.specs.Head.{maxLength, headOf}
 use Rattle.message.specs.Operation.{fieldOf}
 use Rattle.message.specs.Payload.{payload}

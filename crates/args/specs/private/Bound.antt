@@ -11,7 +11,7 @@ use Rattle.protocol.specs.Fields as Fields
 use Rattle.layout.specs.Table.{rowsOf, stmtExecute}
 use Rattle.layout.specs.Fields.{fieldList}
 use Rattle.layout.specs.declared.slots.Slots.{Slots}
-use Rattle.args.specs.Part.{absent, valueOf}
+use Rattle.layout.specs.Part.{absent, valueOf}
 use Rattle.args.specs.Arguments.{argumentsIn}
 use Rattle.args.specs.declared.arguments.Arguments.{Arguments}
 use Rattle.args.specs.declared.bound.Own.{Own}

@@ -8,8 +8,9 @@ use Rattle.protocol.specs.Client as Client
 use Rattle.varint.specs.Padded.{paddedAt}
 use Rattle.layout.specs.Table.{rowsOf, prepareStmt, openStmt}
 use Rattle.layout.specs.Fields.{fieldsAt}
-use Rattle.args.specs.Part.{embedded}
-use Rattle.args.specs.Padded.{partPadded, executePadded}
+use Rattle.layout.specs.Part.{embedded}
+use Rattle.layout.specs.Padded.{partPadded}
+use Rattle.args.specs.Padded.{executePadded}
 use Rattle.message.specs.Payload.{payload}
 use Rattle.message.specs.Padded.{ownPadded, preparePadded, openStmtPadded, openPadded}
 use Rattle.message.specs.declared.first.First.{First}

@@ -7,7 +7,7 @@ use Rattle.protocol.specs.Client as Client
 use Rattle.layout.specs.Table.{rowsOf}
 use Rattle.layout.specs.Fields.{fieldsAt}
 use Rattle.layout.specs.declared.slots.Slots.{Slots}
-use Rattle.args.specs.Part.{valueOf, startOf, lenOf}
+use Rattle.layout.specs.Part.{valueOf, startOf, lenOf}
 use Rattle.message.specs.Payload.{payload, optionalBy, optionalOf}
 use Rattle.message.specs.declared.outer.Outer.{Outer}
 

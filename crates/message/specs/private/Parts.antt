@@ -5,7 +5,7 @@ use mathlib.Core.Path.{_≡_}
 use mathlib.Core.List.{List}
 use lib.ListN.{length}
 use Rattle.protocol.specs.Client as Client
-use Rattle.args.specs.Part.{low32}
+use Rattle.layout.specs.Part.{low32}
 use Rattle.args.specs.private.Bound.{argsOf}
 use Rattle.args.specs.declared.bound.Bound.{Bound}
 use Rattle.message.specs.Payload.{optionalBy, truthOf}

@@ -9,9 +9,10 @@ use lib.Seq.{take-length}
 use lib.Ieee.{binary32, binary64, ofBits, nanBits}
 use Rattle.prelude.proofs.OrLaws.{or-none, or-then, or-same}
 use Rattle.scalar.specs.declared.argument.Argument.the-variants as Va
-use Rattle.args.specs.Part.{low32}
+use Rattle.layout.specs.Part.{low32}
 use Rattle.args.specs.Arguments.{anyTypeOf}
-use Rattle.args.specs.Padded.{partPadded, scalarPadded}
+use Rattle.layout.specs.Padded.{partPadded}
+use Rattle.args.specs.Padded.{scalarPadded}
 use Rattle.args.specs.private.Pair.{pairPadded}
 use Rattle.args.proofs.ScalarLaws.{Held, named-fits, null-read, long-scalar-read, sint-read, uint-read}
 use Rattle.args.proofs.ScalarLaws.{octets-read, double-read, float-read, bool-read, string-read}

@@ -5,7 +5,7 @@ use mathlib.Core.Path.{_≡_, refl, sym, ap, _∙_}
 use Rattle.prelude.proofs.OrLaws.{or-none, or-same}
 use Rattle.layout.specs.private.Arrays.{fromArrays}
 use Rattle.layout.specs.declared.slots.Slots.{Slots}
-use Rattle.args.specs.Part.{valueOf, low32}
+use Rattle.layout.specs.Part.{valueOf, low32}
 use Rattle.args.specs.Value.{ofAnyType, anyOf}
 use Rattle.args.proofs.ValueLaws.{any-good, any-type-none}
 use Rattle.args.proofs.ArrayLaws.{seen-needed}

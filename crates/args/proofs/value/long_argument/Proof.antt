@@ -4,8 +4,9 @@ use borrow.Author.Tests.{not-true, not-false}
 use Rattle.prelude.proofs.OrLaws.{or-then, or-same, or-none}
 use Rattle.layout.specs.Table.{rowsOf, any}
 use Rattle.layout.specs.private.Arrays.{fromArrays}
-use Rattle.args.specs.Part.{embedded}
-use Rattle.args.specs.Padded.{partPadded, insideAny}
+use Rattle.layout.specs.Part.{embedded}
+use Rattle.layout.specs.Padded.{partPadded}
+use Rattle.args.specs.Padded.{insideAny}
 use Rattle.args.proofs.ArrayLaws.{any-held, any-refused}
 use Rattle.args.proofs.InsideLaws.{any-inside-bad, any-inside-held, any-in}
 use borrow.Author.Needs.{needs}

@@ -4,8 +4,9 @@ use borrow.Author.Tests.{not-true, not-false}
 use Rattle.prelude.proofs.OrLaws.{or-then, or-same, or-none}
 use Rattle.layout.specs.Table.{rowsOf, scalar}
 use Rattle.layout.specs.private.Arrays.{fromArrays}
-use Rattle.args.specs.Part.{embedded}
-use Rattle.args.specs.Padded.{partPadded, insideScalar}
+use Rattle.layout.specs.Part.{embedded}
+use Rattle.layout.specs.Padded.{partPadded}
+use Rattle.args.specs.Padded.{insideScalar}
 use Rattle.args.proofs.ArrayLaws.{scalar-held, scalar-refused}
 use Rattle.args.proofs.InsideLaws.{scalar-inside-bad, scalar-inside-held, scalar-in}
 use borrow.Author.Needs.{needs}

@@ -11,7 +11,7 @@ use Rattle.layout.specs.Table.{rowsOf, bytes}
 use Rattle.layout.specs.Row.{rowFor}
 use Rattle.layout.specs.Fields.{hasRequired}
 use Rattle.args.specs.Value.{bytesOf, bytesIn}
-use Rattle.args.specs.Padded.{partPadded}
+use Rattle.layout.specs.Padded.{partPadded}
 use Rattle.args.specs.private.Pair.{textPadded}
 use Rattle.args.proofs.TextLaws.{text-kept}
 use Rattle.args.proofs.PaddedLaws.{text-part, text-absorbed}

@@ -3,12 +3,15 @@
 use borrow.Author.Needs.{needs}
 use borrow.Author.Tests.{not-true, not-false}
 use native.Mathlib.Omega.{arith}
-use mathlib.Core.Path.{_≡_, sym, _∙_}
+use mathlib.Core.Path.{_≡_, refl, sym, _∙_}
 use mathlib.Core.Bool.{_||_}
-use lib.ListN.{length-take}
+use lib.ListN.{take, length-take}
 use Rattle.prelude.proofs.OrLaws.{or-none, or-same}
 use Rattle.layout.specs.Padded.{paddedTo}
-use Rattle.layout.proofs.FieldsLaws.{holds-outside, holds-bad, holds-missing, holds-good}
+use Rattle.layout.specs.Slots.{noSlots}
+use Rattle.layout.specs.Fields.{fieldList}
+use Rattle.layout.specs.private.Arrays.{Listed}
+use Rattle.layout.proofs.FieldsLaws.{holds-none, holds-outside, holds-bad, holds-missing, holds-good}
 use Rattle.layout.proofs.PaddedLaws.{padded-outside, padded-inside}
 use Rattle.layout.proofs.fields.fill_fields.Statement.{statement}
 use Rattle.layout.proofs.fields.fill_fields.Tie as tie
@@ -36,12 +39,19 @@ told l =
     l .list-fields .ensures .1
     ∙ or-same (a .padded .now) (padded-inside (a .s .now) (a .from) (a .end) (within l .if1 .left))
 
+-- arrays that were cleared held nothing
+listed : (l : tie.After-list-fields) →
+    Listed (fieldList (start l .args .rows .now) (take (start l .args .end) (start l .args .s .now)) (start l .args .from))
+    (l .list-fields .result) (l .list-fields .last .1 .1 .1 .0) (l .list-fields .last .1 .1 .1 .1 .0)
+    (l .list-fields .last .1 .1 .1 .1 .1 .0)
+listed l = l .list-fields .ensures .0 .onto noSlots refl (holds-none (within l .before .clear .ensures))
+
 returns-2 : tie.Need-returns-2
 returns-2 c =
     let t = c .before .before .before .before in
     let l = t .before in
     let a = start l .args in (
-      holds-bad (a .rows .now) (a .s .now) (a .from) (a .end) (within l .if1 .left) (l .list-fields .ensures .0)
+      holds-bad (a .rows .now) (a .s .now) (a .from) (a .end) (within l .if1 .left) (listed l)
           (not-true _ (t .if2 .taken)) (c .clear2 .ensures),
       told l,
     )
@@ -53,7 +63,7 @@ returns-3 c =
     let e = h .before .before .before in
     let l = e .before in
     let a = start l .args in (
-      holds-missing (a .rows .now) (a .s .now) (a .from) (a .end) (within l .if1 .left) (l .list-fields .ensures .0)
+      holds-missing (a .rows .now) (a .s .now) (a .from) (a .end) (within l .if1 .left) (listed l)
           (not-false _ (e .if2 .left)) (sym (h .has-required .ensures) ∙ not-true _ (t .if3 .taken))
           (c .clear3 .ensures),
       told l,
@@ -65,7 +75,7 @@ returns-4 c =
     let e = h .before .before .before in
     let l = e .before in
     let a = start l .args in (
-      holds-good (a .rows .now) (a .s .now) (a .from) (a .end) (within l .if1 .left) (l .list-fields .ensures .0)
+      holds-good (a .rows .now) (a .s .now) (a .from) (a .end) (within l .if1 .left) (listed l)
           (not-false _ (e .if2 .left)) (sym (h .has-required .ensures) ∙ not-false _ (c .if3 .left)),
       told l,
     )

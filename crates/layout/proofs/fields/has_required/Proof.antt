@@ -3,23 +3,23 @@ use borrow.Author.Needs.{needs}
 use borrow.Author.Tests.{not-true, not-false}
 use Prim.Native.Nat.{_-_, _≤_}
 use lib.ListN.{length, drop}
-use Rattle.layout.specs.private.Arrays.{hasSeen}
+use Rattle.layout.specs.Fields.{hasRequired}
 use Rattle.layout.proofs.FieldsLaws.{need-end, need-met, need-missing}
 use mathlib.Core.Path.{_≡_, sym, _∙_}
 use Rattle.layout.proofs.fields.has_required.Statement.{statement}
 use Rattle.layout.proofs.fields.has_required.Tie as tie
 
 abbrev Inv-loop : tie.InvT-loop
-Inv-loop rows seen i₀ i = (i ≤ length rows) × (hasSeen (drop i rows) seen ≡ hasSeen rows seen)
+Inv-loop rows times i₀ i = (i ≤ length rows) × (hasRequired (drop i rows) times ≡ hasRequired rows times)
 
 abbrev μ-loop : tie.MeasureT-loop
-μ-loop rows seen i₀ i = length rows - i
+μ-loop rows times i₀ i = length rows - i
 
 returns : tie.Need-returns Inv-loop μ-loop
 returns c =
     let l = c .before .before .before .before .loop in
     let a = c .before .before .before .before .before .before .args in
-    need-missing (a .rows .now) (a .seen .now) (l .i) (c .before .before .before .loop-test .taken)
+    need-missing (a .rows .now) (a .times .now) (l .i) (c .before .before .before .loop-test .taken)
     (sym (c .before .row-met .ensures) ∙ not-true _ (c .if1 .taken))
     ∙ l .inv .1
 
@@ -28,7 +28,7 @@ loop-again c =
     let l = c .before .before .before .before .loop in
     let a = c .before .before .before .before .before .before .args in (
       search needs,
-      need-met (a .rows .now) (a .seen .now) (l .i) (c .before .before .before .loop-test .taken)
+      need-met (a .rows .now) (a .times .now) (l .i) (c .before .before .before .loop-test .taken)
           (sym (c .before .row-met .ensures) ∙ not-false _ (c .if1 .left))
           ∙ l .inv .1,
     )
@@ -36,5 +36,5 @@ loop-again c =
 pub has-required-spec : {M : Type 1} → statement M
 has-required-spec = tie.close (tie.spec Inv-loop μ-loop (λ c. search needs) (λ c. search needs) (λ c. search needs)
     (λ c κs. tt) returns (λ c. search needs) (λ c. search needs) loop-again
-    (λ c. let a = c .before .before .before .args in need-end (a .rows .now) (a .seen .now) (c .before .loop .i)
+    (λ c. let a = c .before .before .before .args in need-end (a .rows .now) (a .times .now) (c .before .loop .i)
     (c .loop-test .left) ∙ c .before .loop .inv .1))

@@ -4,24 +4,32 @@ use borrow.Author.Needs.{needs}
 use Prim.Native.Nat.{_-_, _<_}
 use native.Mathlib.Omega.{arith}
 use lib.ListN.{length}
-use Rattle.layout.proofs.FieldsLaws.{Filling, filling, filled, spoiled, ahead, fills-unknown, fills-counted}
-use Rattle.layout.proofs.FieldsLaws.{fills-kept, counted-slot, kept-slot}
-use Rattle.layout.proofs.PaddedLaws.{Marking, marks, marked, marks-bad, marks-on}
+use Rattle.layout.proofs.FieldsLaws.{Filling, filling, filled, spoiled, fills-unknown, fills-counted, fills-kept}
+use Rattle.layout.proofs.FieldsLaws.{counted-slot, kept-slot}
+use Rattle.layout.proofs.PaddedLaws.{Marking, marks, marked, marks-bad, marks-on, field-ahead}
+use Rattle.layout.specs.Fields.{fieldsOnto}
 use Rattle.layout.specs.Padded.{nothingInside}
+use Rattle.layout.specs.private.Arrays.{Noted}
+use Rattle.layout.specs.declared.slots.Slots.{Slots}
 use Rattle.wire.specs.Field.{fieldAt}
 use Rattle.wire.specs.declared.field.Field.{Field}
 use Rattle.wire.proofs.NumberLaws.{field-number}
 use Rattle.prelude.proofs.OrLaws.{or-false}
+use mathlib.Core.Bool.{true}
 use mathlib.Core.Path.{_≡_, refl, sym, _∙_}
 use Rattle.layout.proofs.fields.list_fields.Statement.{statement}
 use Rattle.layout.proofs.fields.list_fields.Tie as tie
 
+-- whatever good slots the arrays held at first
 abbrev Inv-loop : tie.InvT-loop
-Inv-loop rows s from seen₀ values₀ starts₀ padded₀ p₀ seen values starts padded p =
-    Filling rows s from p seen values starts × Marking nothingInside s from p padded₀ padded
+Inv-loop rows s from times₀ values₀ starts₀ padded₀ p₀ times values starts padded p =
+    ((x : Slots) →
+    x .good ≡ true →
+    Noted x times₀ values₀ starts₀ → Filling rows s (fieldsOnto rows s from x) p times values starts)
+    × Marking nothingInside s from p padded₀ padded
 
 abbrev μ-loop : tie.MeasureT-loop
-μ-loop rows s from seen₀ values₀ starts₀ padded₀ p₀ seen values starts padded p = length s - p
+μ-loop rows s from times₀ values₀ starts₀ padded₀ p₀ times values starts padded p = length s - p
 
 abbrev start : tie.After-read-field Inv-loop μ-loop → tie.Start Inv-loop μ-loop
 start r = r .before .before .before .before .before
@@ -51,8 +59,9 @@ onward : (f : tie.After-number Inv-loop μ-loop) →
     (f .before .before .before .before .before .loop .p < f .number .given .0 .1 .1 .1 .1 .1 .0)
     × (f .before .before .before .before .before .loop .p < length (start (f .before .before) .args .s .now))
 onward f =
-    let t = f .before .before .before .before in (
-      ahead (t .before .loop .inv .0) (t .loop-test .taken) (read (f .before .before) (f .number .given .1)),
+    let r = f .before .before in
+    let t = r .before .before in (
+      field-ahead (start r .args .s .now) (t .before .loop .p) (read r (f .number .given .1)),
       t .loop-test .taken,
     )
 
@@ -72,44 +81,46 @@ returns c =
     let r = c .before .before in
     let t = r .before .before in
     let bad = read r (c .enum-told .given .1) in (
-      spoiled (t .before .loop .inv .0) (t .loop-test .taken) bad,
+      record { onto = λ x g n. spoiled (t .before .loop .inv .0 x g n) (t .loop-test .taken) bad },
       marks-bad (t .before .loop .inv .1) (t .loop-test .taken) bad refl (r .read-field .ensures .1),
     )
 
 pub list-fields-spec : {M : Type 1} → statement M
 list-fields-spec = tie.close (tie.spec Inv-loop μ-loop
     (λ c. let a = c .before .args in (
-      filling (a .rows .now) (a .s .now) (a .from) (c .before .pre),
-      marks nothingInside
-          (a .s .now) (a .from) (a .padded .now),
+      λ x g n. filling (a .rows .now) (a .s .now) (a .from) x g n,
+      marks nothingInside (a .s .now) (a .from) (a .padded .now),
     )) (λ c κs. tt) (λ c. search needs) (λ c. search needs) returns
     (λ c κs. field-number (start (c .before .before .before) .args .s .now) _
     (read (c .before .before .before) (c .before .number .given .1))) (λ c. search needs)
-    (λ c. search needs) (λ c. counted-in c) (λ c. search needs) (λ c. kept-in c) (λ c. omega (arith, kept-in c))
-    (λ c. kept-in c) (λ c. omega (arith, kept-in c)) (λ c. kept-in c)
+    (λ c. search needs) (λ c. counted-in c) (λ c κs. search needs) (λ c. counted-in (c .before .before))
+    (λ c. search needs) (λ c. kept-in c) (λ c κs. search needs) (λ c. kept-in (c .before .before))
+    (λ c. omega (arith, kept-in (c .before .before))) (λ c. kept-in (c .before .before))
+    (λ c. omega (arith, kept-in (c .before .before))) (λ c. kept-in (c .before .before))
     (λ c. let w = onward (c .before .before .before .before) in omega (arith, w .0, w .1))
     (λ c. let f = c .before .before .before .before in let t = f .before .before .before .before in (
-      fills-unknown
-          (t .before .loop .inv .0) (t .loop-test .taken) (read (f .before .before) (f .number .given .1))
+      λ x g n. fills-unknown (t .before .loop .inv .0 x g n) (t .loop-test .taken)
+          (read (f .before .before) (f .number .given .1))
           (sym (c .enum-told2 .given .1) ∙ c .before .before .use-of .ensures),
       told f,
     ))
-    (λ c. let w = onward (c .before .before .before .before) in omega (arith, w .0, w .1))
-    (λ c. let f = c .before .before .before .before in let t = f .before .before .before .before in (
-      fills-counted
-          (t .before .loop .inv .0) (t .loop-test .taken) (read (f .before .before) (f .number .given .1))
-          (sym (c .enum-told3 .given .1) ∙ c .before .before .use-of .ensures),
+    (λ c. let w = onward (c .before .before .before .before .before .before) in omega (arith, w .0, w .1))
+    (λ c. let e = c .before .before in let f = e .before .before .before .before in
+    let t = f .before .before .before .before in (
+      λ x g n. fills-counted (t .before .loop .inv .0 x g n) (t .loop-test .taken)
+          (read (f .before .before) (f .number .given .1)) (c .once-more .ensures)
+          (sym (e .enum-told3 .given .1) ∙ e .before .before .use-of .ensures),
       told f,
     ))
-    (λ c. let w = onward (c .before .before .before .before) in omega (arith, w .0, w .1))
-    (λ c. let f = c .before .before .before .before in let t = f .before .before .before .before in (
-      fills-kept
-          (t .before .loop .inv .0) (t .loop-test .taken) (read (f .before .before) (f .number .given .1))
-          (sym (c .enum-told4 .given .1) ∙ c .before .before .use-of .ensures),
+    (λ c. let w = onward (c .before .before .before .before .before .before) in omega (arith, w .0, w .1))
+    (λ c. let e = c .before .before in let f = e .before .before .before .before in
+    let t = f .before .before .before .before in (
+      λ x g n. fills-kept (t .before .loop .inv .0 x g n) (t .loop-test .taken)
+          (read (f .before .before) (f .number .given .1)) (c .once-more2 .ensures)
+          (sym (e .enum-told4 .given .1) ∙ e .before .before .use-of .ensures),
       told f,
     ))
     (λ c. (
-      filled (c .before .loop .inv .0) (c .loop-test .left),
-      marked (c .before .loop .inv .1)
-          (c .loop-test .left),
+      record { onto = λ x g n. filled (c .before .loop .inv .0 x g n) (c .loop-test .left) },
+      marked (c .before .loop .inv .1) (c .loop-test .left),
     )))

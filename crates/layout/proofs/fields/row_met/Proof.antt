@@ -1,8 +1,9 @@
 -- `layout::fields::row_met` meets its contract: a required row asks for its slot. Assumes nothing.
 use Prim.Native.Nat.{ℕ}
 use native.Mathlib.Omega.{arith}
-use mathlib.Core.Bool.{false}
+use mathlib.Core.Bool.{not}
 use lib.ListN.{getD}
+use lib.Dec.{eqb}
 use Rattle.layout.proofs.FieldsLaws.{met-optional, met-seen, met-past}
 use mathlib.Core.Path.{ap, _∙_}
 use borrow.Author.Needs.{needs}
@@ -11,9 +12,9 @@ use Rattle.layout.proofs.fields.row_met.Tie as tie
 
 pub row-met-spec : {M : Type 1} → statement M
 row-met-spec = tie.close (tie.spec (λ c. search needs)
-    (λ c. met-optional (c .before .before .args .t1) (c .before .before .args .seen .now) (c .if1 .taken))
+    (λ c. met-optional (c .before .before .args .t1) (c .before .before .args .times .now) (c .if1 .taken))
     (λ c. search needs) (λ c κs. search needs)
-    (λ c. let a = c .before .before .before .before .args in met-past (a .t1) (a .seen .now)
+    (λ c. let a = c .before .before .before .before .args in met-past (a .t1) (a .times .now)
     (c .before .before .if1 .left) (omega (arith, c .before .wide .ensures))) (λ c. search needs)
-    (λ c. let a = c .before .before .before .before .before .args in ap (λ (k : ℕ). getD (a .seen .now) k false)
-    (c .before .before .wide .ensures) ∙ met-seen (a .t1) (a .seen .now) (c .before .before .before .if1 .left)))
+    (λ c. let a = c .before .before .before .before .before .args in ap (λ (k : ℕ). not (eqb (getD (a .times .now) k 0) 0))
+    (c .before .before .wide .ensures) ∙ met-seen (a .t1) (a .times .now) (c .before .before .before .if1 .left)))

@@ -16,7 +16,7 @@ use Rattle.args.proofs.PaddedLaws.{held-short, pair-part}
 use Rattle.message.specs.Execute.{openChosen, openInside}
 use Rattle.message.specs.private.Parts.{ofInner, Runs}
 use mathlib.Core.Bool.{true}
-use Rattle.args.specs.Part.{embedded}
+use Rattle.layout.specs.Part.{embedded}
 use Rattle.args.specs.Padded.{executePadded}
 use Rattle.message.specs.declared.execute.Inner.{Inner}
 use Rattle.message.specs.declared.request.Optional.{Optional}

@@ -4,7 +4,7 @@ use borrow.Author.Tests.{not-true, not-false}
 use Rattle.layout.specs.Table.{rowsOf, openStmt}
 use Rattle.layout.specs.private.Arrays.{Holds}
 use Rattle.layout.proofs.ArrayLaws.{held-good}
-use Rattle.args.specs.Part.{embedded}
+use Rattle.layout.specs.Part.{embedded}
 use Rattle.message.proofs.ArrayLaws.{open-spoiled, open-without, open-held}
 use Rattle.message.proofs.PaddedLaws.{inner-flag, inner-held}
 use borrow.Author.Needs.{needs}

@@ -4,7 +4,7 @@ use native.Mathlib.Nat.{add-sub-cancel-left}
 use native.Mathlib.Omega.{arith}
 use mathlib.Core.Path.{ap, _∙_}
 use lib.ListN.{length, take, drop}
-use Rattle.args.specs.declared.part.Part.{Part}
+use Rattle.layout.specs.declared.part.Part.{Part}
 use Rattle.message.specs.Frame.{bodyIn}
 use Rattle.message.proofs.UsedLaws.{chosen-within, body-length}
 use borrow.Author.Needs.{needs}

@@ -5,7 +5,7 @@ use mathlib.Core.Path.{refl, _∙_}
 use mathlib.Core.List.{[]}
 use borrow.Author.Tests.{not-true, not-false}
 use Rattle.layout.proofs.ArrayLaws.{held-good}
-use Rattle.args.specs.Part.{embedded}
+use Rattle.layout.specs.Part.{embedded}
 use Rattle.args.proofs.BoundLaws.{bound-found}
 use Rattle.message.proofs.MessageLaws.{body-list-bad, body-list}
 use Rattle.message.proofs.BoundLaws.{body-lost, body-found}

@@ -4,7 +4,7 @@ use borrow.Author.Tests.{not-true, not-false}
 use Rattle.layout.specs.Table.{rowsOf, prepareStmt}
 use Rattle.layout.specs.private.Arrays.{Holds}
 use Rattle.layout.proofs.ArrayLaws.{held-good}
-use Rattle.args.specs.Part.{embedded}
+use Rattle.layout.specs.Part.{embedded}
 use Rattle.message.proofs.ArrayLaws.{prepare-spoiled, prepare-without, prepare-held}
 use borrow.Author.Needs.{needs}
 use Rattle.message.proofs.prepare.long_chosen.Statement.{statement}

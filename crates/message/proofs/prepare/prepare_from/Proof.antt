@@ -2,7 +2,7 @@
 use mathlib.Core.Path.{ap, _∙_}
 use borrow.Author.Tests.{not-true, not-false}
 use Rattle.protocol.specs.Client as Client
-use Rattle.args.specs.Part.{low32}
+use Rattle.layout.specs.Part.{low32}
 use Rattle.message.specs.Prepare.{prepareFrom}
 use Rattle.message.specs.declared.request.Request.{Request}
 use Rattle.message.proofs.MessageLaws.{payload-bad, payload-good}

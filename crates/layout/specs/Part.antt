@@ -1,17 +1,16 @@
 -- Messages embedded in others. Places count from the start of the frame, so an embedded message is read from the frame
 -- cut off behind it.
 use Prim.Native.Nat.{ℕ, _+_, _%_, _^_}
-use mathlib.Core.Bool.{Bool, cond}
+use mathlib.Core.Bool.{Bool}
 use mathlib.Core.List.{List}
-use lib.ListN.{length, take, getD}
-use lib.Dec.{leb, eqb}
-use Rattle.layout.specs.Slots.{badSlots}
-use Rattle.layout.specs.Fields.{fieldsAt}
+use lib.ListN.{getD}
+use lib.Dec.{eqb}
+use Rattle.layout.specs.Fields.{fieldsTo}
 use Rattle.layout.specs.declared.slots.Slots.{Slots}
 
 -- the message with these rows in `len` bytes of s from the place `start` on
 abbrev pub embedded : List (List ℕ) → List ℕ → ℕ → ℕ → Slots
-embedded rows s start len = cond (leb (start + len) (length s)) (fieldsAt rows (take (start + len) s) start) badSlots
+embedded rows s start len = fieldsTo rows s start (start + len)
 
 -- of a field number: how often it occurs and whether it does, its value, its place and length
 abbrev pub countOf : Slots → ℕ → ℕ

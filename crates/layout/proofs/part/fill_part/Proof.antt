@@ -1,13 +1,13 @@
--- `args::part::fill_part` meets its contract: a part that is not within the bytes is refused, any other is filled as a
+-- `layout::part::fill_part` meets its contract: a part that is not within the bytes is refused, any other is filled as a
 -- message is. Assumes nothing.
 use native.Mathlib.Omega.{arith}
 use Prim.Native.Nat.{_+_}
 use Rattle.prelude.proofs.OrLaws.{or-none}
 use Rattle.layout.proofs.PaddedLaws.{padded-outside}
-use Rattle.args.proofs.PartLaws.{holds-past}
+use Rattle.layout.proofs.PartLaws.{holds-past}
 use borrow.Author.Needs.{needs}
-use Rattle.args.proofs.part.fill_part.Statement.{statement}
-use Rattle.args.proofs.part.fill_part.Tie as tie
+use Rattle.layout.proofs.part.fill_part.Statement.{statement}
+use Rattle.layout.proofs.part.fill_part.Tie as tie
 
 returns : tie.Need-returns
 returns c =

@@ -1,11 +1,11 @@
 // A message embedded in another, and the places of its fields.
 ghost use mathlib.Core.Path.{_≡_};
 ghost use mathlib.Core.Bool.{_||_};
 ghost use Rattle.layout.specs.private.Arrays.{Holds};
-ghost use Rattle.args.specs.Part.{embedded};
-ghost use Rattle.args.specs.Padded.{partPadded};
-use layout::row::COLUMNS;
-use layout::slots::SLOTS;
+ghost use Rattle.layout.specs.Part.{embedded};
+ghost use Rattle.layout.specs.Padded.{partPadded};
+use crate::row::COLUMNS;
+use crate::slots::SLOTS;
 
 // The place and length of some bytes of a frame.
 #[repr(C)]
@@ -20,24 +20,24 @@ pub fn fill_part(
     s: &[u8],
     start: usize,
     len: usize,
-    seen: &mut [bool; SLOTS],
+    times: &mut [u8; SLOTS],
     values: &mut [u64; SLOTS],
     starts: &mut [usize; SLOTS],
     padded: &mut bool,
 ) -> bool
     ensures holds { λ r. ⌜
-        Holds (embedded (now (rows .entry)) (now (s .entry)) start len) r (now (seen .exit)) (now (values .exit))
+        Holds (embedded (now (rows .entry)) (now (s .entry)) start len) r (now (times .exit)) (now (values .exit))
         (now (starts .exit))
         ⌝ }
     ensures told { λ r. ⌜ now (padded .exit) ≡ (now (padded .entry) || partPadded (now (s .entry)) start len) ⌝ }
 {
     if s.len() < start {
-        layout::fields::clear(seen, values, starts);
+        crate::fields::clear(times, values, starts);
         return false;
     }
     if s.len() - start < len {
-        layout::fields::clear(seen, values, starts);
+        crate::fields::clear(times, values, starts);
         return false;
     }
-    layout::fields::fill_fields(rows, s, start, start + len, seen, values, starts, padded)
+    crate::fields::fill_fields(rows, s, start, start + len, times, values, starts, padded)
 }

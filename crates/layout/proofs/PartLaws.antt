@@ -1,0 +1,25 @@
+-- Embedded messages, case by case. Assumes nothing.
+use Prim.Native.Nat.{ℕ, _+_, _-_, _≤_, _<_}
+use mathlib.Core.Bool.{false}
+use mathlib.Core.Path.{_≡_, refl, subst}
+use mathlib.Core.List.{List}
+use lib.ListN.{length, take}
+use borrow.Author.Tests.{le-leb, lt-leb}
+use Rattle.layout.specs.Slots.{badSlots}
+use Rattle.layout.specs.Fields.{fieldsAt}
+use Rattle.layout.specs.private.Arrays.{Noted, Holds}
+use Rattle.layout.specs.declared.slots.Slots.{Slots}
+use Rattle.layout.specs.Part.{embedded}
+
+module _ (rows : List (List ℕ)) (s : List ℕ) (start len : ℕ) where
+  part-past : length s < start + len → badSlots ≡ embedded rows s start len
+  part-past h = simp (lt-leb (start + len) (length s) h)
+
+  pub part-within : start + len ≤ length s → fieldsAt rows (take (start + len) s) start ≡ embedded rows s start len
+  part-within h = simp (le-leb (start + len) (length s) h)
+
+  pub holds-past : {times values starts : List ℕ} → length s < start + len →
+      Noted badSlots times values starts →
+      Holds (embedded rows s start len) false times values starts
+  holds-past {times} {values} {starts} h n =
+      subst (λ (y : Slots). Holds y false times values starts) (part-past h) (record { answer = refl; held = n })

@@ -1,0 +1,55 @@
+-- What holds of every message in parts: it is what the encoding guide makes of it, the message whose bytes are those of
+-- its parts, one after the other.
+use Prim.Native.Nat.{ℕ}
+use mathlib.Core.Bool.{Bool, true, _&&_}
+use mathlib.Core.Path.{_≡_}
+use mathlib.Core.List.{List, [], _∷_, _++_}
+use lib.ListN.{take, drop}
+use Rattle.layout.specs.Fields.{fieldsAt}
+use Rattle.layout.specs.Part.{embedded, startOf, lenOf}
+use Rattle.layout.specs.Merged.{partsOf, partsIn, merged}
+use Rattle.layout.specs.declared.part.Part.{Part}
+use Rattle.layout.specs.declared.slots.Slots.{Slots}
+
+-- a message in one part is that message
+abbrev pub OnePart : Type 0
+OnePart =
+    (rows : List (List ℕ)) (s : List ℕ) (p : Part) → merged rows s (p ∷ []) ≡ embedded rows s (p .start) (p .len)
+
+-- each part is a field list by itself: with no rows nothing is required
+unfoldable pub allGood : List ℕ → List Part → Bool
+allGood s [] = true
+allGood s (p ∷ ps) = embedded [] s (p .start) (p .len) .good && allGood s ps
+
+-- of a good message each part is one
+abbrev pub EachGood : Type 0
+EachGood = (rows : List (List ℕ)) (s : List ℕ) (ps : List Part) → merged rows s ps .good ≡ true → allGood s ps ≡ true
+
+-- the bytes of the parts, one after the other
+unfoldable pub joined : List ℕ → List Part → List ℕ
+joined s [] = []
+joined s (p ∷ ps) = take (p .len) (drop (p .start) s) ++ joined s ps
+
+-- the bytes of the field that is kept of a number
+abbrev pub bytesIn : List ℕ → Slots → ℕ → List ℕ
+bytesIn s x k = take (lenOf x k) (drop (startOf x k) s)
+
+-- x of s and y of t hold the same: how often each field occurs, its value and its bytes, wherever these stand
+pub record SameFields (s t : List ℕ) (x y : Slots) : Type 0 where
+  pub good : y .good ≡ x .good
+  pub count : y .count ≡ x .count
+  pub value : y .value ≡ x .value
+  pub len : y .len ≡ x .len
+  pub bytes : (k : ℕ) → bytesIn t y k ≡ bytesIn s x k
+
+-- good parts merge as the guide says
+abbrev pub MergesAsGuide : Type 0
+MergesAsGuide =
+    (rows : List (List ℕ)) (s : List ℕ) (ps : List Part) →
+    allGood s ps ≡ true → SameFields s (joined s ps) (merged rows s ps) (fieldsAt rows (joined s ps) 0)
+
+-- and so do the parts of a message inside them, at every layer
+abbrev pub InnerAsGuide : Type 0
+InnerAsGuide =
+    (k : ℕ) (s : List ℕ) (ps : List Part) →
+    allGood s ps ≡ true → joined s (partsIn k s ps) ≡ joined (joined s ps) (partsOf k (joined s ps) 0)
