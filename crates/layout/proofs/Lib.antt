@@ -9,7 +9,9 @@ pub mod UnreadLaws
 pub mod ApartLaws
 pub mod AlikeLaws
 pub mod PartLaws
+pub mod JointLaws
 pub mod MergedLaws
+pub mod PartsLaws
 pub mod PaddedLaws
 pub mod AbsentLaws
 pub mod MovedFlagLaws

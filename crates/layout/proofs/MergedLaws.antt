@@ -1,41 +1,34 @@
 -- Messages in parts: one part is the message, each part is a good list, and good parts read as their bytes do where
 -- these stand one after the other. Assumes nothing.
-use Prim.Native.Nat.{ℕ, zero, suc, _+_, _-_, _≤_, _<_}
+use Prim.Native.Nat.{ℕ, zero, suc, _+_, _≤_, _<_}
 use native.Mathlib.Omega.{arith}
 use mathlib.Core.Bool.{Bool, true, false, cond, _&&_}
 use mathlib.Core.Path.{_≡_, refl, sym, ap, subst, _∙_}
-use mathlib.Core.List.{List, [], _∷_, _++_, append-nil}
-use lib.ListN.{length, getD, set, take, drop, length-append, length-drop, length-set, take-append-drop}
-use lib.Seq.{getD-set-same, getD-set-other, drop-at, drop-drop, drop-append-le, take-append-le, length-take-le}
+use mathlib.Core.List.{List, [], _∷_}
+use lib.ListN.{length, getD, set, take, drop, length-set}
+use lib.Seq.{getD-set-same, getD-set-other}
 use lib.Dec.{ltb, leb}
-use borrow.Author.Tests.{le-leb, leb-true}
-use Rattle.prelude.proofs.Cases.{both, yes, less-or-not}
+use borrow.Author.Tests.{le-leb}
+use Rattle.prelude.proofs.Cases.{both, yes}
 use Rattle.wire.specs.Field.{fieldAt}
-use Rattle.wire.specs.Past.{PastField}
 use Rattle.wire.specs.declared.field.Field.{Field}
-use Rattle.wire.proofs.PastLaws.{field-past}
-use Rattle.wire.proofs.AgreeLaws.{field-longer}
-use Rattle.wire.proofs.MovedLaws.{movedField, field-moved, Tail, tail-length, Stands, stands-length}
-use Rattle.varint.proofs.TailLaws.{stands-cut, stands-next}
+use Rattle.wire.proofs.MovedLaws.{Tail, tail-length}
 use Rattle.layout.specs.Row.{slotCount}
 use Rattle.layout.specs.Slots.{noSlots, badSlots}
-use Rattle.layout.specs.Fields.{useOf, noted, onField, fieldsFrom, fieldsOnto, hasRequired, checked, fieldsTo}
+use Rattle.layout.specs.Fields.{useOf, noted, onField, fieldsFrom, fieldsOnto, hasRequired, checked}
 use Rattle.layout.specs.Part.{embedded}
-use Rattle.layout.specs.Merged.{endOf, partOnto, partsOnto, merged}
+use Rattle.layout.specs.Merged.{endOf, partOnto, partsOnto}
 use Rattle.layout.specs.MergedRules.{OnePart, allGood, EachGood, joined, bytesIn, SameFields, MergesAsGuide}
 use Rattle.layout.specs.declared.part.Part.{Part}
 use Rattle.layout.specs.declared.slots.Slots.{Slots}
 use Rattle.layout.specs.declared.fields.Use.{Use}
-use Rattle.layout.proofs.FieldsLaws.{Towards, starts-onto, from-end, ends, no-field, goes-on, kept-slot}
-use Rattle.layout.proofs.FieldsLaws.{checked-good, checked-bad}
+use Rattle.layout.proofs.FieldsLaws.{Towards, starts-onto, from-end, ends, goes-on, kept-slot}
 use Rattle.layout.proofs.EnoughLaws.{fields-same}
 use Rattle.layout.proofs.KeptLaws.{zeros, same-or-not}
+use Rattle.layout.proofs.JointLaws.{not-both, Joint, here-length, there-length, j-along, joint-rest}
+use Rattle.layout.proofs.JointLaws.{rest-good, first-joint}
 
 -- ---- good or not
-
--- slots are good or not
-not-both : {A : Type 0} {b : Bool} → b ≡ true → b ≡ false → A
-not-both e f = absurd (let z : _≡_ {A = ℕ} 0 1 = cc in omega arith)
 
 pub noted-good : (u : Use) (x : Slots) (number v start n : ℕ) → noted u x number v start n .good ≡ x .good
 noted-good Use.Unknown x number v start n = refl
@@ -143,14 +136,6 @@ module _ (rows : List (List ℕ)) (s : List ℕ) (p : Part) (x : Slots) (g : x .
 and-both : {a b : Bool} → a ≡ true → b ≡ true → (a && b) ≡ true
 and-both e f = rw (e, f)
 
-and-first : (a b : Bool) → (a && b) ≡ true → a ≡ true
-and-first true b e = refl
-and-first false b e = e
-
-and-second : (a b : Bool) → (a && b) ≡ true → b ≡ true
-and-second true b e = e
-and-second false b e = not-both e refl
-
 onto-good : (rows : List (List ℕ)) (s : List ℕ) (ps : List Part) (x : Slots) → x .good ≡ true →
     partsOnto rows s ps x .good ≡ true → allGood s ps ≡ true
 unfolding partsOnto allGood
@@ -170,23 +155,6 @@ each-good rows s ps e =
     onto-good rows s ps noSlots refl (checked-from rows (partsOnto rows s ps noSlots) e)
 
 -- ---- parts one after the other
-
--- bytes inside those that stand somewhere
-stands-inside : {s : List ℕ} {at : ℕ} {bs q : List ℕ} → Stands s at bs q → (i n : ℕ) → i + n ≤ length bs →
-    take n (drop (at + i) s) ≡ take n (drop i bs)
-stands-inside {s} {at} {bs} {q} k i n h =
-    ap (take n)
-    (sym (drop-drop i at s) ∙ ap (drop i) (k .there) ∙ drop-append-le i bs q (omega arith))
-    ∙ take-append-le n (drop i bs) q (omega (arith, length-drop i bs))
-
--- a part's bytes stand at its place
-part-stands : (s : List ℕ) (p : Part) → endOf p ≤ length s →
-    Stands s (p .start) (take (p .len) (drop (p .start) s)) (drop (p .len) (drop (p .start) s))
-part-stands s p h =
-    record { within = omega arith; there = sym (take-append-drop (p .len) (drop (p .start) s)) }
-
-part-length : (s : List ℕ) (p : Part) → endOf p ≤ length s → length (take (p .len) (drop (p .start) s)) ≡ p .len
-part-length s p h = length-take-le (p .len) (drop (p .start) s) (omega (arith, length-drop (p .start) s))
 
 -- the same fields, and a place for each
 record Same (s t : List ℕ) (x y : Slots) : Type 0 where
@@ -281,79 +249,29 @@ record Walked (rows : List (List ℕ)) (s t : List ℕ) (xs : Slots) (at : ℕ) 
   towards : Towards rows t at slots ys
 
 -- the walk through a part, in s and where its bytes stand in t
-module _ (rows : List (List ℕ)) (s t : List ℕ) (p : Part) (inside : endOf p ≤ length s) (d : ℕ) (q : List ℕ)
-    (k : Stands t d (take (p .len) (drop (p .start) s)) q) (xs ys : Slots) (good : xs .good ≡ true) where
-  here : Tail (take (endOf p) s) (p .start) (take (p .len) (drop (p .start) s))
-  here =
-      subst (λ (n : ℕ). Tail (take (p .start + n) s) (p .start) (take (p .len) (drop (p .start) s)))
-      (part-length s p inside) (stands-cut (part-stands s p inside))
+module _ (rows : List (List ℕ)) {s t : List ℕ} {p : Part} {d : ℕ} {q : List ℕ} (j : Joint s p t d q)
+    (xs ys : Slots) where
+  abbrev From : ℕ → Type 0
+  From i =
+      (x y : Slots) →
+      Towards rows (take (endOf p) s) (p .start + i) x xs →
+      Towards rows t (d + i) y ys → Same s t x y → Walked rows s t xs (d + p .len) ys
 
-  there : Tail t d (take (p .len) (drop (p .start) s) ++ q)
-  there = record { within = k .within; is = k .there }
-
-  module _ (i : ℕ) {x y : Slots} (f : Towards rows (take (endOf p) s) (p .start + i) x xs)
-      (g : Towards rows t (d + i) y ys) (a : Same s t x y) where
-    ended : i ≡ p .len → Walked rows s t xs (d + p .len) ys
-    ended e =
-        record {
-          slots = y;
-          same = subst (λ (z : Slots). Same s t z y) (ends f (omega (arith, tail-length here, part-length s p inside))) a;
-          towards = subst (λ (n : ℕ). Towards rows t (d + n) y ys) e g;
-        }
-
-    module _ (l : i < p .len)
-        (on : (j : ℕ) → i < j → j ≤ p .len → (x′ y′ : Slots) → Towards rows (take (endOf p) s) (p .start + j) x′ xs →
-        Towards rows t (d + j) y′ ys → Same s t x′ y′ → Walked rows s t xs (d + p .len) ys) where
-      by-field : (z : Field) → fieldAt (take (p .len) (drop (p .start) s)) i ≡ z → Walked rows s t xs (d + p .len) ys
-      by-field Field.Bad e =
-          not-both good
-          (ap (λ (z : Slots). z .good)
-          (sym
-          (no-field f (omega (arith, tail-length here, part-length s p inside))
-          (field-moved here i ∙ ap (movedField (p .start)) e))))
-      by-field (Field.Good number w v st ln next) e =
-          let u = useOf rows number w v in
-          let size = part-length s p inside in
-          on next (past .1) (omega (arith, past .2, size)) (noted u x number v (p .start + st) ln)
-          (noted u y number v (d + st) ln)
-          (goes-on f (omega (arith, tail-length here, size))
-          (field-moved here i ∙ ap (movedField (p .start)) e) (useOf rows number w v) refl)
-          (goes-on g (omega (arith, stands-length k, size))
-          (field-moved there i ∙ ap (movedField d) (field-longer (take (p .len) (drop (p .start) s)) q i e))
-          (useOf rows number w v) refl)
-          (noted-same rows a number w v (p .start + st) (d + st) ln
-          (stands-inside k st ln (past .0) ∙ sym (stands-inside (part-stands s p inside) st ln (past .0)))
-          (useOf rows number w v) refl)
-        where
-          past : (st + ln ≤ length (take (p .len) (drop (p .start) s))) × (i < next) ×
-              (next ≤ length (take (p .len) (drop (p .start) s)))
-          past = go (field-past (take (p .len) (drop (p .start) s)) i)
-            where
-              go : PastField i (length (take (p .len) (drop (p .start) s))) (fieldAt (take (p .len) (drop (p .start) s)) i) →
-                  (st + ln ≤ length (take (p .len) (drop (p .start) s))) × (i < next) ×
-                  (next ≤ length (take (p .len) (drop (p .start) s)))
-              go = rw e (λ h. (omega arith, h .2, h .3))
-
-  walks : (most i : ℕ) → p .len ≤ i + most → i ≤ p .len → {x y : Slots} →
-      Towards rows (take (endOf p) s) (p .start + i) x xs → Towards rows t (d + i) y ys → Same s t x y →
-      Walked rows s t xs (d + p .len) ys
-  walks zero i h l f g a = ended i f g a (omega arith)
-  walks (suc most) i h l f g a =
-      less-or-not i (p .len)
-      (λ j.
-      by-field i f g a j (λ n m o x′ y′ f′ g′ b. walks most n (omega arith) o f′ g′ b)
-      (fieldAt (take (p .len) (drop (p .start) s)) i) refl)
-      (λ j. ended i f g a (omega arith))
-
--- a good part ends within the bytes
-part-inside : (s : List ℕ) (p : Part) → embedded [] s (p .start) (p .len) .good ≡ true → endOf p ≤ length s
-part-inside s p e = go (leb (endOf p) (length s)) refl e
-  where
-    go : (b : Bool) → leb (endOf p) (length s) ≡ b →
-        cond b (checked [] (fieldsOnto [] (take (endOf p) s) (p .start) noSlots)) badSlots .good ≡ true →
-        endOf p ≤ length s
-    go true h f = leb-true (endOf p) (length s) h
-    go false h f = not-both f refl
+  walks : From 0
+  walks =
+      j-along j From
+      (λ x y f g a.
+      record {
+        slots = y;
+        same = subst (λ (z : Slots). Same s t z y) (ends f (omega (arith, here-length j))) a;
+        towards = g;
+      })
+      (λ i number w v st ln next o on x y f g a.
+      on (noted (useOf rows number w v) x number v (p .start + st) ln)
+      (noted (useOf rows number w v) y number v (d + st) ln)
+      (goes-on f (omega (arith, here-length j, o .inside)) (o .here) (useOf rows number w v) refl)
+      (goes-on g (omega (arith, there-length j, o .inside)) (o .there) (useOf rows number w v) refl)
+      (noted-same rows a number w v (p .start + st) (d + st) ln (o .bytes) (useOf rows number w v) refl))
 
 -- all parts of s from x on, and their bytes in t from y on
 joins : (rows : List (List ℕ)) (s t : List ℕ) (ps : List Part) (d : ℕ) (x y : Slots) → allGood s ps ≡ true →
@@ -365,31 +283,25 @@ joins rows s t (p ∷ ps) d x y e g a k =
     subst (λ (z : Slots). Same s t (cond (z .good) (partsOnto rows s ps z) badSlots) (fieldsOnto rows t d y)) whole
     (subst (λ (z : Slots). Same s t z (fieldsOnto rows t d y)) (yes (partsOnto rows s ps read) badSlots fine)
     (subst (λ (z : Slots). Same s t (partsOnto rows s ps read) z) rest
-    (joins rows s t ps (d + p .len) read (walked .slots) (and-second (embedded [] s (p .start) (p .len) .good) (allGood s ps) e) fine (walked .same) behind)))
+    (joins rows s t ps (d + p .len) read (walked .slots) (rest-good s p ps e) fine (walked .same) (joint-rest joint))))
   where
-    this : embedded [] s (p .start) (p .len) .good ≡ true
-    this = and-first (embedded [] s (p .start) (p .len) .good) (allGood s ps) e
-
-    inside : endOf p ≤ length s
-    inside = part-inside s p this
+    joint : Joint s p t d (joined s ps)
+    joint = first-joint s p ps e k
 
     read : Slots
     read = fieldsOnto rows (take (endOf p) s) (p .start) x
 
     whole : read ≡ partOnto rows s p x
-    whole = simp (le-leb (endOf p) (length s) inside)
+    whole = simp (le-leb (endOf p) (length s) (joint .inside))
 
     fine : read .good ≡ true
-    fine = ap (λ (z : Slots). z .good) whole ∙ part-good rows s p x g ∙ this
-
-    stands : Stands t d (take (p .len) (drop (p .start) s)) (joined s ps)
-    stands = record { within = k .within; there = k .is }
+    fine = ap (λ (z : Slots). z .good) whole ∙ part-good rows s p x g ∙ joint .good
 
     walked : Walked rows s t read (d + p .len) (fieldsOnto rows t d y)
     walked =
         let here : p .start ≡ p .start + 0 = omega arith in
         let there : d ≡ d + 0 = omega arith in
-        walks rows s t p inside d (joined s ps) stands read (fieldsOnto rows t d y) fine (p .len) 0 (omega arith) (omega arith)
+        walks rows joint read (fieldsOnto rows t d y) x y
         (subst (λ (i : ℕ). Towards rows (take (endOf p) s) i x read) here
         (starts-onto rows (take (endOf p) s) (p .start) x))
         (subst (λ (i : ℕ). Towards rows t i y (fieldsOnto rows t d y)) there (starts-onto rows t d y)) a
@@ -399,16 +311,6 @@ joins rows s t (p ∷ ps) d x y e g a k =
         fields-same rows t (length t) (walked .towards .most) (d + p .len) (walked .slots) (omega arith)
         (walked .towards .enough)
         ∙ walked .towards .whole
-
-    behind : Tail t (d + p .len) (joined s ps)
-    behind =
-        record {
-          within = omega (arith, stands-length stands, part-length s p inside);
-          is =
-              sym (drop-drop (p .len) d t)
-              ∙ ap (drop (p .len)) (k .is)
-              ∙ drop-at (take (p .len) (drop (p .start) s)) (joined s ps) (p .len) (part-length s p inside);
-        }
 
 checked-same : (rows : List (List ℕ)) (s t : List ℕ) (x y : Slots) → SameFields s t x y →
     SameFields s t (checked rows x) (checked rows y)
