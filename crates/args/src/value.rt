@@ -63,7 +63,16 @@ pub fn long_argument(s: &[u8], at: usize, n: usize, padded: &mut bool) -> Argume
     let mut times = [0; SLOTS];
     let mut values = [0; SLOTS];
     let mut starts = [0; SLOTS];
-    if !layout::part::fill_part(&rows, s, at, n, &mut times, &mut values, &mut starts, padded) {
+    if !layout::part::fill_part(
+        &rows,
+        s,
+        at,
+        n,
+        &mut times,
+        &mut values,
+        &mut starts,
+        padded,
+    ) {
         return Argument::Refused(reason::BAD_PAYLOAD);
     }
     any_value(s, &times, &values, &starts, padded)
@@ -88,7 +97,16 @@ fn long_bytes(s: &[u8], at: usize, n: usize, octets: bool, padded: &mut bool) ->
     let mut times = [0; SLOTS];
     let mut values = [0; SLOTS];
     let mut starts = [0; SLOTS];
-    if !layout::part::fill_part(&rows, s, at, n, &mut times, &mut values, &mut starts, padded) {
+    if !layout::part::fill_part(
+        &rows,
+        s,
+        at,
+        n,
+        &mut times,
+        &mut values,
+        &mut starts,
+        padded,
+    ) {
         return Argument::Refused(reason::BAD_PAYLOAD);
     }
     let start = starts[BYTES];
@@ -177,7 +195,16 @@ pub(crate) fn long_scalar(s: &[u8], at: usize, n: usize, padded: &mut bool) -> A
     let mut times = [0; SLOTS];
     let mut values = [0; SLOTS];
     let mut starts = [0; SLOTS];
-    if !layout::part::fill_part(&rows, s, at, n, &mut times, &mut values, &mut starts, padded) {
+    if !layout::part::fill_part(
+        &rows,
+        s,
+        at,
+        n,
+        &mut times,
+        &mut values,
+        &mut starts,
+        padded,
+    ) {
         return Argument::Refused(reason::BAD_PAYLOAD);
     }
     scalar_value(s, &times, &values, &starts, padded)

@@ -17,7 +17,7 @@ use Rattle.wire.proofs.PastLaws.{field-past}
 use Rattle.layout.specs.Row.{numberOf, noRow, takes, slotCount}
 use Rattle.layout.specs.Slots.{noSlots, badSlots}
 use Rattle.layout.specs.Fields.{useBy, useOf, noted, onField, fieldsFrom, fieldsOnto, fieldList, met}
-use Rattle.layout.specs.Fields.{hasRequired, checked, fieldsTo}
+use Rattle.layout.specs.Fields.{hasRequired, checked, fieldsAt, fieldsTo}
 use Rattle.layout.specs.private.Arrays.{upToTwo, Noted, Listed, Holds}
 use Rattle.layout.specs.declared.slots.Slots.{Slots}
 use Rattle.layout.specs.declared.fields.Use.{Use}
@@ -168,11 +168,11 @@ times-set l k e =
 
 -- where the loop stands: the arrays hold slots from which what is left comes to y
 pub record Filling (rows : List (List ℕ)) (s : List ℕ) (y : Slots) (p : ℕ) (times values starts : List ℕ) : Type 0
-    where
-  pub slots : Slots
-  pub sound : slots .good ≡ true
-  pub towards : Towards rows s p slots y
-  pub held : Noted slots times values starts
+  where
+    pub slots : Slots
+    pub sound : slots .good ≡ true
+    pub towards : Towards rows s p slots y
+    pub held : Noted slots times values starts
 
 pub filling : (rows : List (List ℕ)) (s : List ℕ) (from : ℕ) {times values starts : List ℕ} (x : Slots) →
     x .good ≡ true → Noted x times values starts → Filling rows s (fieldsOnto rows s from x) from times values starts
@@ -280,51 +280,49 @@ checked-bad rows x e = simp e
 
 -- ---- the message in the arrays
 
+same-either : (b : Bool) (x : Slots) → x ≡ cond b x x
+same-either true x = refl
+same-either false x = refl
+
 -- arrays that hold nothing hold an empty list
 pub holds-none : {times values starts : List ℕ} → Noted badSlots times values starts → Noted noSlots times values starts
 holds-none h = record { times-are = h .times-are; value-is = h .value-is; start-is = h .start-is }
 
-module _ {x : Slots} {g : Bool} {v w u : List ℕ} (l : Listed x g v w u) (good : g ≡ true) where
-  kept : Noted x v w u
-  kept = l .held (sym (l .answer) ∙ good)
+-- a list whose required fields were asked for
+module _ (rows : List (List ℕ)) {x : Slots} {g : Bool} {v w u : List ℕ} (l : Listed x g v w u) where
+  module _ (good : g ≡ true) where
+    kept : Noted x v w u
+    kept = l .held (sym (l .answer) ∙ good)
 
-  required : (rows : List (List ℕ)) {b : Bool} → hasRequired rows v ≡ b → hasRequired rows (x .count) ≡ b
-  required rows e = sym (ap (hasRequired rows) (kept .times-are) ∙ times-required rows (x .count)) ∙ e
+    required : {b : Bool} → hasRequired rows v ≡ b → hasRequired rows (x .count) ≡ b
+    required e = sym (ap (hasRequired rows) (kept .times-are) ∙ times-required rows (x .count)) ∙ e
 
-module _ (rows : List (List ℕ)) (s : List ℕ) (from end : ℕ) where
-  same-either : (b : Bool) (x : Slots) → cond b x x ≡ x
-  same-either true x = refl
-  same-either false x = refl
+    pub lists-good : hasRequired rows v ≡ true → Holds (checked rows x) true v w u
+    lists-good e =
+        subst (λ (y : Slots). Holds y true v w u) (checked-good rows x (required e))
+        (record { answer = sym good ∙ l .answer; held = kept })
 
-  module _ {times values starts : List ℕ} where
-    empty : badSlots ≡ fieldsTo rows s from end → Noted badSlots times values starts →
-        Holds (fieldsTo rows s from end) false times values starts
-    empty e h = subst (λ (y : Slots). Holds y false times values starts) e (record { answer = refl; held = h })
+  module _ {times values starts : List ℕ} (n : Noted badSlots times values starts) where
+    empty : badSlots ≡ checked rows x → Holds (checked rows x) false times values starts
+    empty e = subst (λ (y : Slots). Holds y false times values starts) e (record { answer = refl; held = n })
 
-    pub holds-outside : length s < end → Noted badSlots times values starts →
-        Holds (fieldsTo rows s from end) false times values starts
-    holds-outside h = empty (simp (lt-leb end (length s) h))
+    pub lists-missing : g ≡ true → hasRequired rows v ≡ false → Holds (checked rows x) false times values starts
+    lists-missing good e = empty (checked-bad rows x (required good e))
 
-    pub holds-bad : {g : Bool} {v w u : List ℕ} → end ≤ length s →
-        Listed (fieldList rows (take end s) from) g v w u →
-        g ≡ false → Noted badSlots times values starts → Holds (fieldsTo rows s from end) false times values starts
-    holds-bad h l e =
+    pub lists-bad : g ≡ false → Holds (checked rows x) false times values starts
+    lists-bad e =
         empty
-        (sym (same-either (hasRequired rows (badSlots .count)) badSlots)
-        ∙ ap (checked rows) (sym (l .bad (sym (l .answer) ∙ e)))
-        ∙ simp (le-leb end (length s) h))
+        (same-either (hasRequired rows (badSlots .count)) badSlots
+        ∙ ap (checked rows) (sym (l .bad (sym (l .answer) ∙ e))))
 
-    pub holds-missing : {g : Bool} {v w u : List ℕ} → end ≤ length s →
-        Listed (fieldList rows (take end s) from) g v w u →
-        g ≡ true → hasRequired rows v ≡ false → Noted badSlots times values starts →
-        Holds (fieldsTo rows s from end) false times values starts
-    holds-missing h l good e = empty (checked-bad rows (fieldList rows (take end s) from) (required l good rows e)
-        ∙ simp (le-leb end (length s) h))
+-- a message that ends inside the bytes, or not
+module _ (rows : List (List ℕ)) (s : List ℕ) (from end : ℕ) {times values starts : List ℕ} where
+  pub holds-inside : {g : Bool} → end ≤ length s → Holds (fieldsAt rows (take end s) from) g times values starts →
+      Holds (fieldsTo rows s from end) g times values starts
+  holds-inside {g} h = subst (λ (y : Slots). Holds y g times values starts) (simp (le-leb end (length s) h))
 
-  pub holds-good : {g : Bool} {v w u : List ℕ} → end ≤ length s →
-      Listed (fieldList rows (take end s) from) g v w u → g ≡ true →
-      hasRequired rows v ≡ true → Holds (fieldsTo rows s from end) true v w u
-  holds-good {v = v} {w = w} {u = u} h l good e =
-      subst (λ (y : Slots). Holds y true v w u)
-      (checked-good rows (fieldList rows (take end s) from) (required l good rows e) ∙ simp (le-leb end (length s) h))
-      (record { answer = sym good ∙ l .answer; held = kept l good })
+  pub holds-outside : length s < end → Noted badSlots times values starts →
+      Holds (fieldsTo rows s from end) false times values starts
+  holds-outside h n =
+      subst (λ (y : Slots). Holds y false times values starts) (simp (lt-leb end (length s) h))
+      (record { answer = refl; held = n })

@@ -12,6 +12,7 @@ pub mod PartLaws
 pub mod JointLaws
 pub mod MergedLaws
 pub mod PartsLaws
+pub mod MergeLaws
 pub mod PaddedLaws
 pub mod AbsentLaws
 pub mod MovedFlagLaws

@@ -1,7 +1,7 @@
 -- Messages in parts. A field that holds a message may occur more than once: each occurrence then is a part of one
 -- message, and the fields of all parts count, in order, as if they stood in one list.
 use Prim.Native.Nat.{ℕ, zero, suc, _+_}
-use mathlib.Core.Bool.{cond, _&&_}
+use mathlib.Core.Bool.{Bool, cond, _&&_}
 use mathlib.Core.List.{List, [], _∷_, _++_}
 use lib.ListN.{length, take}
 use lib.Dec.{ltb, leb, eqb}
@@ -19,10 +19,14 @@ endOf p = p .start + p .len
 
 -- ---- where the parts stand
 
--- one field: of number k and with bytes it is a part, and `more` are those behind it
+-- a field of number k with bytes is one
+abbrev pub isPart : ℕ → ℕ → ℕ → Bool
+isPart k number wire = eqb number k && eqb wire len
+
+-- one field, and `more` of the place behind it
 abbrev pub partBy : ℕ → (ℕ → List Part) → Field → List Part
 partBy k more (Field.Good number wire value start n next) =
-    cond (eqb number k && eqb wire len) (record { start = start; len = n } ∷ more next) (more next)
+    cond (isPart k number wire) (record { start = start; len = n } ∷ more next) (more next)
 partBy k more Field.Bad = []
 
 -- the parts in field k among at most `most` fields from the place `at` on

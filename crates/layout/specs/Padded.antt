@@ -2,13 +2,14 @@
 -- rows do not matter: unknown fields count as known ones do.
 use Prim.Native.Nat.{ℕ, zero, suc, _+_}
 use mathlib.Core.Bool.{Bool, false, cond, _||_}
-use mathlib.Core.List.{List}
+use mathlib.Core.List.{List, [], _∷_}
 use lib.ListN.{length, take}
 use lib.Dec.{ltb, leb}
 use Rattle.wire.specs.Field.{fieldAt}
 use Rattle.wire.specs.Padded.{fieldPadded}
 use Rattle.wire.specs.declared.field.Field.{Field}
 use Rattle.layout.specs.Part.{startOf, lenOf}
+use Rattle.layout.specs.declared.part.Part.{Part}
 use Rattle.layout.specs.declared.slots.Slots.{Slots}
 
 -- what is said of the fields behind a good one
@@ -45,3 +46,8 @@ partPadded s start len = paddedTo s start (start + len)
 -- the message in field k of another; one that is not there has no bytes
 abbrev pub slotPadded : List ℕ → Slots → ℕ → Bool
 slotPadded s x k = partPadded s (startOf x k) (lenOf x k)
+
+-- all parts of a message
+unfoldable pub partsPadded : List ℕ → List Part → Bool
+partsPadded s [] = false
+partsPadded s (p ∷ ps) = partPadded s (p .start) (p .len) || partsPadded s ps

@@ -241,7 +241,16 @@ fn long_inner(s: &[u8], at: usize, n: usize, padded: &mut bool) -> Inner
     let mut times = [0; SLOTS];
     let mut values = [0; SLOTS];
     let mut starts = [0; SLOTS];
-    if !fill_part(&rows, s, at, n, &mut times, &mut values, &mut starts, padded) {
+    if !fill_part(
+        &rows,
+        s,
+        at,
+        n,
+        &mut times,
+        &mut values,
+        &mut starts,
+        padded,
+    ) {
         return Inner::Bad;
     }
     if times[fields::OPEN_EXECUTE] == 0 {

@@ -163,7 +163,16 @@ fn long_chosen(s: &[u8], at: usize, n: usize, padded: &mut bool) -> Chosen
     let mut times = [0; SLOTS];
     let mut values = [0; SLOTS];
     let mut starts = [0; SLOTS];
-    if !fill_part(&rows, s, at, n, &mut times, &mut values, &mut starts, padded) {
+    if !fill_part(
+        &rows,
+        s,
+        at,
+        n,
+        &mut times,
+        &mut values,
+        &mut starts,
+        padded,
+    ) {
         return Chosen::Bad;
     }
     let operation = values[fields::TYPE] % uint32::COUNT;

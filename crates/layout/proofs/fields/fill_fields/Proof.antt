@@ -4,14 +4,16 @@ use borrow.Author.Needs.{needs}
 use borrow.Author.Tests.{not-true, not-false}
 use native.Mathlib.Omega.{arith}
 use mathlib.Core.Path.{_≡_, refl, sym, _∙_}
-use mathlib.Core.Bool.{_||_}
+use mathlib.Core.Bool.{Bool, _||_}
+use Prim.Native.Nat.{ℕ}
+use mathlib.Core.List.{List}
 use lib.ListN.{take, length-take}
 use Rattle.prelude.proofs.OrLaws.{or-none, or-same}
 use Rattle.layout.specs.Padded.{paddedTo}
 use Rattle.layout.specs.Slots.{noSlots}
-use Rattle.layout.specs.Fields.{fieldList}
-use Rattle.layout.specs.private.Arrays.{Listed}
-use Rattle.layout.proofs.FieldsLaws.{holds-none, holds-outside, holds-bad, holds-missing, holds-good}
+use Rattle.layout.specs.Fields.{fieldList, fieldsAt, fieldsTo}
+use Rattle.layout.specs.private.Arrays.{Listed, Holds}
+use Rattle.layout.proofs.FieldsLaws.{holds-none, holds-outside, holds-inside, lists-bad, lists-missing, lists-good}
 use Rattle.layout.proofs.PaddedLaws.{padded-outside, padded-inside}
 use Rattle.layout.proofs.fields.fill_fields.Statement.{statement}
 use Rattle.layout.proofs.fields.fill_fields.Tie as tie
@@ -46,13 +48,18 @@ listed : (l : tie.After-list-fields) →
     (l .list-fields .last .1 .1 .1 .1 .1 .0)
 listed l = l .list-fields .ensures .0 .onto noSlots refl (holds-none (within l .before .clear .ensures))
 
+-- and as the message that ends inside
+held : (l : tie.After-list-fields) {g : Bool} {v w u : List ℕ} →
+    Holds (fieldsAt (start l .args .rows .now) (take (start l .args .end) (start l .args .s .now)) (start l .args .from))
+    g v w u →
+    Holds (fieldsTo (start l .args .rows .now) (start l .args .s .now) (start l .args .from) (start l .args .end)) g v w u
+held l = let a = start l .args in holds-inside (a .rows .now) (a .s .now) (a .from) (a .end) (within l .if1 .left)
+
 returns-2 : tie.Need-returns-2
 returns-2 c =
     let t = c .before .before .before .before in
-    let l = t .before in
-    let a = start l .args in (
-      holds-bad (a .rows .now) (a .s .now) (a .from) (a .end) (within l .if1 .left) (listed l)
-          (not-true _ (t .if2 .taken)) (c .clear2 .ensures),
+    let l = t .before in (
+      held l (lists-bad (start l .args .rows .now) (listed l) (c .clear2 .ensures) (not-true _ (t .if2 .taken))),
       told l,
     )
 
@@ -61,11 +68,10 @@ returns-3 c =
     let t = c .before .before .before .before in
     let h = t .before in
     let e = h .before .before .before in
-    let l = e .before in
-    let a = start l .args in (
-      holds-missing (a .rows .now) (a .s .now) (a .from) (a .end) (within l .if1 .left) (listed l)
-          (not-false _ (e .if2 .left)) (sym (h .has-required .ensures) ∙ not-true _ (t .if3 .taken))
-          (c .clear3 .ensures),
+    let l = e .before in (
+      held l
+          (lists-missing (start l .args .rows .now) (listed l) (c .clear3 .ensures) (not-false _ (e .if2 .left))
+          (sym (h .has-required .ensures) ∙ not-true _ (t .if3 .taken))),
       told l,
     )
 
@@ -73,10 +79,10 @@ returns-4 : tie.Need-returns-4
 returns-4 c =
     let h = c .before in
     let e = h .before .before .before in
-    let l = e .before in
-    let a = start l .args in (
-      holds-good (a .rows .now) (a .s .now) (a .from) (a .end) (within l .if1 .left) (listed l)
-          (not-false _ (e .if2 .left)) (sym (h .has-required .ensures) ∙ not-false _ (c .if3 .left)),
+    let l = e .before in (
+      held l
+          (lists-good (start l .args .rows .now) (listed l) (not-false _ (e .if2 .left))
+          (sym (h .has-required .ensures) ∙ not-false _ (c .if3 .left))),
       told l,
     )
 

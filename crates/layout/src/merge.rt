@@ -1,0 +1,194 @@
+// Messages in parts: the fields of each part are noted in the same arrays, part by part.
+ghost use mathlib.Core.Path.{_≡_};
+ghost use mathlib.Core.Bool.{_||_, true};
+ghost use Rattle.layout.specs.Merged.{isPart, merged, partsIn, partsOf, partsOnto};
+ghost use Rattle.layout.specs.Padded.{partsPadded};
+ghost use Rattle.layout.specs.private.Arrays.{Adds, Holds};
+use crate::fields::clear;
+use crate::fields::has_required;
+use crate::fields::list_fields;
+use crate::row::COLUMNS;
+use crate::slots::SLOTS;
+use protocol::wire_type;
+use wire::field::Field;
+
+// The message with these rows whose parts are the fields k of another one, which goes from `from` to the end of s. The
+// arrays and the answer are as fill_fields has them; of a bad message the flag says nothing.
+pub fn merge_fields(
+    rows: &[[u16; COLUMNS]],
+    s: &[u8],
+    from: usize,
+    k: u64,
+    times: &mut [u8; SLOTS],
+    values: &mut [u64; SLOTS],
+    starts: &mut [usize; SLOTS],
+    padded: &mut bool,
+) -> bool
+    ensures holds { λ r. ⌜
+        Holds (merged (now (rows .entry)) (now (s .entry)) (partsOf k (now (s .entry)) from)) r (now (times .exit))
+        (now (values .exit)) (now (starts .exit))
+        ⌝ }
+    ensures told { λ r. ⌜
+        (r ≡ true →
+        now (padded .exit) ≡ (now (padded .entry) || partsPadded (now (s .entry)) (partsOf k (now (s .entry)) from)))
+        ⌝ }
+{
+    clear(times, values, starts);
+    if !list_parts(rows, s, from, k, times, values, starts, padded) {
+        clear(times, values, starts);
+        return false;
+    }
+    if !has_required(rows, times) {
+        clear(times, values, starts);
+        return false;
+    }
+    true
+}
+
+// The same where the other one is itself in parts, the fields `outer` of a third.
+pub fn merge_inner(
+    rows: &[[u16; COLUMNS]],
+    s: &[u8],
+    from: usize,
+    outer: u64,
+    k: u64,
+    times: &mut [u8; SLOTS],
+    values: &mut [u64; SLOTS],
+    starts: &mut [usize; SLOTS],
+    padded: &mut bool,
+) -> bool
+    ensures holds { λ r. ⌜
+        Holds
+        (merged (now (rows .entry)) (now (s .entry))
+        (partsIn k (now (s .entry)) (partsOf outer (now (s .entry)) from)))
+        r (now (times .exit)) (now (values .exit)) (now (starts .exit))
+        ⌝ }
+    ensures told { λ r. ⌜
+        (r ≡ true →
+        now (padded .exit)
+        ≡ (now (padded .entry)
+        || partsPadded (now (s .entry)) (partsIn k (now (s .entry)) (partsOf outer (now (s .entry)) from))))
+        ⌝ }
+{
+    clear(times, values, starts);
+    if !list_inner(rows, s, from, outer, k, times, values, starts, padded) {
+        clear(times, values, starts);
+        return false;
+    }
+    if !has_required(rows, times) {
+        clear(times, values, starts);
+        return false;
+    }
+    true
+}
+
+// Whether a field is a part of the message in field k.
+fn is_part(k: u64, number: u64, wire: u64) -> bool
+    ensures { λ r. ⌜ r ≡ isPart k number wire ⌝ }
+{
+    if number != k {
+        return false;
+    }
+    wire == wire_type::LEN
+}
+
+// The fields of each part, noted behind what the arrays hold; answers whether all are good. The fields between the
+// parts were read before, so that their flag, `unread`, is not looked at.
+fn list_parts(
+    rows: &[[u16; COLUMNS]],
+    s: &[u8],
+    from: usize,
+    k: u64,
+    times: &mut [u8; SLOTS],
+    values: &mut [u64; SLOTS],
+    starts: &mut [usize; SLOTS],
+    padded: &mut bool,
+) -> bool
+    ensures listed { λ r. ⌜
+        Adds (partsOnto (now (rows .entry)) (now (s .entry)) (partsOf k (now (s .entry)) from)) (now (times .entry))
+        (now (values .entry)) (now (starts .entry)) r (now (times .exit)) (now (values .exit)) (now (starts .exit))
+        ⌝ }
+    ensures told { λ r. ⌜
+        (r ≡ true →
+        now (padded .exit) ≡ (now (padded .entry) || partsPadded (now (s .entry)) (partsOf k (now (s .entry)) from)))
+        ⌝ }
+{
+    let mut unread = false;
+    let mut p = from;
+    while p < s.len() {
+        let Field::Good {
+            number,
+            wire,
+            value: _,
+            start,
+            len,
+            next,
+        } = wire::field::long_field(s, p, &mut unread)
+        else {
+            return true;
+        };
+        if is_part(k, number, wire) {
+            let end = start + len;
+            if !list_fields(rows, &s[..end], start, times, values, starts, padded) {
+                return false;
+            }
+            p = next;
+        } else {
+            p = next;
+        }
+    }
+    true
+}
+
+// The same of the parts in field k of each part in field `outer`.
+fn list_inner(
+    rows: &[[u16; COLUMNS]],
+    s: &[u8],
+    from: usize,
+    outer: u64,
+    k: u64,
+    times: &mut [u8; SLOTS],
+    values: &mut [u64; SLOTS],
+    starts: &mut [usize; SLOTS],
+    padded: &mut bool,
+) -> bool
+    ensures listed { λ r. ⌜
+        Adds
+        (partsOnto (now (rows .entry)) (now (s .entry))
+        (partsIn k (now (s .entry)) (partsOf outer (now (s .entry)) from)))
+        (now (times .entry)) (now (values .entry)) (now (starts .entry)) r (now (times .exit)) (now (values .exit))
+        (now (starts .exit))
+        ⌝ }
+    ensures told { λ r. ⌜
+        (r ≡ true →
+        now (padded .exit)
+        ≡ (now (padded .entry)
+        || partsPadded (now (s .entry)) (partsIn k (now (s .entry)) (partsOf outer (now (s .entry)) from))))
+        ⌝ }
+{
+    let mut unread = false;
+    let mut p = from;
+    while p < s.len() {
+        let Field::Good {
+            number,
+            wire,
+            value: _,
+            start,
+            len,
+            next,
+        } = wire::field::long_field(s, p, &mut unread)
+        else {
+            return true;
+        };
+        if is_part(outer, number, wire) {
+            let end = start + len;
+            if !list_parts(rows, &s[..end], start, k, times, values, starts, padded) {
+                return false;
+            }
+            p = next;
+        } else {
+            p = next;
+        }
+    }
+    true
+}
