@@ -166,11 +166,11 @@ module _ {s : List ℕ} {p : Part} {t : List ℕ} {d : ℕ} {q : List ℕ} (j : 
 
 -- ---- parts one after the other
 
-and-first : (a b : Bool) → (a && b) ≡ true → a ≡ true
+pub and-first : (a b : Bool) → (a && b) ≡ true → a ≡ true
 and-first true b e = refl
 and-first false b e = e
 
-and-second : (a b : Bool) → (a && b) ≡ true → b ≡ true
+pub and-second : (a b : Bool) → (a && b) ≡ true → b ≡ true
 and-second true b e = e
 and-second false b e = not-both e refl
 

@@ -13,6 +13,7 @@ pub mod JointLaws
 pub mod MergedLaws
 pub mod PartsLaws
 pub mod MergeLaws
+pub mod KeepsLaws
 pub mod PaddedLaws
 pub mod AbsentLaws
 pub mod MovedFlagLaws
