@@ -1,13 +1,13 @@
 -- The value of an argument from the arrays that hold its messages. Assumes nothing.
-use Prim.Native.Nat.{ℕ, zero, suc, _+_}
+use Prim.Native.Nat.{ℕ, _+_}
 use mathlib.Core.Bool.{Bool, true, false, cond}
 use mathlib.Core.Path.{_≡_, refl, sym, ap, _∙_}
-use mathlib.Core.List.{List, [], _∷_, map}
+use mathlib.Core.List.{List}
 use lib.ListN.{getD}
 use Rattle.scalar.specs.declared.argument.Argument.{Argument}
 use Rattle.layout.specs.Row.{rowFor}
 use Rattle.layout.specs.Table.{rowsOf, any, scalar, bytes}
-use Rattle.layout.specs.private.Arrays.{once, Holds, fromArrays, inArrays}
+use Rattle.layout.specs.private.Arrays.{Holds, fromArrays, inArrays}
 use Rattle.layout.specs.declared.slots.Slots.{Slots}
 use Rattle.layout.proofs.ArrayLaws.{holds-arrays, same-absent, bytes-long-to}
 use Rattle.layout.specs.Part.{embedded, valueOf, lenOf, low32}
@@ -15,20 +15,8 @@ use Rattle.args.specs.Value.{bad, present, bytesOf, bytesIn, ofType, sca
 use Rattle.args.specs.Value.{argumentIn}
 use Rattle.args.proofs.ValueLaws.{bytes-bad, scalar-bad, any-bad}
 
--- a value that is present by its array
-present-seen : (seen : List Bool) (k : ℕ) (a : Argument) →
-    cond (getD seen k false) a bad ≡ present (getD (map once seen) k 0) a
-present-seen [] k a = refl
-present-seen (true ∷ l) zero a = refl
-present-seen (false ∷ l) zero a = refl
-present-seen (b ∷ l) (suc k) a = present-seen l k a
-
-pub seen-needed : (seen : List Bool) (k : ℕ) {r v a : Argument} → r ≡ cond (getD seen k false) v bad → v ≡ a →
-    r ≡ present (getD (map once seen) k 0) a
-seen-needed seen k {a = a} p e = p ∙ ap (λ (v : Argument). cond (getD seen k false) v bad) e ∙ present-seen seen k a
-
 -- arrays that hold a good message
-pub arrays-good : {x : Slots} {g : Bool} {v : List Bool} {w u : List ℕ} → Holds x g v w u → g ≡ true →
+pub arrays-good : {x : Slots} {g : Bool} {v w u : List ℕ} → Holds x g v w u → g ≡ true →
     fromArrays true v w u ≡ inArrays x
 arrays-good {v = v} {w = w} {u = u} h e = ap (λ (b : Bool). fromArrays b v w u) (sym e) ∙ holds-arrays h
 
@@ -73,7 +61,7 @@ module _ (s : List ℕ) (x : Slots) where
 bytes-arrays : (b : Bool) (x : Slots) → lenOf x 1 ≡ valueOf x 1 → bytesOf b (inArrays x) ≡ bytesOf b x
 bytes-arrays b x e = rw e
 
-module _ (s : List ℕ) (at n : ℕ) {g : Bool} {v : List Bool} {w u : List ℕ} where
+module _ (s : List ℕ) (at n : ℕ) {g : Bool} {v w u : List ℕ} where
   pub scalar-held : Holds (embedded (rowsOf scalar) s at n) g v w u → g ≡ true →
       scalarOf s (fromArrays true v w u) ≡ scalarIn s at n
   scalar-held h e =

@@ -48,7 +48,7 @@ any-same : (s : List ℕ) (x : Slots) → lenOf x 2 ≡ valueOf x 2 → insideAn
 unfolding insideAny
 any-same s x p = rw p
 
-module _ (s : List ℕ) (at n : ℕ) {g : Bool} {v : List Bool} {w u : List ℕ} where
+module _ (s : List ℕ) (at n : ℕ) {g : Bool} {v w u : List ℕ} where
   pub scalar-inside-held : Holds (embedded (rowsOf scalar) s at n) g v w u → g ≡ true →
       insideScalar s (fromArrays true v w u) ≡ insideScalar s (embedded (rowsOf scalar) s at n)
   scalar-inside-held h e =

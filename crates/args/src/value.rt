@@ -224,7 +224,8 @@ fn any_value(
     ensures told { λ r. ⌜
         now (padded .exit)
         ≡ (now (padded .entry)
-        || insideAny (now (s .entry)) (fromArrays true (now (times .entry)) (now (values .entry)) (now (starts .entry))))
+        || insideAny (now (s .entry))
+        (fromArrays true (now (times .entry)) (now (values .entry)) (now (starts .entry))))
         ⌝ }
 {
     let t = values[TYPE] % uint32::COUNT;

@@ -165,7 +165,8 @@ module _ (rows : List (List ℕ)) {s : List ℕ} {d : ℕ} {t : List ℕ} (k : T
   pub onto-alike : (n : ℕ) → length t ≤ n → {x y : Slots} → Alike rows d n x y →
       Alike rows d n (fieldsOnto rows t from x) (fieldsOnto rows s (d + from) y)
   onto-alike n few {x} {y} a =
-      walks rows k n few (fieldsOnto rows t from x) (fieldsOnto rows s (d + from) y) (length t) from (omega arith) (starts-onto rows t from x) (starts-onto rows s (d + from) y) a
+      walks rows k n few (fieldsOnto rows t from x) (fieldsOnto rows s (d + from) y) (length t) from (omega arith)
+      (starts-onto rows t from x) (starts-onto rows s (d + from) y) a
 
   pub fields-alike : Alike rows d (length t) (fieldsAt rows t from) (fieldsAt rows s (d + from))
   fields-alike =

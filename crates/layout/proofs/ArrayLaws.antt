@@ -8,7 +8,7 @@ use mathlib.Core.List.{List, [], _∷_, map}
 use lib.ListN.{length, getD, set, take, length-set}
 use lib.Seq.{getD-set-other, take-length}
 use lib.Dec.{ltb, leb, eqb}
-use borrow.Author.Tests.{le-leb, eq-eqb, eqb-true, eqb-false}
+use borrow.Author.Tests.{le-leb, eq-eqb, ne-eqb, eqb-true, eqb-false}
 use Rattle.prelude.proofs.Cases.{both}
 use Rattle.wire.specs.Field.{fieldAt}
 use Rattle.wire.specs.declared.field.Field.{Field}
@@ -17,6 +17,7 @@ use Rattle.layout.specs.Row.{numberOf, wireOf, isRepeated, rowFor, slotC
 use Rattle.layout.specs.Slots.{noSlots, badSlots}
 use Rattle.layout.specs.Fields.{useOf, noted, onField, fieldsFrom, fieldList, hasRequired, fieldsAt}
 use Rattle.layout.specs.Fields.{fieldsTo}
+use Rattle.layout.specs.Part.{absent}
 use Rattle.layout.specs.private.Arrays.{upToTwo, Holds, fromArrays, inArrays}
 use Rattle.layout.proofs.FieldsLaws.{getD-times, up-to-none}
 use Rattle.layout.specs.declared.slots.Slots.{Slots}
@@ -53,14 +54,14 @@ module _ {x : Slots} {g : Bool} {v w u : List ℕ} (h : Holds x g v w u) where
     held-times = ap (λ (l : List ℕ). getD l k 0) (h .held .times-are) ∙ getD-times (x .count) k
 
     -- none or some, by what is noted
-    pub held-none : eqb (getD v k 0) 0 ≡ eqb (getD (x .count) k 0) 0
+    pub held-none : eqb (getD v k 0) 0 ≡ absent x k
     held-none = ap (λ (n : ℕ). eqb n 0) held-times ∙ up-to-none (getD (x .count) k 0)
 
-    pub held-absent : getD v k 0 ≡ 0 → getD (x .count) k 0 ≡ 0
-    held-absent e = eqb-true (getD (x .count) k 0) 0 (sym held-none ∙ eq-eqb (getD v k 0) 0 e)
+    pub held-absent : getD v k 0 ≡ 0 → absent x k ≡ true
+    held-absent e = sym held-none ∙ eq-eqb (getD v k 0) 0 e
 
-    pub held-present : (getD v k 0 ≡ 0 → ⊥) → getD (x .count) k 0 ≡ 0 → ⊥
-    held-present e z = e (eqb-true (getD v k 0) 0 (held-none ∙ eq-eqb (getD (x .count) k 0) 0 z))
+    pub held-present : (getD v k 0 ≡ 0 → ⊥) → absent x k ≡ false
+    held-present e = sym held-none ∙ ne-eqb (getD v k 0) 0 e
 
 -- ---- how often, and whether
 

@@ -127,7 +127,8 @@ module _ {s : List ℕ} {p : Part} {t : List ℕ} {d : ℕ} {q : List ℕ} (j : 
   unfolding hasRequired
   bytes-good =
       let e : p .start + 0 ≡ p .start = omega arith in
-      sym (onto-alike [] cut 0 (length (partBytes s p)) (omega arith) (none-alike [] (p .start) (length (partBytes s p))) .good)
+      sym (onto-alike [] cut 0 (length (partBytes s p)) (omega arith)
+      (none-alike [] (p .start) (length (partBytes s p))) .good)
       ∙ ap (λ (i : ℕ). fieldsOnto [] (take (endOf p) s) i noSlots .good) e
       ∙ ap (λ (z : Slots). z .good) (part-within [] s (p .start) (p .len) (j .inside))
       ∙ j .good

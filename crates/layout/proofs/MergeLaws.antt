@@ -95,7 +95,8 @@ module _ {f : Part → Slots → Slots} {g : Part → Bool} {k : ℕ} {s : List 
           Passing f g k s from times₀ values₀ starts₀ padded₀ next times values starts padded
       passes-by q =
           let same : partsOf k s p ≡ partsOf k s next =
-          parts-on k s p inside _ e ∙ sym (no (record { start = start; len = n } ∷ partsOf k s next) (partsOf k s next) q) in
+          parts-on k s p inside _ e
+          ∙ sym (no (record { start = start; len = n } ∷ partsOf k s next) (partsOf k s next) q) in
           record {
             onto = λ x good m.
                 subst

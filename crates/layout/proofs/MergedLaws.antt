@@ -77,7 +77,8 @@ module _ (rows : List (List ℕ)) (s : List ℕ) where
   from-settled zero at x g = λ b. not-both g b
   from-settled (suc most) at x g =
       both Settled (ltb at (length s)) _ _
-      (λ _. field-settled x g (λ next z. fieldsFrom most rows s next z) (λ q y h. from-settled most q y h) (fieldAt s at))
+      (λ _. field-settled x g (λ next z. fieldsFrom most rows s next z) (λ q y h. from-settled most q y h)
+      (fieldAt s at))
       (λ _ b. not-both g b)
 
 -- ---- one part

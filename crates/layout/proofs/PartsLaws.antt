@@ -86,7 +86,8 @@ module _ (k : ℕ) {s : List ℕ} {p : Part} {t : List ℕ} {d : ℕ} {q : List 
   inner =
       j-along j From
       (ap (λ (ps : List Part). joined s ps ++ joined t (partsOf k t (d + p .len)))
-      (sym (parts-end k (take (endOf p) s) (length (take (endOf p) s)) (p .start + p .len) (omega (arith, here-length j)))))
+      (sym (parts-end k (take (endOf p) s) (length (take (endOf p) s)) (p .start + p .len)
+      (omega (arith, here-length j)))))
       (λ i number w v st ln next o on.
       ap (joined t) (parts-on k t (d + i) (omega (arith, there-length j, o .inside)) _ (o .there))
       ∙ part-joins (eqb number k && eqb w len) s t ln (p .start + st) (d + st)

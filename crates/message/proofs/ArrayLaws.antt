@@ -5,7 +5,6 @@ use mathlib.Core.Path.{_≡_, refl, sym, ap, _∙_}
 use mathlib.Core.List.{List}
 use lib.ListN.{length, getD}
 use lib.Dec.{eqb}
-use borrow.Author.Tests.{eq-eqb, ne-eqb}
 use Rattle.prelude.proofs.Cases.{both, yes, no as without}
 use Rattle.protocol.specs.Client as Client
 use Rattle.layout.specs.Row.{wireOf, rowFor}
@@ -13,12 +12,12 @@ use Rattle.layout.specs.Table.{rowsOf, prepareStmt, openStmt}
 use Rattle.layout.specs.Fields.{fieldsAt}
 use Rattle.layout.specs.private.Arrays.{Holds}
 use Rattle.layout.specs.declared.slots.Slots.{Slots}
-use Rattle.layout.proofs.ArrayLaws.{held-good, held-value, held-start, held-seen, held-absent, held-present}
+use Rattle.layout.proofs.ArrayLaws.{held-good, held-value, held-start, held-none, held-absent, held-present}
 use Rattle.layout.proofs.ArrayLaws.{bytes-long, bytes-long-to}
 use Rattle.layout.specs.Part.{embedded, absent, countOf, valueOf, startOf, lenOf, low32}
 use Rattle.args.specs.declared.arguments.Arguments.{Arguments}
 use Rattle.message.specs.Operation as Operation
-use Rattle.message.specs.Payload.{payload, ifGood, optionalBy, optionalOf}
+use Rattle.message.specs.Payload.{payload, ifGood, optionalBy, optional, optionalOf}
 use Rattle.message.specs.Simple.{fetchIn}
 use Rattle.message.specs.Execute.{executeIn, openFrom, openInside, openFrame}
 use Rattle.message.specs.Prepare.{bodyIn, prepareFrom, prepareChosen, prepareTyped, prepareInside, prepareFrame}
@@ -29,22 +28,19 @@ use Rattle.message.specs.declared.request.Request.{Request}
 use Rattle.message.specs.declared.request.Frame.{Frame}
 
 -- an optional field
-optional-held : {x : Slots} {g : Bool} {v : List Bool} {w u : List ℕ} → Holds x g v w u → (k : ℕ) →
-    optionalBy (getD v k false) (getD w k 0) ≡ optionalOf x k
-optional-held {x} {g} {v} {w} {u} h k =
-    ap (λ (b : Bool). optionalBy b (getD w k 0)) (held-seen h k)
-    ∙ ap (optionalBy (not (eqb (countOf x k) 0))) (held-value h k)
+optional-held : {x : Slots} {g : Bool} {v w u : List ℕ} → Holds x g v w u → (k : ℕ) →
+    optional (getD v k 0) (getD w k 0) ≡ optionalOf x k
+optional-held {x} {w = w} h k =
+    ap (λ (b : Bool). optionalBy (not b) (getD w k 0)) (held-none h k) ∙ ap (optional (countOf x k)) (held-value h k)
 
 -- a message of bytes: its place and length, whatever is made of them
-part-held : {x : Slots} {g : Bool} {v : List Bool} {w u : List ℕ} → Holds x g v w u → (k : ℕ) →
-    lenOf x k ≡ valueOf x k →
-    (f : ℕ → ℕ → Frame) → f (getD u k 0) (getD w k 0) ≡ f (startOf x k) (lenOf x k)
-part-held {x} {g} {v} {w} {u} h k long f =
+pub part-held : {A : Type 0} {x : Slots} {g : Bool} {v w u : List ℕ} → Holds x g v w u → (k : ℕ) →
+    lenOf x k ≡ valueOf x k → (f : ℕ → ℕ → A) → f (getD u k 0) (getD w k 0) ≡ f (startOf x k) (lenOf x k)
+part-held {x = x} {w = w} h k long f =
     ap (λ (p : ℕ). f p (getD w k 0)) (held-start h k) ∙ ap (f (startOf x k)) (held-value h k ∙ sym long)
 
 -- Deallocate and Close have an id in field 1
-module _ (s : List ℕ) (kind : ℕ) (q : ℕ → Request) {x : Slots} {g : Bool} {v : List Bool} {w u : List ℕ}
-    (h : Holds x g v w u) where
+module _ (s : List ℕ) (kind : ℕ) (q : ℕ → Request) {x : Slots} {g : Bool} {v w u : List ℕ} (h : Holds x g v w u) where
   pub named-spoiled : g ≡ false → Frame.BadPayload (length s) kind ≡ ifGood s kind (x .good) (q (low32 (valueOf x 1)))
   named-spoiled e = payload-bad s kind (q (low32 (valueOf x 1))) (held-good h e)
 
@@ -55,7 +51,7 @@ module _ (s : List ℕ) (kind : ℕ) (q : ℕ → Request) {x : Slots} {g : Bool
       ∙ payload-good s kind (q (low32 (valueOf x 1))) (held-good h e)
 
 -- a Fetch may have fetch_rows in field 2
-module _ (s : List ℕ) {x : Slots} {g : Bool} {v : List Bool} {w u : List ℕ} (h : Holds x g v w u) where
+module _ (s : List ℕ) {x : Slots} {g : Bool} {v w u : List ℕ} (h : Holds x g v w u) where
   abbrev asking : ℕ → Optional → Request
   asking id rows = Request.Fetch (record { cursor = low32 id; rows = rows })
 
@@ -63,14 +59,14 @@ module _ (s : List ℕ) {x : Slots} {g : Bool} {v : List Bool} {w u : List ℕ} 
   fetch-spoiled e = payload-bad s Client.fetch (asking (valueOf x 1) (optionalOf x 2)) (held-good h e)
 
   pub fetch-held : g ≡ true →
-      Frame.Good (length s) (asking (getD w 1 0) (optionalBy (getD v 2 false) (getD w 2 0))) ≡ fetchIn s x
+      Frame.Good (length s) (asking (getD w 1 0) (optional (getD v 2 0) (getD w 2 0))) ≡ fetchIn s x
   fetch-held e =
-      ap (λ (n : ℕ). Frame.Good (length s) (asking n (optionalBy (getD v 2 false) (getD w 2 0)))) (held-value h 1)
+      ap (λ (n : ℕ). Frame.Good (length s) (asking n (optional (getD v 2 0) (getD w 2 0)))) (held-value h 1)
       ∙ ap (λ (o : Optional). Frame.Good (length s) (asking (valueOf x 1) o)) (optional-held h 2)
       ∙ payload-good s Client.fetch (asking (valueOf x 1) (optionalOf x 2)) (held-good h e)
 
 -- Open, by its statement and whole
-module _ (s : List ℕ) (id : ℕ) (rows : Optional) (at n : ℕ) {g : Bool} {v : List Bool} {w u : List ℕ}
+module _ (s : List ℕ) (id : ℕ) (rows : Optional) (at n : ℕ) {g : Bool} {v w u : List ℕ}
     (h : Holds (embedded (rowsOf openStmt) s at n) g v w u) where
   abbrev stmt : Slots
   stmt = embedded (rowsOf openStmt) s at n
@@ -90,20 +86,17 @@ module _ (s : List ℕ) (id : ℕ) (rows : Optional) (at n : ℕ) {g : Bool} {v 
   pub open-spoiled : g ≡ false → Frame.BadPayload (length s) Client.open' ≡ openInside s id rows at n
   open-spoiled e = neither opening unopened (not (absent stmt 2)) (held-good h e)
 
-  pub open-without : g ≡ true → getD v 2 false ≡ false →
-      Frame.BadPayload (length s) Client.open' ≡ openInside s id rows at n
-  open-without e f =
-      first-only opening unopened (held-good h e) (ap not (eq-eqb (countOf stmt 2) 0 (held-absent h 2 f)))
+  pub open-without : g ≡ true → getD v 2 0 ≡ 0 → Frame.BadPayload (length s) Client.open' ≡ openInside s id rows at n
+  open-without e f = first-only opening unopened (held-good h e) (ap not (held-absent h 2 f))
 
-  pub open-held : g ≡ true → getD v 2 false ≡ true → (x : Execute) → x ≡ executeIn s (getD u 2 0) (getD w 2 0) →
+  pub open-held : g ≡ true → (getD v 2 0 ≡ 0 → ⊥) → (x : Execute) → x ≡ executeIn s (getD u 2 0) (getD w 2 0) →
       openFrom s id rows (record { start = getD u 2 0; len = getD w 2 0 }) x ≡ openInside s id rows at n
   open-held t f x is =
       ap (openFrom s id rows (record { start = getD u 2 0; len = getD w 2 0 })) is
       ∙ part-held h 2 run-long (λ p q. openFrom s id rows (record { start = p; len = q }) (executeIn s p q))
-      ∙ both-hold opening unopened (held-good h t) (ap not (ne-eqb (countOf stmt 2) 0 (held-present h 2 f)))
+      ∙ both-hold opening unopened (held-good h t) (ap not (held-present h 2 f))
 
-module _ (s : List ℕ) {g : Bool} {v : List Bool} {w u : List ℕ}
-    (h : Holds (fieldsAt (rowsOf Client.open') s payload) g v w u) where
+module _ (s : List ℕ) {g : Bool} {v w u : List ℕ} (h : Holds (fieldsAt (rowsOf Client.open') s payload) g v w u) where
   abbrev opened : Slots
   opened = fieldsAt (rowsOf Client.open') s payload
 
@@ -119,11 +112,10 @@ module _ (s : List ℕ) {g : Bool} {v : List Bool} {w u : List ℕ}
   open-refused e = without inside (Frame.BadPayload (length s) Client.open') (held-good h e)
 
   pub open-whole : g ≡ true →
-      openInside s (getD w 1 0) (optionalBy (getD v 5 false) (getD w 5 0)) (getD u 4 0) (getD w 4 0) ≡ openFrame s
+      openInside s (getD w 1 0) (optional (getD v 5 0) (getD w 5 0)) (getD u 4 0) (getD w 4 0) ≡ openFrame s
   unfolding openFrame
   open-whole e =
-      ap (λ (i : ℕ). openInside s i (optionalBy (getD v 5 false) (getD w 5 0)) (getD u 4 0) (getD w 4 0))
-      (held-value h 1)
+      ap (λ (i : ℕ). openInside s i (optional (getD v 5 0) (getD w 5 0)) (getD u 4 0) (getD w 4 0)) (held-value h 1)
       ∙ ap (λ (o : Optional). openInside s (valueOf opened 1) o (getD u 4 0) (getD w 4 0)) (optional-held h 5)
       ∙ part-held h 4 opened-long (openInside s (valueOf opened 1) (optionalOf opened 5))
       ∙ yes inside (Frame.BadPayload (length s) Client.open') (held-good h e)
@@ -140,7 +132,7 @@ chosen-wire t =
     P : ℕ → Type 0
     P k = wireOf (rowFor (rowsOf prepareStmt) k) ≡ 2
 
-module _ (s : List ℕ) (id at n : ℕ) {g : Bool} {v : List Bool} {w u : List ℕ}
+module _ (s : List ℕ) (id at n : ℕ) {g : Bool} {v w u : List ℕ}
     (h : Holds (embedded (rowsOf prepareStmt) s at n) g v w u) where
   abbrev text : Slots
   text = embedded (rowsOf prepareStmt) s at n
@@ -170,13 +162,11 @@ module _ (s : List ℕ) (id at n : ℕ) {g : Bool} {v : List Bool} {w u : List �
         (ap (λ (j : ℕ). wireOf (rowFor (rowsOf prepareStmt) j)) is ∙ chosen-wire (low32 (getD w 1 0)))
         s at (at + n)
 
-    pub prepare-without : getD v k false ≡ false → Frame.BadPayload (length s) Client.prepare ≡ prepareInside s id at n
+    pub prepare-without : getD v k 0 ≡ 0 → Frame.BadPayload (length s) Client.prepare ≡ prepareInside s id at n
     prepare-without f =
-        first-only (body-at (low32 (getD w 1 0)) k) unprepared (held-good h e)
-        (ap not (eq-eqb (countOf text k) 0 (held-absent h k f)))
-        ∙ typed
+        first-only (body-at (low32 (getD w 1 0)) k) unprepared (held-good h e) (ap not (held-absent h k f)) ∙ typed
 
-    pub prepare-held : getD v k false ≡ true → (b : Arguments) →
+    pub prepare-held : (getD v k 0 ≡ 0 → ⊥) → (b : Arguments) →
         b ≡ bodyIn s (low32 (getD w 1 0)) (getD u k 0) (getD w k 0) →
         prepareFrom s id (low32 (getD w 1 0)) (record { start = getD u k 0; len = getD w k 0 }) b
         ≡ prepareInside s id at n
@@ -184,11 +174,10 @@ module _ (s : List ℕ) (id at n : ℕ) {g : Bool} {v : List Bool} {w u : List �
         let t = low32 (getD w 1 0) in
         ap (prepareFrom s id t (record { start = getD u k 0; len = getD w k 0 })) bs
         ∙ part-held h k body-long (λ p q. prepareFrom s id t (record { start = p; len = q }) (bodyIn s t p q))
-        ∙ both-hold (body-at t k) unprepared (held-good h e) (ap not (ne-eqb (countOf text k) 0 (held-present h k f)))
+        ∙ both-hold (body-at t k) unprepared (held-good h e) (ap not (held-present h k f))
         ∙ typed
 
-module _ (s : List ℕ) {g : Bool} {v : List Bool} {w u : List ℕ}
-    (h : Holds (fieldsAt (rowsOf Client.prepare) s payload) g v w u) where
+module _ (s : List ℕ) {g : Bool} {v w u : List ℕ} (h : Holds (fieldsAt (rowsOf Client.prepare) s payload) g v w u) where
   abbrev prepared : Slots
   prepared = fieldsAt (rowsOf Client.prepare) s payload
 

@@ -28,8 +28,7 @@ use Rattle.layout.specs.private.Arrays.{Holds}
 use Rattle.layout.specs.declared.slots.Slots.{Slots}
 use Rattle.layout.proofs.FieldsLaws.{ends}
 use Rattle.layout.proofs.PaddedLaws.{Marking, marks, marks-on, marked, padded-inside}
-use Rattle.layout.proofs.ArrayLaws.{held-value, held-start}
-use Rattle.layout.specs.Part.{embedded, startOf, lenOf, valueOf}
+use Rattle.layout.specs.Part.{embedded}
 use Rattle.args.specs.Padded.{executePadded}
 use Rattle.args.specs.private.Pair.{pairPadded}
 use Rattle.args.proofs.PaddedLaws.{pair-absorbed}
@@ -44,7 +43,7 @@ use Rattle.message.specs.declared.prepare.Chosen.{Chosen}
 use Rattle.message.specs.declared.execute.Inner.{Inner}
 use Rattle.message.specs.declared.request.Frame.{Frame}
 use Rattle.message.specs.private.Outer.{Opens}
-use Rattle.message.proofs.ArrayLaws.{run-long, opened-long, prepared-long}
+use Rattle.message.proofs.ArrayLaws.{part-held, run-long, opened-long, prepared-long}
 use Rattle.message.proofs.OuterLaws.{rows-field}
 use Rattle.message.proofs.FirstLaws.{number-behind, bytes-behind, two-listed}
 
@@ -147,22 +146,16 @@ module _ {s : List ℕ} {id next v start len end : ℕ} (past : length s ≤ end
 
 -- ---- by the arrays
 
-slot-held : (s : List ℕ) {x : Slots} {g : Bool} {v : List Bool} {w u : List ℕ} → Holds x g v w u → (k : ℕ) →
-    lenOf x k ≡ valueOf x k →
-    (P : ℕ → ℕ → Bool) → P (getD u k 0) (getD w k 0) ≡ P (startOf x k) (lenOf x k)
-slot-held s {x} {w = w} h k long P =
-    ap (λ (p : ℕ). P p (getD w k 0)) (held-start h k) ∙ ap (P (startOf x k)) (held-value h k ∙ sym long)
-
 -- a Prepare's statement, and an Open's
-pub stmt-held : (s : List ℕ) {g : Bool} {v : List Bool} {w u : List ℕ} →
+pub stmt-held : (s : List ℕ) {g : Bool} {v w u : List ℕ} →
     Holds (fieldsAt (rowsOf Client.prepare) s payload) g v w u → {flag : Bool} → flag ≡ (false || ownPadded s) →
     (flag || partPadded s (getD u 2 0) (getD w 2 0)) ≡ preparePadded s (fieldsAt (rowsOf Client.prepare) s payload)
-stmt-held s h e = ap₂ _||_ e (slot-held s h 2 (prepared-long s h) (partPadded s))
+stmt-held s h e = ap₂ _||_ e (part-held h 2 (prepared-long s h) (partPadded s))
 
-pub opening-held : (s : List ℕ) {g : Bool} {v : List Bool} {w u : List ℕ} →
+pub opening-held : (s : List ℕ) {g : Bool} {v w u : List ℕ} →
     Holds (fieldsAt (rowsOf Client.open') s payload) g v w u → {flag : Bool} → flag ≡ (false || ownPadded s) →
     (flag || openStmtPadded s (getD u 4 0) (getD w 4 0)) ≡ openPadded s (fieldsAt (rowsOf Client.open') s payload)
-opening-held s h e = ap₂ _||_ e (slot-held s h 4 (opened-long s h) (openStmtPadded s))
+opening-held s h e = ap₂ _||_ e (part-held h 4 (opened-long s h) (openStmtPadded s))
 
 -- the Execute of an Open's statement
 module _ (s : List ℕ) (at n : ℕ) where
@@ -173,9 +166,9 @@ module _ (s : List ℕ) (at n : ℕ) where
   inner-flag before e f =
       ap₂ _||_ e f ∙ or-assoc before (partPadded s at n) (openExecutePadded s (embedded (rowsOf openStmt) s at n))
 
-  pub inner-held : {g : Bool} {v : List Bool} {w u : List ℕ} → Holds (embedded (rowsOf openStmt) s at n) g v w u →
+  pub inner-held : {g : Bool} {v w u : List ℕ} → Holds (embedded (rowsOf openStmt) s at n) g v w u →
       executePadded s (getD u 2 0) (getD w 2 0) ≡ openExecutePadded s (embedded (rowsOf openStmt) s at n)
-  inner-held h = slot-held s h 2 (run-long s 0 (record { present = false; value = 0 }) at n h) (executePadded s)
+  inner-held h = part-held h 2 (run-long s 0 (record { present = false; value = 0 }) at n h) (executePadded s)
 
   -- what the pair read of a good statement counts once
   again : (rows : List (List ℕ)) → embedded rows s at n .good ≡ true → (before : Bool) → {mid flag : Bool} →

@@ -5,10 +5,9 @@ use mathlib.Core.Path.{_≡_, refl, sym, ap, _∙_}
 use Rattle.prelude.proofs.OrLaws.{or-none, or-same}
 use Rattle.layout.specs.private.Arrays.{fromArrays}
 use Rattle.layout.specs.declared.slots.Slots.{Slots}
-use Rattle.layout.specs.Part.{valueOf, low32}
-use Rattle.args.specs.Value.{ofAnyType, anyOf}
+use Rattle.layout.specs.Part.{countOf, valueOf, low32}
+use Rattle.args.specs.Value.{present, ofAnyType, anyOf}
 use Rattle.args.proofs.ValueLaws.{any-good, any-type-none}
-use Rattle.args.proofs.ArrayLaws.{seen-needed}
 use Rattle.args.proofs.InsideLaws.{any-by-type, any-none}
 use borrow.Author.Needs.{needs}
 use Rattle.args.proofs.value.any_value.Statement.{statement}
@@ -17,7 +16,7 @@ use Rattle.args.proofs.value.any_value.Tie as tie
 -- the slots that the arrays hold; the type decides what is made of them
 module _ (st : tie.Start) where
   abbrev slots : Slots
-  slots = fromArrays true (st .args .seen .now) (st .args .values .now) (st .args .starts .now)
+  slots = fromArrays true (st .args .times .now) (st .args .values .now) (st .args .starts .now)
 
   by : (t : ℕ) → low32 (valueOf slots 1) ≡ t → ofAnyType (st .args .s .now) slots t ≡ anyOf (st .args .s .now) slots
   by t e = ap (ofAnyType (st .args .s .now) slots) (sym e) ∙ any-good (st .args .s .now) slots refl
@@ -28,7 +27,7 @@ returns c =
     let k = c .before .before .before .before .before .before in
     let st = k .before .before .before in
     let one = k .match .keys1 in (
-      seen-needed (st .args .seen .now) 2 (c .needed .ensures) (c .before .long-scalar .ensures .0) ∙ by st 1 one,
+      c .needed .ensures ∙ ap (present (countOf (slots st) 2)) (c .before .long-scalar .ensures .0) ∙ by st 1 one,
       c .before .long-scalar .ensures .1
           ∙ or-same (st .args .padded .now) (any-by-type (st .args .s .now) (slots st) refl 1 one),
     )

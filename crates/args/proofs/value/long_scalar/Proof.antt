@@ -3,7 +3,6 @@ use mathlib.Core.Path.{refl, sym, _∙_}
 use borrow.Author.Tests.{not-true, not-false}
 use Rattle.prelude.proofs.OrLaws.{or-then, or-same, or-none}
 use Rattle.layout.specs.Table.{rowsOf, scalar}
-use Rattle.layout.specs.private.Arrays.{fromArrays}
 use Rattle.layout.specs.Part.{embedded}
 use Rattle.layout.specs.Padded.{partPadded}
 use Rattle.args.specs.Padded.{insideScalar}

@@ -5,11 +5,10 @@ use mathlib.Core.Path.{_≡_, refl, sym, ap, _∙_}
 use Rattle.prelude.proofs.OrLaws.{or-none, or-same}
 use Rattle.layout.specs.private.Arrays.{fromArrays}
 use Rattle.layout.specs.declared.slots.Slots.{Slots}
-use Rattle.layout.specs.Part.{valueOf, low32}
-use Rattle.args.specs.Value.{ofType, scalarOf}
+use Rattle.layout.specs.Part.{countOf, valueOf, low32}
+use Rattle.args.specs.Value.{present, ofType, scalarOf}
 use Rattle.args.specs.Padded.{bytesPadded, insideScalar}
 use Rattle.args.proofs.ValueLaws.{scalar-good, type-none}
-use Rattle.args.proofs.ArrayLaws.{seen-needed}
 use Rattle.args.proofs.InsideLaws.{bytes-none, scalar-by-type}
 use borrow.Author.Needs.{needs}
 use Rattle.args.proofs.value.scalar_value.Statement.{statement}
@@ -18,7 +17,7 @@ use Rattle.args.proofs.value.scalar_value.Tie as tie
 -- the slots that the arrays hold; the type decides what is made of them
 module _ (st : tie.Start) where
   abbrev slots : Slots
-  slots = fromArrays true (st .args .seen .now) (st .args .values .now) (st .args .starts .now)
+  slots = fromArrays true (st .args .times .now) (st .args .values .now) (st .args .starts .now)
 
   by : (t : ℕ) → low32 (valueOf slots 1) ≡ t → ofType (st .args .s .now) slots t ≡ scalarOf (st .args .s .now) slots
   by t e = ap (ofType (st .args .s .now) slots) (sym e) ∙ scalar-good (st .args .s .now) slots refl
@@ -36,8 +35,7 @@ returns-9 c =
           (m .rest .0 .0 .0 .0 .0 .1) (m .rest .0 .0 .0 .0 .1) (m .rest .0 .0 .0 .1) (m .rest .0 .0 .1) (m .rest .0 .1)
           (m .rest .1) ∙ by st _ refl,
       or-none (st .args .padded .now)
-          (flag st _ refl
-          ∙ bytes-none (st .args .s .now) (slots st) _ (m .rest .0 .0 .0 .0 .1) (m .rest .1)),
+          (flag st _ refl ∙ bytes-none (st .args .s .now) (slots st) _ (m .rest .0 .0 .0 .0 .1) (m .rest .1)),
     )
 
 pub scalar-value-spec : {M : Type 1} → statement M
@@ -50,49 +48,39 @@ scalar-value-spec = tie.close (tie.spec (λ c. search needs) (λ c. search needs
     (λ c. search needs) (λ c κs. search needs) (λ c. search needs) (λ c. search needs) (λ c. search needs)
     (λ c κs. search needs) (λ c κs. search needs)
     (λ c. let k = c .before .before .before .before in let st = k .before .before .before in (
-      seen-needed
-          (st .args .seen .now) 2 (c .needed .ensures) (c .before .signed-argument .ensures) ∙ by st 1
+      c .needed .ensures ∙ ap (present (countOf (slots st) 2)) (c .before .signed-argument .ensures) ∙ by st 1
           (k .match .keys1),
       or-none (st .args .padded .now) (flag st 1 (k .match .keys1)),
     ))
     (λ c. let k = c .before .before .before in let st = k .before .before .before in (
-      seen-needed
-          (st .args .seen .now) 3 (c .needed2 .ensures) refl ∙ by st 2 (k .match .keys2),
-      or-none (st .args .padded .now)
-          (flag st 2 (k .match .keys2)),
+      c .needed2 .ensures ∙ by st 2 (k .match .keys2),
+      or-none (st .args .padded .now) (flag st 2 (k .match .keys2)),
     ))
     (λ c. let st = c .before .before .before in (
       by st 3 (c .match .keys3),
-      or-none (st .args .padded .now)
-          (flag st 3 (c .match .keys3)),
+      or-none (st .args .padded .now) (flag st 3 (c .match .keys3)),
     ))
     (λ c. let k = c .before .before .before .before .before .before in let st = k .before .before .before in (
-      seen-needed (st .args .seen .now) 5 (c .needed3 .ensures) (c .before .long-bytes .ensures .0) ∙ by st 4
+      c .needed3 .ensures ∙ ap (present (countOf (slots st) 5)) (c .before .long-bytes .ensures .0) ∙ by st 4
           (k .match .keys4),
-      c .before .long-bytes .ensures .1 ∙ or-same (st .args .padded .now)
-          (sym (flag st 4 (k .match .keys4))),
+      c .before .long-bytes .ensures .1 ∙ or-same (st .args .padded .now) (sym (flag st 4 (k .match .keys4))),
     ))
     (λ c. let k = c .before .before .before .before in let st = k .before .before .before in (
-      seen-needed
-          (st .args .seen .now) 6 (c .needed4 .ensures) (c .before .double-argument .ensures) ∙ by st 5
+      c .needed4 .ensures ∙ ap (present (countOf (slots st) 6)) (c .before .double-argument .ensures) ∙ by st 5
           (k .match .keys5),
       or-none (st .args .padded .now) (flag st 5 (k .match .keys5)),
     ))
     (λ c. let k = c .before .before .before .before in let st = k .before .before .before in (
-      seen-needed
-          (st .args .seen .now) 7 (c .needed5 .ensures) (c .before .float-argument .ensures) ∙ by st 6
+      c .needed5 .ensures ∙ ap (present (countOf (slots st) 7)) (c .before .float-argument .ensures) ∙ by st 6
           (k .match .keys6),
       or-none (st .args .padded .now) (flag st 6 (k .match .keys6)),
     ))
     (λ c. let k = c .before .before .before in let st = k .before .before .before in (
-      seen-needed
-          (st .args .seen .now) 8 (c .needed6 .ensures) refl ∙ by st 7 (k .match .keys7),
-      or-none (st .args .padded .now)
-          (flag st 7 (k .match .keys7)),
+      c .needed6 .ensures ∙ by st 7 (k .match .keys7),
+      or-none (st .args .padded .now) (flag st 7 (k .match .keys7)),
     ))
     (λ c. let k = c .before .before .before .before .before .before in let st = k .before .before .before in (
-      seen-needed (st .args .seen .now) 9 (c .needed7 .ensures) (c .before .long-bytes2 .ensures .0) ∙ by st 8
+      c .needed7 .ensures ∙ ap (present (countOf (slots st) 9)) (c .before .long-bytes2 .ensures .0) ∙ by st 8
           (k .match .keys8),
-      c .before .long-bytes2 .ensures .1 ∙ or-same (st .args .padded .now)
-          (sym (flag st 8 (k .match .keys8))),
+      c .before .long-bytes2 .ensures .1 ∙ or-same (st .args .padded .now) (sym (flag st 8 (k .match .keys8))),
     )) returns-9)

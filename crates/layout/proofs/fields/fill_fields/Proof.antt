@@ -13,7 +13,8 @@ use Rattle.layout.specs.Padded.{paddedTo}
 use Rattle.layout.specs.Slots.{noSlots}
 use Rattle.layout.specs.Fields.{fieldList, fieldsAt, fieldsTo}
 use Rattle.layout.specs.private.Arrays.{Listed, Holds}
-use Rattle.layout.proofs.FieldsLaws.{holds-none, holds-outside, holds-inside, lists-bad, lists-missing, lists-good}
+use Rattle.layout.proofs.FieldsLaws.{holds-none, holds-outside, holds-inside}
+use Rattle.layout.proofs.FieldsLaws.{lists-bad, lists-missing, lists-good}
 use Rattle.layout.proofs.PaddedLaws.{padded-outside, padded-inside}
 use Rattle.layout.proofs.fields.fill_fields.Statement.{statement}
 use Rattle.layout.proofs.fields.fill_fields.Tie as tie
@@ -43,16 +44,16 @@ told l =
 
 -- arrays that were cleared held nothing
 listed : (l : tie.After-list-fields) →
-    Listed (fieldList (start l .args .rows .now) (take (start l .args .end) (start l .args .s .now)) (start l .args .from))
+    Listed
+    (fieldList (start l .args .rows .now) (take (start l .args .end) (start l .args .s .now)) (start l .args .from))
     (l .list-fields .result) (l .list-fields .last .1 .1 .1 .0) (l .list-fields .last .1 .1 .1 .1 .0)
     (l .list-fields .last .1 .1 .1 .1 .1 .0)
 listed l = l .list-fields .ensures .0 .onto noSlots refl (holds-none (within l .before .clear .ensures))
 
 -- and as the message that ends inside
-held : (l : tie.After-list-fields) {g : Bool} {v w u : List ℕ} →
-    Holds (fieldsAt (start l .args .rows .now) (take (start l .args .end) (start l .args .s .now)) (start l .args .from))
-    g v w u →
-    Holds (fieldsTo (start l .args .rows .now) (start l .args .s .now) (start l .args .from) (start l .args .end)) g v w u
+held : (l : tie.After-list-fields) {g : Bool} {v w u : List ℕ} → let a = start l .args in
+    Holds (fieldsAt (a .rows .now) (take (a .end) (a .s .now)) (a .from)) g v w u →
+    Holds (fieldsTo (a .rows .now) (a .s .now) (a .from) (a .end)) g v w u
 held l = let a = start l .args in holds-inside (a .rows .now) (a .s .now) (a .from) (a .end) (within l .if1 .left)
 
 returns-2 : tie.Need-returns-2

@@ -16,5 +16,6 @@ row-met-spec = tie.close (tie.spec (λ c. search needs)
     (λ c. search needs) (λ c κs. search needs)
     (λ c. let a = c .before .before .before .before .args in met-past (a .t1) (a .times .now)
     (c .before .before .if1 .left) (omega (arith, c .before .wide .ensures))) (λ c. search needs)
-    (λ c. let a = c .before .before .before .before .before .args in ap (λ (k : ℕ). not (eqb (getD (a .times .now) k 0) 0))
-    (c .before .before .wide .ensures) ∙ met-seen (a .t1) (a .times .now) (c .before .before .before .if1 .left)))
+    (λ c. let a = c .before .before .before .before .before .args in
+    ap (λ (k : ℕ). not (eqb (getD (a .times .now) k 0) 0)) (c .before .before .wide .ensures)
+    ∙ met-seen (a .t1) (a .times .now) (c .before .before .before .if1 .left)))

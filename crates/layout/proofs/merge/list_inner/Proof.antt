@@ -15,13 +15,15 @@ use Rattle.layout.specs.private.Arrays.{Adds}
 use Rattle.layout.specs.declared.part.Part.{Part}
 use Rattle.layout.proofs.PaddedLaws.{field-ahead}
 use Rattle.layout.proofs.MergeLaws.{Passing, passing, passed, passed-flag, ended, no-more, passes-by, passes}
-use Rattle.layout.proofs.MergeLaws.{spoils, part-ends, innerOnto, innerPadded, inner-adds, inner-done, inner-flag, inner-told}
+use Rattle.layout.proofs.MergeLaws.{spoils, part-ends, innerOnto, innerPadded, inner-adds, inner-done}
+use Rattle.layout.proofs.MergeLaws.{inner-flag, inner-told}
 use Rattle.layout.proofs.merge.list_inner.Statement.{statement}
 use Rattle.layout.proofs.merge.list_inner.Tie as tie
 
 abbrev Inv-loop : tie.InvT-loop
 Inv-loop rows s from outer k times₀ values₀ starts₀ padded₀ unread₀ p₀ times values starts padded unread p =
-    Passing (innerOnto rows k s) (innerPadded k s) outer s from times₀ values₀ starts₀ padded₀ p times values starts padded
+    Passing (innerOnto rows k s) (innerPadded k s) outer s from times₀ values₀ starts₀ padded₀ p times values starts
+    padded
 
 abbrev μ-loop : tie.MeasureT-loop
 μ-loop rows s from outer k times₀ values₀ starts₀ padded₀ unread₀ p₀ times values starts padded unread p = length s - p
@@ -118,8 +120,9 @@ again c =
 
 pub list-inner-spec : {M : Type 1} → statement M
 list-inner-spec = tie.close (tie.spec Inv-loop μ-loop
-    (λ c. let a = c .before .args in passing (innerOnto (a .rows .now) (a .k) (a .s .now)) (innerPadded (a .k) (a .s .now)) (a .outer)
-    (a .s .now) (a .from) (a .times .now) (a .values .now) (a .starts .now) (a .padded .now))
+    (λ c. let a = c .before .args in
+    passing (innerOnto (a .rows .now) (a .k) (a .s .now)) (innerPadded (a .k) (a .s .now)) (a .outer) (a .s .now)
+    (a .from) (a .times .now) (a .values .now) (a .starts .now) (a .padded .now))
     (λ c κs. tt) (λ c. search needs) (λ c. search needs) returns (λ c κs. tt)
     (λ c. omega (arith, part-inside (c .before .before .before)))
     (λ c. let f = c .before .before .before .before in omega (

@@ -1,5 +1,5 @@
--- `layout::part::fill_part` meets its contract: a part that is not within the bytes is refused, any other is filled as a
--- message is. Assumes nothing.
+-- `layout::part::fill_part` meets its contract: a part that is not within the bytes is refused, any other is filled as
+-- a message is. Assumes nothing.
 use native.Mathlib.Omega.{arith}
 use Prim.Native.Nat.{_+_}
 use Rattle.prelude.proofs.OrLaws.{or-none}

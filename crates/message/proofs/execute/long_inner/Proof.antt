@@ -29,7 +29,7 @@ returns-2 c =
     let a = f .before .before .before .before .before .before .before .before .args in (
       λ id rows.
           open-without (a .s .now) id rows (a .at) (a .n) (held f) (not-false _ (c .before .if1 .left))
-          (not-true _ (c .if2 .taken)),
+          (c .if2 .taken),
       tt,
     )
 
@@ -38,8 +38,7 @@ returns-3 c =
     let f = c .before .before in
     let a = f .before .before .before .before .before .before .before .before .args in
     let good = not-false _ (c .before .if1 .left) in (
-      λ id rows.
-          open-held (a .s .now) id rows (a .at) (a .n) (held f) good (not-false _ (c .if2 .left)) _ refl,
+      λ id rows. open-held (a .s .now) id rows (a .at) (a .n) (held f) good (c .if2 .left) _ refl,
       (
         inner-flag (a .s .now) (a .at) (a .n) (a .padded .now) (f .fill-part .ensures .1)
             (inner-held (a .s .now) (a .at) (a .n) (held f)),

@@ -30,7 +30,7 @@ returns-2 c =
     let k = c .before .field-of in (
       λ id.
           prepare-without (a .s .now) id (a .at) (a .n) (held f) (not-false _ (c .before .before .if1 .left))
-          (k .result) (k .ensures .0) (not-true _ (c .if2 .taken)),
+          (k .result) (k .ensures .0) (c .if2 .taken),
       tt,
     )
 
@@ -41,8 +41,7 @@ returns-3 c =
     let k = c .before .field-of in
     let good = not-false _ (c .before .before .if1 .left) in (
       λ id.
-          prepare-held (a .s .now) id (a .at) (a .n) (held f) good (k .result) (k .ensures .0)
-          (not-false _ (c .if2 .left)) _ refl,
+          prepare-held (a .s .now) id (a .at) (a .n) (held f) good (k .result) (k .ensures .0) (c .if2 .left) _ refl,
       (f .fill-part .ensures .1, held-good (held f) good),
     )
 
