@@ -243,12 +243,12 @@ module _ (row times : List ℕ) where
   pub met-optional : (getD row 3 0 ≡ 1 → ⊥) → true ≡ met row times
   met-optional h = simp (ne-eqb (getD row 3 0) 1 h)
 
-  pub met-seen : getD row 3 0 ≡ 1 → not (eqb (getD times (numberOf row) 0) 0) ≡ met row times
-  met-seen h = simp (eq-eqb (getD row 3 0) 1 h)
+  pub met-required : getD row 3 0 ≡ 1 → not (eqb (getD times (numberOf row) 0) 0) ≡ met row times
+  met-required h = simp (eq-eqb (getD row 3 0) 1 h)
 
-  -- past the slots nothing is seen
+  -- past the slots nothing occurs
   pub met-past : getD row 3 0 ≡ 1 → length times ≤ numberOf row → false ≡ met row times
-  met-past h g = ap (λ (n : ℕ). not (eqb n 0)) (sym (List·getD-eq-default times 0 g)) ∙ met-seen h
+  met-past h g = ap (λ (n : ℕ). not (eqb n 0)) (sym (List·getD-eq-default times 0 g)) ∙ met-required h
 
 -- row by row
 module _ (rows : List (List ℕ)) (times : List ℕ) (i : ℕ) where

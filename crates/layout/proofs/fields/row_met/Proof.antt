@@ -4,7 +4,7 @@ use native.Mathlib.Omega.{arith}
 use mathlib.Core.Bool.{not}
 use lib.ListN.{getD}
 use lib.Dec.{eqb}
-use Rattle.layout.proofs.FieldsLaws.{met-optional, met-seen, met-past}
+use Rattle.layout.proofs.FieldsLaws.{met-optional, met-required, met-past}
 use mathlib.Core.Path.{ap, _∙_}
 use borrow.Author.Needs.{needs}
 use Rattle.layout.proofs.fields.row_met.Statement.{statement}
@@ -18,4 +18,4 @@ row-met-spec = tie.close (tie.spec (λ c. search needs)
     (c .before .before .if1 .left) (omega (arith, c .before .wide .ensures))) (λ c. search needs)
     (λ c. let a = c .before .before .before .before .before .args in
     ap (λ (k : ℕ). not (eqb (getD (a .times .now) k 0) 0)) (c .before .before .wide .ensures)
-    ∙ met-seen (a .t1) (a .times .now) (c .before .before .before .if1 .left)))
+    ∙ met-required (a .t1) (a .times .now) (c .before .before .before .if1 .left)))
