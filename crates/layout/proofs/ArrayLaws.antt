@@ -81,9 +81,16 @@ set-alike (x ∷ l) (y ∷ m) zero v (suc k) h e = e
 set-alike (x ∷ l) (y ∷ m) (suc i) v zero h e = e
 set-alike (x ∷ l) (y ∷ m) (suc i) v (suc k) h e = set-alike l m i v k (omega arith) e
 
-record Alike (k : ℕ) (x : Slots) : Type 0 where
-  lengths : length (x .len) ≡ length (x .value)
-  alike : getD (x .len) k 0 ≡ getD (x .value) k 0
+-- of the number k the value is the length
+pub record SameSize (k : ℕ) (x : Slots) : Type 0 where
+  pub lengths : length (x .len) ≡ length (x .value)
+  pub alike : getD (x .len) k 0 ≡ getD (x .value) k 0
+
+pub none-sized : (k : ℕ) → SameSize k noSlots
+none-sized k = record { lengths = refl; alike = refl }
+
+pub bad-sized : (k : ℕ) → SameSize k badSlots
+bad-sized k = record { lengths = refl; alike = refl }
 
 module _ (rows : List (List ℕ)) (k : ℕ) (long : wireOf (rowFor rows k) ≡ 2) where
   -- a field that is kept has its row's wire type
@@ -102,12 +109,12 @@ module _ (rows : List (List ℕ)) (k : ℕ) (long : wireOf (rowFor rows k) ≡ 2
           never false true h = let z : _≡_ {A = ℕ} 0 1 = cc in omega arith
           never false false h = let z : _≡_ {A = ℕ} 0 1 = cc in omega arith
 
-  noted-alike : (u : Use) (x : Slots) (number wire v start len : ℕ) → useOf rows number wire v ≡ u →
-      (wire ≡ 2 → v ≡ len) → Alike k x →
-      Alike k (noted u x number v start len)
-  noted-alike Use.Unknown x number wire v start len e f a = a
-  noted-alike Use.Counted x number wire v start len e f a = record { lengths = a .lengths; alike = a .alike }
-  noted-alike Use.Kept x number wire v start len e f a =
+  noted-sized : (u : Use) (x : Slots) (number wire v start len : ℕ) → useOf rows number wire v ≡ u →
+      (wire ≡ 2 → v ≡ len) → SameSize k x →
+      SameSize k (noted u x number v start len)
+  noted-sized Use.Unknown x number wire v start len e f a = a
+  noted-sized Use.Counted x number wire v start len e f a = record { lengths = a .lengths; alike = a .alike }
+  noted-sized Use.Kept x number wire v start len e f a =
       record {
         lengths = length-set (x .len) number len ∙ a .lengths ∙ sym (length-set (x .value) number v);
         alike = go (eqb number k) refl;
@@ -121,23 +128,20 @@ module _ (rows : List (List ℕ)) (k : ℕ) (long : wireOf (rowFor rows k) ≡ 2
           let ne : k ≡ number → ⊥ = λ h. eqb-false number k t (sym h) in
           getD-set-other (x .len) number k len 0 ne ∙ a .alike ∙ sym (getD-set-other (x .value) number k v 0 ne)
 
-  field-alike : (x : Slots) (more : ℕ → Slots → Slots) → ((p : ℕ) (y : Slots) → Alike k y → Alike k (more p y)) →
+  field-sized : (x : Slots) (more : ℕ → Slots → Slots) → ((p : ℕ) (y : Slots) → SameSize k y → SameSize k (more p y)) →
       (f : Field) → LongField f →
-      Alike k x → Alike k (onField rows x more f)
-  field-alike x more m (Field.Good number wire v start len next) h a =
+      SameSize k x → SameSize k (onField rows x more f)
+  field-sized x more m (Field.Good number wire v start len next) h a =
       m next (noted (useOf rows number wire v) x number v start len)
-      (noted-alike (useOf rows number wire v) x number wire v start len refl h a)
-  field-alike x more m Field.Bad h a = record { lengths = refl; alike = zeros k }
-    where
-      zeros : (j : ℕ) → getD (badSlots .len) j 0 ≡ getD (badSlots .value) j 0
-      zeros j = refl
+      (noted-sized (useOf rows number wire v) x number wire v start len refl h a)
+  field-sized x more m Field.Bad h a = bad-sized k
 
-  from-alike : (most : ℕ) (s : List ℕ) (at : ℕ) (x : Slots) → Alike k x → Alike k (fieldsFrom most rows s at x)
+  pub from-sized : (most : ℕ) (s : List ℕ) (at : ℕ) (x : Slots) → SameSize k x → SameSize k (fieldsFrom most rows s at x)
   unfolding fieldsFrom
-  from-alike zero s at x a = a
-  from-alike (suc most) s at x a =
-      both (Alike k) (ltb at (length s)) (onField rows x (λ next y. fieldsFrom most rows s next y) (fieldAt s at)) x
-      (λ _. field-alike x (λ next y. fieldsFrom most rows s next y) (from-alike most s) (fieldAt s at)
+  from-sized zero s at x a = a
+  from-sized (suc most) s at x a =
+      both (SameSize k) (ltb at (length s)) (onField rows x (λ next y. fieldsFrom most rows s next y) (fieldAt s at)) x
+      (λ _. field-sized x (λ next y. fieldsFrom most rows s next y) (from-sized most s) (fieldAt s at)
       (field-long s at) a) (λ _. a)
 
   pub bytes-long : (s : List ℕ) (from : ℕ) → getD (fieldsAt rows s from .len) k 0 ≡ getD (fieldsAt rows s from .value)
@@ -145,7 +149,7 @@ module _ (rows : List (List ℕ)) (k : ℕ) (long : wireOf (rowFor rows k) ≡ 2
   bytes-long s from =
       both (λ (x : Slots). getD (x .len) k 0 ≡ getD (x .value) k 0) (hasRequired rows (fieldList rows s from .count))
       (fieldList rows s from) badSlots
-      (λ _. from-alike (length s) s from noSlots (record { lengths = refl; alike = refl }) .alike) (λ _. refl)
+      (λ _. from-sized (length s) s from noSlots (none-sized k) .alike) (λ _. refl)
 
   pub bytes-long-to : (s : List ℕ) (from end : ℕ) →
       getD (fieldsTo rows s from end .len) k 0 ≡ getD (fieldsTo rows s from end .value) k 0

@@ -76,24 +76,28 @@ module _ (rows : List (List ℕ)) (n : ℕ) where
             ));
       }
 
-module _ (rows : List (List ℕ)) (s : List ℕ) where
-  field-kept : (at : ℕ) {x : Slots} → Kept (length s) x → (more : ℕ → Slots → Slots) →
-      ((q : ℕ) (y : Slots) → Kept (length s) y → Kept (length s) (more q y)) → (z : Field) →
-      PastField at (length s) z → Kept (length s) (onField rows x more z)
+module _ (rows : List (List ℕ)) (s : List ℕ) (n : ℕ) (few : length s ≤ n) where
+  field-kept : (at : ℕ) {x : Slots} → Kept n x → (more : ℕ → Slots → Slots) →
+      ((q : ℕ) (y : Slots) → Kept n y → Kept n (more q y)) → (z : Field) → PastField at (length s) z →
+      Kept n (onField rows x more z)
   field-kept at {x} a more m (Field.Good number wire v start len next) h =
       m next (noted (useOf rows number wire v) x number v start len)
-      (noted-kept rows (length s) a number wire v start len (omega arith) (useOf rows number wire v) refl)
-  field-kept at a more m Field.Bad h = bad-kept (length s)
+      (noted-kept rows n a number wire v start len (omega arith) (useOf rows number wire v) refl)
+  field-kept at a more m Field.Bad h = bad-kept n
 
-  pub from-kept : (most at : ℕ) {x : Slots} → Kept (length s) x → Kept (length s) (fieldsFrom most rows s at x)
+  pub from-kept-by : (most at : ℕ) {x : Slots} → Kept n x → Kept n (fieldsFrom most rows s at x)
   unfolding fieldsFrom
-  from-kept zero at a = a
-  from-kept (suc most) at a =
-      both (Kept (length s)) (ltb at (length s)) _ _
+  from-kept-by zero at a = a
+  from-kept-by (suc most) at a =
+      both (Kept n) (ltb at (length s)) _ _
       (λ _.
-      field-kept at a (λ next y. fieldsFrom most rows s next y) (λ q y b. from-kept most q b) (fieldAt s at)
+      field-kept at a (λ next y. fieldsFrom most rows s next y) (λ q y b. from-kept-by most q b) (fieldAt s at)
       (field-past s at))
       (λ _. a)
+
+pub from-kept : (rows : List (List ℕ)) (s : List ℕ) (most at : ℕ) {x : Slots} → Kept (length s) x →
+    Kept (length s) (fieldsFrom most rows s at x)
+from-kept rows s most at a = from-kept-by rows s (length s) (omega arith) most at a
 
 pub kept-within : KeptWithin
 kept-within rows s from =

@@ -14,6 +14,7 @@ pub mod MergedLaws
 pub mod PartsLaws
 pub mod MergeLaws
 pub mod KeepsLaws
+pub mod MergedPlaceLaws
 pub mod PaddedLaws
 pub mod AbsentLaws
 pub mod MovedFlagLaws

@@ -263,7 +263,7 @@ module _ (rows : List (List ℕ)) (s : List ℕ) (e : ℕ) (few : e ≤ length s
         )
 
 -- each part ends by e
-pub AllWithin : ℕ → List Part → Type 0
+unfoldable pub AllWithin : ℕ → List Part → Type 0
 AllWithin e [] = Unit {0}
 AllWithin e (p ∷ ps) = (endOf p ≤ e) × AllWithin e ps
 

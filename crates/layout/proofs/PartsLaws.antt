@@ -36,7 +36,7 @@ module _ (k : ℕ) (s : List ℕ) where
       (e next (h .2))
   by-same at Field.Bad h f g e = refl
 
-  parts-same : (m n at : ℕ) → length s ≤ at + m → length s ≤ at + n → partsFrom m k s at ≡ partsFrom n k s at
+  pub parts-same : (m n at : ℕ) → length s ≤ at + m → length s ≤ at + n → partsFrom m k s at ≡ partsFrom n k s at
   unfolding partsFrom
   parts-same zero n at h i = sym (parts-end n at (omega arith))
   parts-same (suc m) zero at h i = parts-end (suc m) at (omega arith)

@@ -1,6 +1,6 @@
 -- What holds of every message in parts: it is what the encoding guide makes of it, the message whose bytes are those of
 -- its parts, one after the other.
-use Prim.Native.Nat.{ℕ}
+use Prim.Native.Nat.{ℕ, _+_, _≤_}
 use mathlib.Core.Bool.{Bool, true, not, _&&_}
 use mathlib.Core.Path.{_≡_}
 use mathlib.Core.List.{List, [], _∷_, _++_}
@@ -18,6 +18,12 @@ use Rattle.layout.specs.declared.slots.Slots.{Slots}
 abbrev pub OnePart : Type 0
 OnePart =
     (rows : List (List ℕ)) (s : List ℕ) (p : Part) → merged rows s (p ∷ []) ≡ embedded rows s (p .start) (p .len)
+
+-- the bytes of each field that is kept lie within s
+abbrev pub MergedWithin : Type 0
+MergedWithin =
+    (rows : List (List ℕ)) (s : List ℕ) (ps : List Part) (k : ℕ) →
+    startOf (merged rows s ps) k + lenOf (merged rows s ps) k ≤ length s
 
 -- a field with bytes that is not repeated and lists no values: each occurrence is kept
 abbrev pub holdsBytes : List (List ℕ) → ℕ → Bool
