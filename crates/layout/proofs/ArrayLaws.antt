@@ -136,7 +136,8 @@ module _ (rows : List (List ℕ)) (k : ℕ) (long : wireOf (rowFor rows k) ≡ 2
       (noted-sized (useOf rows number wire v) x number wire v start len refl h a)
   field-sized x more m Field.Bad h a = bad-sized k
 
-  pub from-sized : (most : ℕ) (s : List ℕ) (at : ℕ) (x : Slots) → SameSize k x → SameSize k (fieldsFrom most rows s at x)
+  pub from-sized : (most : ℕ) (s : List ℕ) (at : ℕ) (x : Slots) → SameSize k x →
+      SameSize k (fieldsFrom most rows s at x)
   unfolding fieldsFrom
   from-sized zero s at x a = a
   from-sized (suc most) s at x a =

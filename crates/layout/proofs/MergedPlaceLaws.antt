@@ -136,7 +136,8 @@ module _ (k : ℕ) {s : List ℕ} {d : ℕ} {t : List ℕ} (j : Tail s d t) wher
 
   pub parts-moved : (p : ℕ) → partsOf k s (d + p) ≡ movedParts d (partsOf k t p)
   parts-moved p =
-      parts-same k s (length s) (length t) (d + p) (omega arith) (omega (arith, tail-length j)) ∙ from-moved (length t) p
+      parts-same k s (length s) (length t) (d + p) (omega arith) (omega (arith, tail-length j))
+      ∙ from-moved (length t) p
 
 moved-then : (d : ℕ) (xs ys : List Part) → movedParts d (xs ++ ys) ≡ movedParts d xs ++ movedParts d ys
 unfolding movedParts
