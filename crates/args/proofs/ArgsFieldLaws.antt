@@ -1,18 +1,11 @@
 -- Which field the table calls repeated: number 2 with bytes, of an Execute and of a StmtExecute. Assumes nothing.
-use Prim.Native.Nat.{ℕ}
-use native.Mathlib.Omega.{arith}
-use mathlib.Core.Bool.{Bool, true, false, not, cond, _&&_, _||_}
-use mathlib.Core.Path.{_≡_, refl, sym, ap, _∙_}
-use mathlib.Core.List.{List, [], _∷_}
-use lib.Dec.{ltb, eqb}
-use borrow.Author.Tests.{ne-eqb, eqb-true, eqb-false}
-use Rattle.prelude.proofs.Cases.{both}
+use Rattle.prelude.proofs.Basics.{ℕ, arith, Bool, true, false, not, _&&_, _||_, cond, _≡_, refl, sym, ap, _∙_, List, []}
+use Rattle.prelude.proofs.Basics.{_∷_, eqb, ltb, eqb-false, eqb-true, ne-eqb, both}
 use Rattle.protocol.specs.Client as Client
-use Rattle.layout.specs.Row.{numberOf, wireOf, isRepeated, rowFor, takes, slotCount}
-use Rattle.layout.specs.Table.{rowsOf, stmtExecute, len}
-use Rattle.layout.specs.Fields.{useOf, isCounted}
-use Rattle.layout.specs.declared.fields.Use.{Use}
-use Rattle.args.specs.Arguments.{isArgs}
+use Rattle.layout.specs.Row.{numberOf, takes}
+use Rattle.layout.specs.Table.{stmtExecute}
+use Rattle.layout.specs.Fields.{isCounted}
+use Rattle.args.proofs.Names.{len, rowsOf, wireOf, isRepeated, slotCount, rowFor, useOf, Use, isArgs}
 use Rattle.args.specs.ArgumentsRules.{argsNumber, ArgsField}
 
 -- no row of another number is a repeated one

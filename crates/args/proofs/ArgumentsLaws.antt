@@ -1,21 +1,13 @@
 -- Going through all arguments, one turn of the loop at a time. Assumes nothing.
-use Prim.Native.Nat.{ℕ, zero, suc, _+_, _-_, _≤_, _<_}
-use native.Mathlib.Omega.{arith}
-use mathlib.Core.Bool.{Bool, true, false, cond}
-use mathlib.Core.Path.{_≡_, refl, sym, ap, _∙_}
-use mathlib.Core.List.{List, [], _∷_}
-use lib.ListN.{length, getD}
-use lib.Dec.{ltb, eqb}
-use borrow.Author.Tests.{lt-ltb, le-ltb, eq-eqb, ne-eqb, eqb-true, eqb-false}
-use Rattle.prelude.proofs.Cases.{both, before-suc}
-use Rattle.scalar.specs.Argument.{reasonOf}
-use Rattle.scalar.specs.declared.argument.Argument.{Argument}
+use Rattle.prelude.proofs.Basics.{ℕ, zero, suc, _+_, _-_, _≤_, _<_, arith, Bool, true, false, cond, _≡_, refl, sym, ap}
+use Rattle.prelude.proofs.Basics.{_∙_, List, [], _∷_, length, getD, eqb, ltb, eq-eqb, eqb-false, eqb-true, le-ltb}
+use Rattle.prelude.proofs.Basics.{lt-ltb, ne-eqb, both, before-suc}
 use Rattle.scalar.specs.declared.argument.Argument.the-variants as Va
-use Rattle.args.specs.Arguments.{nextArgument, andMore, argumentsFrom, argumentsAt, anyTypeOf, noArguments}
-use Rattle.args.specs.Arguments.{badArguments, counted, withType, together, argumentsIn, handedOut}
-use Rattle.args.specs.declared.arguments.NextArgument.{NextArgument}
-use Rattle.args.specs.declared.arguments.Arguments.{Arguments}
-use Rattle.args.specs.WithinRules.{EndsBy, GoesOn, FewArguments, NthWithin}
+use Rattle.args.proofs.Names.{reasonOf, Argument, nextArgument, andMore, argumentsFrom, argumentsAt, anyTypeOf}
+use Rattle.args.proofs.Names.{noArguments, badArguments, counted, withType, argumentsIn, handedOut, EndsBy}
+use Rattle.args.proofs.Names.{GoesOn, Arguments, NextArgument}
+use Rattle.args.specs.Arguments.{together}
+use Rattle.args.specs.WithinRules.{FewArguments, NthWithin}
 use Rattle.args.proofs.PlaceLaws.{next-goes-on, next-end}
 use Rattle.args.proofs.WithinLaws.{ends-later}
 

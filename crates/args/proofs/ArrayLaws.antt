@@ -1,18 +1,10 @@
 -- The value of an argument from the arrays that hold its messages. Assumes nothing.
-use Prim.Native.Nat.{ℕ, _+_}
-use mathlib.Core.Bool.{Bool, true, false, cond}
-use mathlib.Core.Path.{_≡_, refl, sym, ap, _∙_}
-use mathlib.Core.List.{List}
-use lib.ListN.{getD}
-use Rattle.scalar.specs.declared.argument.Argument.{Argument}
-use Rattle.layout.specs.Row.{rowFor}
-use Rattle.layout.specs.Table.{rowsOf, any, scalar, bytes}
+use Rattle.prelude.proofs.Basics.{ℕ, _+_, Bool, true, false, cond, _≡_, refl, sym, ap, _∙_, List, getD}
 use Rattle.layout.specs.private.Arrays.{Holds, fromArrays, inArrays}
-use Rattle.layout.specs.declared.slots.Slots.{Slots}
 use Rattle.layout.proofs.ArrayLaws.{holds-arrays, same-absent, bytes-long-to}
-use Rattle.layout.specs.Part.{embedded, valueOf, lenOf, low32}
-use Rattle.args.specs.Value.{bad, present, bytesOf, bytesIn, ofType, scalarOf, scalarIn, ofAnyType, anyOf}
-use Rattle.args.specs.Value.{argumentIn}
+use Rattle.args.proofs.Names.{Argument, any, scalar, bytes, rowsOf, rowFor, embedded, valueOf, lenOf, low32}
+use Rattle.args.proofs.Names.{Slots, bad, present, bytesOf, bytesIn, ofType, scalarOf, scalarIn, ofAnyType}
+use Rattle.args.proofs.Names.{anyOf, argumentIn}
 use Rattle.args.proofs.ValueLaws.{bytes-bad, scalar-bad, any-bad}
 
 -- arrays that hold a good message

@@ -1,39 +1,21 @@
 -- One pass over a message with arguments, one turn of the loop at a time: its own fields beside the field list, its
 -- arguments beside the list of them. Assumes nothing.
-use Prim.Native.Nat.{ℕ, zero, suc, _+_, _-_, _≤_, _<_}
-use native.Mathlib.Omega.{arith}
-use mathlib.Core.Bool.{Bool, true, false, not, cond, _&&_}
-use mathlib.Core.Path.{_≡_, refl, sym, ap, subst, _∙_}
-use mathlib.Core.List.{List}
-use lib.ListN.{length, getD, set, take, length-set}
-use lib.Seq.{getD-set-same, getD-set-other, length-take-le}
-use lib.Dec.{leb, eqb}
-use borrow.Author.Tests.{eqb-true, eqb-false, eq-eqb, ne-eqb, lt-leb, le-leb, leb-true}
-use Rattle.prelude.proofs.Cases.{both, yes, no}
-use Rattle.wire.specs.Field.{fieldAt}
-use Rattle.wire.specs.declared.field.Field.{Field}
-use Rattle.layout.specs.Row.{rowFor}
-use Rattle.layout.specs.Slots.{noSlots, badSlots}
-use Rattle.layout.specs.Table.{rowsOf}
-use Rattle.layout.specs.Fields.{useOf, noted, fieldList, hasRequired, checked, fieldsAt}
-use Rattle.layout.specs.declared.slots.Slots.{Slots}
-use Rattle.layout.specs.declared.fields.Use.{Use}
+use Rattle.prelude.proofs.Basics.{ℕ, zero, suc, _+_, _≤_, _<_, arith, Bool, true, false, not, _&&_, cond, _≡_, refl}
+use Rattle.prelude.proofs.Basics.{sym, ap, subst, _∙_, List, length, getD, set, take, length-set, getD-set-other}
+use Rattle.prelude.proofs.Basics.{getD-set-same, length-take-le, eqb, leb, eq-eqb, eqb-false, eqb-true, le-leb}
+use Rattle.prelude.proofs.Basics.{leb-true, lt-leb, ne-eqb, both, yes, no}
 use Rattle.layout.proofs.CountLaws.{noted-length}
 use Rattle.layout.proofs.FieldsLaws as Fields
-use Rattle.layout.specs.Part.{embedded, valueOf}
-use Rattle.args.specs.Value.{argumentIn}
-use Rattle.args.specs.Arguments.{nextArgument, argumentsAt, anyTypeOf, noArguments, badArguments, withType}
-use Rattle.args.specs.Arguments.{argumentsIn, isArgs}
-use Rattle.args.specs.Padded.{argumentPadded, insideArgs, boundPadded, executePadded}
+use Rattle.args.proofs.Names.{fieldAt, Field, rowsOf, rowFor, noSlots, badSlots, useOf, noted, fieldList}
+use Rattle.args.proofs.Names.{checked, fieldsAt, hasRequired, embedded, valueOf, Use, Slots, part-within}
+use Rattle.args.proofs.Names.{argumentIn, isArgs, nextArgument, argumentsAt, anyTypeOf, noArguments}
+use Rattle.args.proofs.Names.{badArguments, withType, argumentsIn, argumentPadded, insideArgs, Arguments}
+use Rattle.args.proofs.Names.{NextArgument, Bound}
+use Rattle.args.specs.Padded.{boundPadded, executePadded}
 use Rattle.args.specs.private.Bound.{rowsBy, wireBy, testsArgs, nothing, withField, ownOf, found, badBound}
-use Rattle.args.specs.private.Bound.{boundOf}
-use Rattle.args.specs.private.Bound.{boundAt, boundIn, argsOf}
-use Rattle.args.specs.declared.arguments.Arguments.{Arguments}
-use Rattle.args.specs.declared.arguments.NextArgument.{NextArgument}
+use Rattle.args.specs.private.Bound.{boundOf, boundAt, boundIn, argsOf}
 use Rattle.args.specs.declared.bound.Own.{Own}
-use Rattle.args.specs.declared.bound.Bound.{Bound}
 use Rattle.args.proofs.ArgsFieldLaws.{args-field}
-use Rattle.layout.proofs.PartLaws.{part-within}
 use Rattle.args.proofs.PlaceLaws as Place
 use Rattle.args.proofs.EnoughLaws.{next-skips}
 use Rattle.args.proofs.ArgumentsLaws.{Walking}

@@ -1,22 +1,9 @@
 -- Fuel that is enough for the bytes left makes no difference to args fields and arguments. Assumes nothing.
-use Prim.Native.Nat.{ℕ, zero, suc, _+_, _≤_, _<_}
-use native.Mathlib.Omega.{arith}
-use mathlib.Core.Bool.{Bool, true, false, cond}
-use mathlib.Core.Path.{_≡_, refl, sym, ap, _∙_}
-use mathlib.Core.List.{List, _∷_}
-use lib.ListN.{length}
-use lib.Dec.{ltb, eqb}
-use borrow.Author.Tests.{eqb-true, eqb-false}
-use Rattle.wire.specs.Field.{fieldAt}
-use Rattle.wire.specs.Past.{PastField}
-use Rattle.wire.specs.declared.field.Field.{Field}
-use Rattle.wire.proofs.PastLaws.{field-past}
-use Rattle.scalar.specs.declared.argument.Argument.{Argument}
-use Rattle.args.specs.Arguments.{isArgs, ofField, placeFrom, ofPlace, nextArgument, andMore, argumentsFrom}
+use Rattle.prelude.proofs.Basics.{ℕ, zero, suc, _+_, _≤_, _<_, arith, Bool, true, false, cond, _≡_, refl, sym, ap, _∙_}
+use Rattle.prelude.proofs.Basics.{List, _∷_, length, eqb, ltb, eqb-false, eqb-true}
+use Rattle.args.proofs.Names.{Argument, fieldAt, PastField, Field, field-past, isArgs, ofField, placeFrom}
+use Rattle.args.proofs.Names.{ofPlace, nextArgument, andMore, argumentsFrom, GoesOn, ArgPlace, NextArgument}
 use Rattle.args.specs.ArgumentsRules.{EnoughFields, EnoughArguments}
-use Rattle.args.specs.WithinRules.{GoesOn}
-use Rattle.args.specs.declared.arguments.ArgPlace.{ArgPlace}
-use Rattle.args.specs.declared.arguments.NextArgument.{NextArgument}
 use Rattle.args.proofs.PlaceLaws.{Seeking, starts, other-wire, other-number, place-end, next-goes-on, next-end}
 use Rattle.args.proofs.ArgumentsLaws.{from-none}
 

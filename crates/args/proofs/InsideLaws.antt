@@ -1,26 +1,10 @@
 -- Whether an argument is padded, by the type of its Any and of its Scalar. Assumes nothing.
-use Prim.Native.Nat.{ℕ, _+_, _*_, _≤_, _<_}
-use native.Mathlib.Omega.{arith}
-use mathlib.Core.Bool.{Bool, true, false, cond, _||_}
-use mathlib.Core.Path.{_≡_, refl, sym, ap, ap₂, _∙_}
-use mathlib.Core.List.{List}
-use lib.ListN.{length, take}
-use lib.Seq.{take-length}
-use lib.Dec.{eqb}
-use borrow.Author.Tests.{ne-eqb}
-use Rattle.prelude.proofs.Cases.{yes, no as without}
-use Rattle.prelude.proofs.OrLaws.{or-false, or-assoc, or-same}
-use Rattle.scalar.specs.declared.argument.Argument.{Argument}
-use Rattle.layout.specs.Table.{rowsOf, any, scalar}
-use Rattle.layout.specs.Row.{rowFor}
-use Rattle.layout.specs.Fields.{hasRequired}
+use Rattle.prelude.proofs.Basics.{ℕ, _+_, _*_, _≤_, _<_, arith, Bool, true, false, _||_, cond, _≡_, refl, sym, ap, ap₂}
+use Rattle.prelude.proofs.Basics.{_∙_, List, eqb, ne-eqb, yes, no as without, or-assoc, or-false}
 use Rattle.layout.specs.private.Arrays.{Holds, fromArrays, inArrays}
-use Rattle.layout.specs.declared.slots.Slots.{Slots}
-use Rattle.layout.specs.Part.{embedded, valueOf, startOf, lenOf, low32}
-use Rattle.args.specs.Value.{scalarOf, scalarIn, anyOf, argumentIn}
-use Rattle.args.specs.Arguments.{anyTypeOf}
-use Rattle.layout.specs.Padded.{partPadded}
-use Rattle.args.specs.Padded.{bytesPadded, insideScalar, scalarPadded, insideAny, argumentPadded}
+use Rattle.args.proofs.Names.{Argument, any, scalar, rowsOf, rowFor, hasRequired, embedded, valueOf, startOf}
+use Rattle.args.proofs.Names.{lenOf, low32, partPadded, Slots, scalarOf, scalarIn, anyOf, argumentIn, anyTypeOf}
+use Rattle.args.proofs.Names.{bytesPadded, insideScalar, scalarPadded, insideAny, argumentPadded}
 use Rattle.args.specs.private.Pair.{loneIn, pairPadded}
 use Rattle.args.proofs.ArrayLaws.{arrays-good, octets-long, string-long, scalar-long}
 use Rattle.args.proofs.PairLaws.{lone-kept, pair-kept, pair-bytes}

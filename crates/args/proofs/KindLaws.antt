@@ -1,9 +1,6 @@
 -- The Any type of what a scalar's bits carry. Assumes nothing.
-use Prim.Native.Nat.{ℕ}
-use mathlib.Core.Bool.{Bool, true, false, cond}
-use mathlib.Core.Path.{_≡_, sym}
-use Rattle.scalar.specs.declared.argument.Argument.{Argument}
-use Rattle.args.specs.Arguments.{anyTypeOf}
+use Rattle.prelude.proofs.Basics.{ℕ, Bool, true, false, cond, _≡_, sym}
+use Rattle.args.proofs.Names.{Argument, anyTypeOf}
 
 -- a number or a NaN: a scalar either way
 pub either-scalar : (b : Bool) (x y : Argument) → anyTypeOf x ≡ 1 → anyTypeOf y ≡ 1 → _≡_ {A = ℕ} 1

@@ -1,3 +1,4 @@
+mod Names
 pub mod ValueLaws
 pub mod PairLaws
 pub mod TextLaws

@@ -1,38 +1,19 @@
 -- Arguments read in bytes and in a byte string that holds these bytes: the same, moved. Assumes nothing.
-use Prim.Native.Nat.{ℕ, zero, suc, _+_, _≤_, _<_}
-use native.Mathlib.Omega.{arith}
-use mathlib.Core.Bool.{Bool, true, false, not, cond}
-use mathlib.Core.Path.{_≡_, refl, sym, ap, _∙_}
-use mathlib.Core.List.{List, _∷_, map}
-use lib.ListN.{length, getD, take}
-use lib.Seq.{length-take-le}
-use lib.Dec.{leb, eqb}
+use Rattle.prelude.proofs.Basics.{ℕ, zero, suc, _+_, _≤_, _<_, arith, Bool, true, false, not, cond, _≡_, refl, sym, ap}
+use Rattle.prelude.proofs.Basics.{_∙_, List, _∷_, map, length, getD, take, length-take-le, eqb, leb, eq-eqb, eqb-false}
+use Rattle.prelude.proofs.Basics.{eqb-true, less-or-not}
 use lib.Ieee.{Float, Format, binary32, binary64, nanBits}
-use borrow.Author.Tests.{eq-eqb, eqb-true, eqb-false}
-use Rattle.prelude.proofs.Cases.{less-or-not}
-use Rattle.varint.proofs.TailLaws.{chosen-alike, Tail, tail-length, tail-stands}
-use Rattle.varint.proofs.TailLaws.{Stands, stands-length, stands-take}
-use Rattle.wire.specs.Field.{fieldAt}
-use Rattle.wire.specs.Past.{PastField}
-use Rattle.wire.specs.declared.field.Field.{Field}
-use Rattle.wire.proofs.PastLaws.{field-past}
-use Rattle.wire.proofs.MovedLaws.{movedField, field-moved}
-use Rattle.scalar.specs.Argument.{carried, doubleOf, floatOf, signedOf}
-use Rattle.scalar.specs.declared.argument.Argument.{Argument}
+use Rattle.varint.proofs.TailLaws.{chosen-alike, Tail, tail-length, tail-stands, stands-length, stands-take}
+use Rattle.scalar.specs.Argument.{carried}
 use Rattle.scalar.specs.declared.argument.Argument.the-variants as Va
-use Rattle.layout.specs.Table.{rowsOf, any, scalar, bytes}
-use Rattle.layout.specs.Row.{isRepeated, rowFor}
-use Rattle.layout.specs.Slots.{badSlots}
-use Rattle.layout.specs.Fields.{hasRequired, checked, fieldList, fieldsAt}
-use Rattle.layout.specs.declared.slots.Slots.{Slots}
-use Rattle.layout.proofs.AlikeLaws.{Alike, alike-as, fields-alike}
-use Rattle.layout.specs.Part.{embedded, countOf, valueOf, startOf, lenOf, low32}
-use Rattle.args.specs.Value.{bad, present, bytesOf, bytesIn, ofType, scalarOf, ofAnyType, anyOf, argumentIn}
-use Rattle.args.specs.Arguments.{argPlace, ofPlace, nextArgument, andMore, argumentsFrom}
-use Rattle.args.specs.Moved.{moved}
-use Rattle.args.specs.declared.arguments.ArgPlace.{ArgPlace}
-use Rattle.args.specs.declared.arguments.NextArgument.{NextArgument}
-use Rattle.layout.proofs.PartLaws.{part-within}
+use Rattle.wire.proofs.MovedLaws.{movedField, field-moved}
+use Rattle.layout.proofs.AlikeLaws.{alike-as, fields-alike}
+use Rattle.args.proofs.Names.{Stands, signedOf, doubleOf, floatOf, Argument, fieldAt, PastField, Field}
+use Rattle.args.proofs.Names.{field-past, any, scalar, bytes, rowsOf, isRepeated, rowFor, badSlots, fieldList}
+use Rattle.args.proofs.Names.{checked, fieldsAt, hasRequired, embedded, countOf, valueOf, startOf, lenOf, low32}
+use Rattle.args.proofs.Names.{Slots, Alike, part-within, bad, present, bytesOf, bytesIn, ofType, scalarOf}
+use Rattle.args.proofs.Names.{ofAnyType, anyOf, argumentIn, argPlace, ofPlace, nextArgument, andMore}
+use Rattle.args.proofs.Names.{argumentsFrom, moved, ArgPlace, NextArgument}
 use Rattle.args.proofs.PlaceLaws.{Seeking, starts, ends, no-field, advances, found, other-wire, other-number}
 use Rattle.args.proofs.PlaceLaws.{next-end, next-placed}
 use Rattle.args.proofs.ArgumentsLaws.{from-none, advances as next-advances}

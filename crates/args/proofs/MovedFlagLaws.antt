@@ -1,29 +1,15 @@
 -- Whether an argument is padded does not depend on where its bytes stand. Assumes nothing.
-use Prim.Native.Nat.{ℕ, _+_, _≤_}
-use native.Mathlib.Omega.{arith}
-use mathlib.Core.Bool.{Bool, true, false, cond, _||_}
-use mathlib.Core.Path.{_≡_, refl, sym, ap, ap₂, _∙_}
-use mathlib.Core.List.{List}
-use lib.ListN.{length, getD, take}
-use lib.Seq.{length-take-le}
-use lib.Dec.{leb, eqb}
-use borrow.Author.Tests.{leb-true, eqb-true, eqb-false}
-use Rattle.prelude.proofs.Cases.{both, less-or-not}
-use Rattle.varint.proofs.TailLaws.{Stands}
-use Rattle.layout.specs.Table.{rowsOf, any, scalar}
-use Rattle.layout.specs.Row.{isRepeated, rowFor}
-use Rattle.layout.specs.Slots.{noSlots}
-use Rattle.layout.specs.Fields.{hasRequired, checked}
-use Rattle.layout.specs.Padded.{nothingInside, paddedTo, partPadded}
-use Rattle.layout.specs.declared.slots.Slots.{Slots}
+use Rattle.prelude.proofs.Basics.{ℕ, _+_, _≤_, arith, Bool, true, false, _||_, cond, _≡_, refl, sym, ap, ap₂, _∙_, List}
+use Rattle.prelude.proofs.Basics.{length, getD, take, length-take-le, eqb, leb, eqb-false, eqb-true, leb-true, both}
+use Rattle.prelude.proofs.Basics.{less-or-not}
+use Rattle.layout.specs.Padded.{paddedTo}
 use Rattle.layout.proofs.FieldsLaws.{from-end}
-use Rattle.layout.proofs.AlikeLaws.{Alike}
 use Rattle.layout.proofs.AbsentLaws.{Absent, bad-absent, fields-absent}
-use Rattle.layout.proofs.PaddedLaws.{flag-end, padded-outside, padded-inside}
+use Rattle.layout.proofs.PaddedLaws.{flag-end, padded-outside}
 use Rattle.layout.proofs.MovedFlagLaws.{to-flag-moved}
-use Rattle.layout.specs.Part.{embedded, valueOf, startOf, lenOf, low32}
-use Rattle.args.specs.Padded.{bytesPadded, insideScalar, scalarPadded, insideAny}
-use Rattle.args.specs.Padded.{argumentPadded}
+use Rattle.args.proofs.Names.{Stands, any, scalar, rowsOf, isRepeated, rowFor, noSlots, checked, hasRequired}
+use Rattle.args.proofs.Names.{embedded, valueOf, startOf, lenOf, low32, nothingInside, partPadded, Slots, Alike}
+use Rattle.args.proofs.Names.{padded-inside, bytesPadded, insideScalar, scalarPadded, insideAny, argumentPadded}
 use Rattle.args.proofs.MovedArgLaws.{embedded-alike}
 use Rattle.args.proofs.InsideLaws.{scalar-in, scalar-inside-bad}
 

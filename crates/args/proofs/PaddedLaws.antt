@@ -1,36 +1,22 @@
 -- Whether the short ways for one field or two read a padded varint, step by step, and what that says of the whole
 -- message. Assumes nothing.
-use Prim.Native.Nat.{ℕ, _+_, _-_, _%_, _≤_, _<_}
-use native.Mathlib.Omega.{arith}
-use mathlib.Core.Bool.{Bool, true, false, cond, _||_}
-use mathlib.Core.Path.{_≡_, refl, sym, ap, subst, _∙_}
-use mathlib.Core.List.{List}
-use lib.ListN.{length, take, getD}
-use lib.Seq.{length-take-le, take-length}
-use lib.Dec.{ltb, leb, eqb}
-use borrow.Author.Tests.{ltb-true, ltb-false, leb-true, eqb-true, lt-ltb, le-ltb, lt-leb, le-leb, eq-eqb, ne-eqb}
-use Rattle.prelude.proofs.Cases.{both, yes, no, less-or-not}
-use Rattle.prelude.proofs.OrLaws.{or-false, or-within}
+use Rattle.prelude.proofs.Basics.{ℕ, _+_, _-_, _%_, _≤_, _<_, arith, Bool, true, false, _||_, _≡_, refl, sym, ap, _∙_}
+use Rattle.prelude.proofs.Basics.{List, length, getD, take, length-take-le, eqb, ltb, eq-eqb, eqb-true, le-leb, le-ltb}
+use Rattle.prelude.proofs.Basics.{lt-leb, lt-ltb, ltb-false, ltb-true, ne-eqb, both, yes, no, less-or-not, or-false}
+use Rattle.prelude.proofs.Basics.{or-within}
 use Rattle.varint.specs.Padded.{paddedAt}
 use Rattle.varint.proofs.FlagLaws.{padded-one}
-use Rattle.wire.specs.Padded.{valuePadded, fieldPadded}
-use Rattle.wire.specs.Field.{fieldAt}
-use Rattle.wire.specs.declared.field.Field.{Field}
 use Rattle.wire.proofs.FieldLaws.{quick-low}
-use Rattle.wire.proofs.PaddedLaws.{quick-flag, no-flag}
-use Rattle.layout.specs.Slots.{noSlots, badSlots}
-use Rattle.layout.specs.Fields.{useOf, fieldList, fieldsAt, checked, hasRequired}
-use Rattle.layout.specs.Padded.{onward, paddedFrom, nothingInside, listPadded, partPadded}
-use Rattle.layout.specs.declared.slots.Slots.{Slots}
+use Rattle.wire.proofs.PaddedLaws.{no-flag}
+use Rattle.layout.specs.Padded.{onward, paddedFrom, listPadded}
 use Rattle.layout.proofs.FieldsLaws as Fields
-use Rattle.layout.proofs.PaddedLaws.{Marking, marks, marks-on, marked, flag-turn, padded-inside, padded-outside}
-use Rattle.layout.specs.Part.{embedded}
-use Rattle.args.specs.private.Pair.{pairIn, pairFlag, pairPadded, textIn, textFlag, textPadded, loneIn}
-use Rattle.args.specs.declared.pair.Pair.{Pair}
-use Rattle.args.specs.declared.pair.Text.{Text}
+use Rattle.layout.proofs.PaddedLaws.{flag-turn}
+use Rattle.args.proofs.Names.{fieldAt, valuePadded, fieldPadded, quick-flag, badSlots, useOf, fieldList, checked}
+use Rattle.args.proofs.Names.{fieldsAt, hasRequired, embedded, nothingInside, partPadded, Slots, part-within}
+use Rattle.args.proofs.Names.{Marking, marks, marked, marks-on, padded-inside, Text}
+use Rattle.args.specs.private.Pair.{pairFlag, pairPadded, textIn, textFlag, textPadded, loneIn}
 use Rattle.args.proofs.PairLaws.{FieldOne, TwoFields, field-one, field-two, wire-low, lone-filled}
 use Rattle.args.proofs.PairLaws as Two
-use Rattle.layout.proofs.PartLaws.{part-within}
 use Rattle.args.proofs.TextLaws.{Filled}
 use Rattle.args.proofs.TextLaws as Alone
 use Rattle.args.proofs.ScalarLaws.{Held}

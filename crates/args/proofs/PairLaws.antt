@@ -1,31 +1,18 @@
 -- The short ways for a message of one field or two: their values of one byte, their steps, and what a message's rows
 -- make of the fields. Assumes nothing.
-use Prim.Native.Nat.{ℕ, _+_, _-_, _*_, _/_, _%_, _^_, _≤_, _<_}
-use native.Mathlib.Omega.{arith}
-use mathlib.Core.Bool.{Bool, true, false}
-use mathlib.Core.Path.{_≡_, refl, sym, ap, subst, _∙_}
-use mathlib.Core.List.{List}
-use lib.ListN.{length, take, getD}
-use lib.Seq.{length-take-le, getD-take}
-use lib.Dec.{ltb, leb, eqb}
-use borrow.Author.Tests.{ltb-true, ltb-false, leb-true, eqb-true, lt-ltb, le-ltb, lt-leb, le-leb, eq-eqb, ne-eqb}
-use Rattle.prelude.proofs.Cases.{both, yes, no}
-use Rattle.wire.specs.Value.{ofVarint, ofLength, valueAt}
-use Rattle.wire.specs.Field.{ofValue, fieldOf, fieldAt}
-use Rattle.wire.specs.declared.value.Value.{Value}
-use Rattle.wire.specs.declared.field.Field.{Field}
+use Rattle.prelude.proofs.Basics.{ℕ, _+_, _-_, _*_, _/_, _%_, _^_, _≤_, _<_, arith, Bool, true, false, _≡_, refl, sym}
+use Rattle.prelude.proofs.Basics.{ap, subst, _∙_, List, length, getD, take, getD-take, length-take-le, eqb, leb, ltb}
+use Rattle.prelude.proofs.Basics.{eq-eqb, eqb-true, le-leb, le-ltb, leb-true, lt-leb, lt-ltb, ltb-false, ltb-true}
+use Rattle.prelude.proofs.Basics.{ne-eqb, both, yes, no}
+use Rattle.wire.specs.Value.{ofVarint, ofLength}
+use Rattle.wire.specs.Field.{fieldOf}
 use Rattle.wire.proofs.ValueLaws.{length-good, value-number, value-length, value-none}
-use Rattle.wire.proofs.FieldLaws.{field-value, one-byte, quick-wire}
-use Rattle.wire.proofs.LongLaws.{LongField, field-long}
-use Rattle.layout.specs.Slots.{noSlots}
-use Rattle.layout.specs.Fields.{useOf, noted, fieldList, checked}
-use Rattle.layout.specs.declared.slots.Slots.{Slots}
-use Rattle.layout.specs.declared.fields.Use.{Use}
-use Rattle.layout.proofs.FieldsLaws.{kept-slot, starts, goes-on, ends}
-use Rattle.layout.specs.Part.{embedded}
+use Rattle.wire.proofs.FieldLaws.{field-value, one-byte}
+use Rattle.layout.proofs.FieldsLaws.{kept-slot}
+use Rattle.args.proofs.Names.{valueAt, ofValue, fieldAt, Field, Value, quick-wire, LongField, field-long}
+use Rattle.args.proofs.Names.{noSlots, useOf, noted, fieldList, checked, embedded, Use, Slots, starts, ends}
+use Rattle.args.proofs.Names.{goes-on, part-within, Pair}
 use Rattle.args.specs.private.Pair.{pairOf, pairAt, pairIn, loneIn}
-use Rattle.args.specs.declared.pair.Pair.{Pair}
-use Rattle.layout.proofs.PartLaws.{part-within}
 
 -- ---- a number or a length of one byte
 

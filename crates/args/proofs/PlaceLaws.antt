@@ -1,25 +1,10 @@
 -- Looking for the next args field, one turn of the loop at a time. Assumes nothing.
-use Prim.Native.Nat.{ℕ, zero, suc, _+_, _-_, _≤_, _<_}
-use native.Mathlib.Omega.{arith}
-use mathlib.Core.Bool.{Bool, true, false, cond}
-use mathlib.Core.Path.{_≡_, refl, sym, ap, _∙_}
-use mathlib.Core.List.{List}
-use lib.ListN.{length, getD}
-use lib.Dec.{ltb}
-use borrow.Author.Tests.{lt-ltb, le-ltb, ltb-true}
-use Rattle.prelude.proofs.Cases.{both, before-suc}
-use Rattle.wire.specs.Value.{asLength}
-use Rattle.wire.specs.Field.{ofValue, fieldAt}
-use Rattle.wire.specs.Past.{PastField}
-use Rattle.wire.specs.declared.value.Value.{Value}
-use Rattle.wire.specs.declared.field.Field.{Field}
-use Rattle.wire.proofs.FieldLaws.{quick-wire}
-use Rattle.wire.proofs.PastLaws.{field-past}
-use Rattle.args.specs.Arguments.{isArgs, ofField, placeOf, placeFrom, argPlace, ofPlace, nextArgument}
-use Rattle.args.specs.Value.{argumentIn}
-use Rattle.args.specs.WithinRules.{GoesOn, NextGoesOn}
-use Rattle.args.specs.declared.arguments.ArgPlace.{ArgPlace}
-use Rattle.args.specs.declared.arguments.NextArgument.{NextArgument}
+use Rattle.prelude.proofs.Basics.{ℕ, zero, suc, _+_, _-_, _≤_, _<_, arith, Bool, true, false, cond, _≡_, refl, sym, ap}
+use Rattle.prelude.proofs.Basics.{_∙_, List, length, getD, ltb, le-ltb, lt-ltb, ltb-true, both, before-suc}
+use Rattle.args.proofs.Names.{asLength, ofValue, fieldAt, PastField, Field, Value, field-past, quick-wire}
+use Rattle.args.proofs.Names.{argumentIn, isArgs, ofField, placeFrom, argPlace, placeOf, ofPlace, nextArgument}
+use Rattle.args.proofs.Names.{GoesOn, ArgPlace, NextArgument}
+use Rattle.args.specs.WithinRules.{NextGoesOn}
 use Rattle.args.proofs.ArgsFieldLaws.{is-args, no-wire, no-number}
 use Rattle.args.proofs.WithinLaws.{ends-later, argument-ends}
 

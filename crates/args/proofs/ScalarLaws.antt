@@ -1,23 +1,11 @@
 -- A Scalar and an Any of one field or two, by its type and the tag of its value: what the rows make of it, for each
 -- type. Assumes nothing.
-use Prim.Native.Nat.{ℕ, _+_, _*_, _^_, _<_}
-use native.Mathlib.Omega.{arith}
-use mathlib.Core.Bool.{Bool, true, false, not}
-use mathlib.Core.Path.{_≡_, refl, ap, _∙_}
-use mathlib.Core.List.{List}
-use lib.ListN.{length, take}
-use lib.Seq.{take-length}
-use lib.Dec.{eqb}
-use Rattle.scalar.specs.Argument.{signedOf, doubleOf, floatOf}
-use Rattle.scalar.specs.declared.argument.Argument.{Argument}
+use Rattle.prelude.proofs.Basics.{ℕ, _+_, _*_, _^_, _<_, arith, Bool, true, false, not, _≡_, refl, ap, _∙_, List}
+use Rattle.prelude.proofs.Basics.{length, take, take-length, eqb}
 use Rattle.scalar.specs.declared.argument.Argument.the-variants as Va
-use Rattle.layout.specs.Table.{rowsOf, any, scalar}
-use Rattle.layout.specs.Row.{rowFor}
-use Rattle.layout.specs.Fields.{hasRequired}
+use Rattle.args.proofs.Names.{signedOf, doubleOf, floatOf, Argument, any, scalar, rowsOf, rowFor, hasRequired}
+use Rattle.args.proofs.Names.{low32, bytesIn, ofType, scalarOf, scalarIn, ofAnyType, anyOf, argumentIn, Pair}
 use Rattle.args.specs.private.Pair.{loneIn, pairIn}
-use Rattle.layout.specs.Part.{low32}
-use Rattle.args.specs.Value.{bytesIn, ofType, scalarOf, scalarIn, ofAnyType, anyOf, argumentIn}
-use Rattle.args.specs.declared.pair.Pair.{Pair}
 use Rattle.args.proofs.PairLaws.{lone-kept, named-short, pair-kept, pair-bytes}
 
 -- null has no value

@@ -1,28 +1,11 @@
 -- The short way for field 1 with bytes alone: its steps, and what a message's rows make of the field. Assumes nothing.
-use Prim.Native.Nat.{ℕ, _+_, _≤_, _<_}
-use native.Mathlib.Omega.{arith}
-use mathlib.Core.Path.{_≡_, refl, sym, ap, subst, _∙_}
-use mathlib.Core.List.{List}
-use lib.ListN.{length, take, getD}
-use lib.Seq.{length-take-le}
-use lib.Dec.{ltb, leb, eqb}
-use borrow.Author.Tests.{ltb-true, leb-true, eqb-true, lt-ltb, le-ltb, lt-leb, le-leb, eq-eqb, ne-eqb}
-use Rattle.prelude.proofs.Cases.{both, yes, no}
-use Rattle.wire.specs.Value.{asLength}
-use Rattle.wire.specs.Field.{ofValue, fieldAt}
-use Rattle.wire.specs.declared.value.Value.{Value}
-use Rattle.wire.specs.declared.field.Field.{Field}
-use Rattle.wire.proofs.FieldLaws.{quick-wire}
-use Rattle.wire.proofs.LongLaws.{LongField, field-long}
-use Rattle.layout.specs.Slots.{noSlots}
-use Rattle.layout.specs.Fields.{useOf, noted, checked}
-use Rattle.layout.specs.declared.fields.Use.{Use}
-use Rattle.layout.proofs.FieldsLaws.{starts, goes-on, ends}
-use Rattle.layout.specs.Part.{embedded}
-use Rattle.args.specs.Arguments.{noArguments, argumentsIn}
+use Rattle.prelude.proofs.Basics.{ℕ, _+_, _≤_, _<_, arith, _≡_, refl, sym, ap, subst, _∙_, List, length, getD, take}
+use Rattle.prelude.proofs.Basics.{length-take-le, eqb, leb, ltb, eq-eqb, eqb-true, le-leb, le-ltb, leb-true, lt-leb}
+use Rattle.prelude.proofs.Basics.{lt-ltb, ltb-true, ne-eqb, both, yes, no}
+use Rattle.args.proofs.Names.{asLength, ofValue, fieldAt, Field, Value, quick-wire, LongField, field-long}
+use Rattle.args.proofs.Names.{noSlots, useOf, noted, checked, embedded, Use, starts, ends, goes-on, part-within}
+use Rattle.args.proofs.Names.{noArguments, argumentsIn, Text}
 use Rattle.args.specs.private.Pair.{textOf, textAt, textIn}
-use Rattle.args.specs.declared.pair.Text.{Text}
-use Rattle.layout.proofs.PartLaws.{part-within}
 use Rattle.args.proofs.PlaceLaws as Place
 use Rattle.args.proofs.ArgumentsLaws.{none-left}
 use Rattle.args.proofs.ArgumentsLaws as Walk

@@ -1,21 +1,12 @@
 -- A scalar that is read has the type that its message names. Assumes nothing.
-use Prim.Native.Nat.{ℕ}
-use native.Mathlib.Omega.{arith}
-use mathlib.Core.Bool.{Bool, true, false, not, cond}
-use mathlib.Core.Path.{_≡_, sym, _∙_}
-use mathlib.Core.List.{List}
-use lib.Dec.{eqb}
-use borrow.Author.Tests.{eqb-true}
-use Rattle.prelude.proofs.Cases.{both}
-use Rattle.scalar.specs.Argument.{signedOf, doubleOf, floatOf, reasonOf, typeOf}
-use Rattle.scalar.specs.declared.argument.Argument.{Argument}
+use Rattle.prelude.proofs.Basics.{ℕ, arith, Bool, true, false, not, cond, _≡_, sym, _∙_, List, eqb, eqb-true, both}
+use Rattle.scalar.specs.Argument.{typeOf}
 use Rattle.scalar.specs.declared.argument.Argument.the-variants as Va
 use Rattle.scalar.proofs.ArgumentLaws.{floats-typed}
-use Rattle.layout.specs.declared.slots.Slots.{Slots}
-use Rattle.layout.specs.Part.{embedded, countOf, valueOf, startOf, lenOf, low32}
-use Rattle.args.specs.Value.{bad, present, bytesOf, bytesIn, ofType, scalarOf}
+use Rattle.args.proofs.Names.{signedOf, doubleOf, floatOf, reasonOf, Argument, bytes, rowsOf, embedded, countOf}
+use Rattle.args.proofs.Names.{valueOf, startOf, lenOf, low32, Slots, bad, present, bytesOf, bytesIn, ofType}
+use Rattle.args.proofs.Names.{scalarOf}
 use Rattle.args.specs.Typed.{ReadAsTyped}
-use Rattle.layout.specs.Table.{rowsOf, bytes}
 
 -- of the type t, if it is not refused
 abbrev Of : ℕ → Argument → Type 0

@@ -1,44 +1,26 @@
 -- What an Any and a Scalar do not choose is not read. Assumes nothing.
-use Prim.Native.Nat.{ℕ, zero, suc, _+_, _-_, _≤_, _<_}
-use native.Mathlib.Omega.{arith}
-use mathlib.Core.Bool.{Bool, true, false, cond}
-use mathlib.Core.Logic.{_⊎_, inl, inr, ⊎-elim}
-use mathlib.Core.Path.{_≡_, refl, sym, ap, ap₂, subst, _∙_}
-use mathlib.Core.List.{List, [], _∷_}
-use lib.ListN.{length, getD, take, drop, length-take, length-drop, take-append-drop}
-use lib.ListN.{List·getD-eq-default}
-use lib.Seq.{getD-take, getD-drop, take-take, length-take-le}
-use lib.Dec.{leb, eqb}
-use borrow.Author.Tests.{ne-eqb, eqb-true, eqb-false}
-use Rattle.prelude.proofs.Cases.{less-or-not}
-use Rattle.varint.proofs.TailLaws.{Stands}
-use Rattle.wire.specs.Field.{fieldAt}
-use Rattle.wire.specs.Past.{PastField}
-use Rattle.wire.specs.declared.field.Field.{Field}
-use Rattle.wire.proofs.PastLaws.{field-past}
+use Rattle.prelude.proofs.Basics.{ℕ, zero, suc, _+_, _-_, _≤_, _<_, arith, Bool, true, false, cond, _≡_, refl, sym, ap}
+use Rattle.prelude.proofs.Basics.{ap₂, subst, _∙_, _⊎_, inl, inr, ⊎-elim, List, [], _∷_, length, getD, take, drop}
+use Rattle.prelude.proofs.Basics.{List·getD-eq-default, length-drop, length-take, take-append-drop, getD-drop}
+use Rattle.prelude.proofs.Basics.{getD-take, length-take-le, take-take, eqb, leb, eqb-false, eqb-true, ne-eqb}
+use Rattle.prelude.proofs.Basics.{less-or-not}
 use Rattle.wire.proofs.AgreeLaws.{Tails}
-use Rattle.scalar.specs.declared.argument.Argument.{Argument}
 use Rattle.layout.specs.SameBut.{SameBut}
 use Rattle.layout.specs.Reaches.{Reaches, stays, passes}
-use Rattle.layout.specs.Row.{wireOf, isRepeated, rowFor}
-use Rattle.layout.specs.Table.{rowsOf, any, scalar, bytes, len}
-use Rattle.layout.specs.Slots.{noSlots, badSlots}
-use Rattle.layout.specs.Fields.{fieldsFrom, checked, fieldsAt}
+use Rattle.layout.specs.Fields.{fieldsFrom}
 use Rattle.layout.specs.FieldsRules.{startIn, endIn}
-use Rattle.layout.specs.declared.slots.Slots.{Slots}
+use Rattle.layout.specs.Part.{absent}
 use Rattle.layout.proofs.CountLaws.{good-list}
 use Rattle.layout.proofs.ApartLaws.{kept-apart}
-use Rattle.layout.proofs.KeptLaws.{kept-within}
-use Rattle.layout.proofs.UnreadLaws.{from-tail, kept-behind, bytes-unread}
-use Rattle.layout.proofs.UnreadLaws.{reaches-later, field-itself, field-on-way, tail-behind, field-unread}
-use Rattle.layout.specs.Part.{embedded, countOf, startOf, lenOf, absent}
-use Rattle.args.specs.Value.{bad, present, bytesOf, bytesIn, ofType, scalarOf, ofAnyType, anyOf, argumentIn}
-use Rattle.args.specs.Moved.{moved}
-use Rattle.args.specs.Arguments.{isArgs, argPlace, nextArgument, andMore, argumentsFrom, argumentsAt}
-use Rattle.args.specs.UnreadRules.{typeIn, OnlyField, AnyUnread, ScalarUnread, OneField, ListUnread}
-use Rattle.args.specs.UnreadRules.{ObjectUnread, UnchosenScalarUnread}
-use Rattle.args.specs.declared.arguments.ArgPlace.{ArgPlace}
-use Rattle.layout.proofs.PartLaws.{part-within}
+use Rattle.layout.proofs.UnreadLaws.{from-tail, kept-behind, bytes-unread, reaches-later, field-itself, field-on-way}
+use Rattle.layout.proofs.UnreadLaws.{tail-behind, field-unread}
+use Rattle.args.proofs.Names.{Stands, Argument, fieldAt, PastField, Field, field-past, any, scalar, bytes, len}
+use Rattle.args.proofs.Names.{rowsOf, wireOf, isRepeated, rowFor, noSlots, badSlots, checked, fieldsAt, embedded}
+use Rattle.args.proofs.Names.{countOf, startOf, lenOf, Slots, kept-within, part-within, bad, present, bytesOf}
+use Rattle.args.proofs.Names.{bytesIn, ofType, scalarOf, ofAnyType, anyOf, argumentIn, isArgs, argPlace}
+use Rattle.args.proofs.Names.{nextArgument, andMore, argumentsFrom, argumentsAt, moved, ArgPlace}
+use Rattle.args.specs.UnreadRules.{typeIn, OnlyField, AnyUnread, ScalarUnread, OneField, ListUnread, ObjectUnread}
+use Rattle.args.specs.UnreadRules.{UnchosenScalarUnread}
 use Rattle.args.proofs.MovedArgLaws.{argument-moved, field-inside, args-moved}
 use Rattle.args.proofs.PlaceLaws.{starts, by-args, on, next-placed}
 use Rattle.args.proofs.ArgumentsLaws.{from-found}

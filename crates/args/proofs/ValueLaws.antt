@@ -1,15 +1,8 @@
 -- The value of an argument, case by case. Assumes nothing.
-use Prim.Native.Nat.{ℕ}
-use mathlib.Core.Bool.{Bool, true, false, cond}
-use mathlib.Core.Path.{_≡_}
-use mathlib.Core.List.{List}
-use borrow.Author.Tests.{ne-eqb}
-use Rattle.prelude.proofs.Cases.{yes, no as without}
-use Rattle.scalar.specs.declared.argument.Argument.{Argument}
+use Rattle.prelude.proofs.Basics.{ℕ, Bool, true, false, cond, _≡_, List, ne-eqb, yes, no as without}
 use Rattle.scalar.specs.declared.argument.Argument.the-variants as Va
-use Rattle.layout.specs.declared.slots.Slots.{Slots}
-use Rattle.layout.specs.Part.{startOf, lenOf, valueOf, low32}
-use Rattle.args.specs.Value.{bad, bytesOf, ofType, scalarOf, ofAnyType, anyOf}
+use Rattle.args.proofs.Names.{Argument, valueOf, startOf, lenOf, low32, Slots, bad, bytesOf, ofType, scalarOf}
+use Rattle.args.proofs.Names.{ofAnyType, anyOf}
 
 module _ (b : Bool) (x : Slots) where
   abbrev chosen : Argument

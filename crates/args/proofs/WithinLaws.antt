@@ -1,24 +1,12 @@
 -- The bytes of an argument lie within those of its Any. Assumes nothing.
-use Prim.Native.Nat.{ℕ, _+_, _≤_}
-use native.Mathlib.Omega.{arith}
-use mathlib.Core.Bool.{Bool, true, false, not}
-use mathlib.Core.List.{List}
-use lib.ListN.{length, take}
-use lib.Seq.{length-take-le}
-use lib.Dec.{leb, eqb}
+use Rattle.prelude.proofs.Basics.{ℕ, _+_, _≤_, arith, Bool, true, false, not, List, length, take, length-take-le, eqb}
+use Rattle.prelude.proofs.Basics.{leb, leb-true, both}
 use lib.Ieee.{binary32, binary64, nanBits}
-use borrow.Author.Tests.{leb-true}
-use Rattle.prelude.proofs.Cases.{both}
-use Rattle.scalar.specs.Argument.{signedOf, doubleOf, floatOf}
-use Rattle.scalar.specs.declared.argument.Argument.{Argument}
 use Rattle.scalar.specs.declared.argument.Argument.the-variants as Va
-use Rattle.layout.specs.Row.{slotCount}
-use Rattle.layout.specs.Table.{rowsOf, any, scalar, bytes}
-use Rattle.layout.specs.declared.slots.Slots.{Slots}
-use Rattle.layout.proofs.KeptLaws.{zeros, kept-within}
-use Rattle.layout.specs.Part.{embedded, countOf, valueOf, startOf, lenOf, low32}
-use Rattle.args.specs.Value.{bad, present, bytesIn, ofType, scalarOf, scalarIn, ofAnyType, anyOf, argumentIn}
-use Rattle.args.specs.WithinRules.{EndsBy}
+use Rattle.layout.proofs.KeptLaws.{zeros}
+use Rattle.args.proofs.Names.{signedOf, doubleOf, floatOf, Argument, any, scalar, bytes, rowsOf, slotCount}
+use Rattle.args.proofs.Names.{embedded, countOf, valueOf, startOf, lenOf, low32, Slots, kept-within, bad}
+use Rattle.args.proofs.Names.{present, bytesIn, ofType, scalarOf, scalarIn, ofAnyType, anyOf, argumentIn, EndsBy}
 
 -- the fields of an embedded message lie within its bytes
 embedded-inside : (rows : List (List ℕ)) (s : List ℕ) (at n k : ℕ) →

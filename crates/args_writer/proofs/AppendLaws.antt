@@ -1,21 +1,13 @@
 -- Appending, by the ways out. Assumes nothing.
-use Prim.Native.Nat.{ℕ, _+_, _-_, _≤_, _<_}
-use native.Mathlib.Omega.{arith}
-use mathlib.Core.Bool.{true, false}
-use mathlib.Core.Path.{_≡_, refl, sym, ap, subst, _∙_}
-use mathlib.Core.List.{List}
-use lib.ListN.{length, take, drop}
-use lib.Seq.{sets-eq}
-use borrow.Author.Tests.{le-leb, lt-leb}
+use Rattle.prelude.proofs.Basics.{ℕ, _+_, _-_, _≤_, _<_, arith, true, false, _≡_, refl, sym, ap, subst, _∙_, List}
+use Rattle.prelude.proofs.Basics.{length, take, drop, sets-eq, le-leb, lt-leb}
 use Rattle.protocol.specs.Reason as Reason
 use Rattle.encode.specs.Puts.{Puts}
-use Rattle.scalar.specs.declared.argument.Argument.{Argument}
 use Rattle.writer.specs.declared.Sent.{Sent}
 use Rattle.writer.specs.Write.{sent}
-use Rattle.args_writer.specs.Scalar.{writable, argBytes, argField}
-use Rattle.args_writer.specs.Append.{appendReason, appendedOf, leftBy}
+use Rattle.args_writer.proofs.Names.{Argument, writable, argField, appendReason, appendedOf, leftBy, Form}
+use Rattle.args_writer.specs.Scalar.{argBytes}
 use Rattle.args_writer.specs.private.Form.{formOf, valueIn}
-use Rattle.args_writer.specs.declared.form.Form.{Form}
 use Rattle.args_writer.proofs.FormLaws.{Formed, form-good, formed}
 
 module _ (a : Argument) (src buf : List ℕ) (at : ℕ) where

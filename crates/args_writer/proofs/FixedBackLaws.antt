@@ -1,29 +1,22 @@
 -- A field with a fixed value reads back, wherever it stands. Assumes nothing.
-use Prim.Native.Nat.{ℕ, zero, suc, _+_, _*_, _/_, _%_, _^_, _<_}
+use Rattle.prelude.proofs.Basics.{ℕ, zero, suc, _+_, _*_, _/_, _%_, _^_, _<_, arith, _≡_, refl, sym, ap, _∙_, List, []}
+use Rattle.prelude.proofs.Basics.{_∷_, _++_, length, getD, length-append}
 use native.Mathlib.Nat.{pow-succ'}
-use native.Mathlib.Omega.{arith}
-use mathlib.Core.Path.{_≡_, refl, sym, ap, _∙_}
-use mathlib.Core.List.{List, [], _∷_, _++_}
-use lib.ListN.{length, getD, length-append}
-use Rattle.varint.specs.Shortest.{varintBytes}
-use Rattle.varint.proofs.VarintLaws.{varint-length}
+use Rattle.varint.proofs.TailLaws.{tail-byte}
 use Rattle.scalar.specs.Fixed.{little}
 use Rattle.scalar.specs.declared.fixed.Fixed.{Fixed}
 use Rattle.scalar.proofs.FixedLaws.{fixed-whole}
-use Rattle.wire.specs.Value.{ofFixed, asFixed, valueAt}
-use Rattle.wire.specs.Field.{ofValue, fieldAt}
+use Rattle.wire.specs.Value.{ofFixed}
+use Rattle.wire.specs.Field.{ofValue}
 use Rattle.wire.specs.declared.tag.Tag.{Tag}
-use Rattle.wire.specs.declared.field.Field.{Field}
 use Rattle.wire.proofs.FieldLaws.{field-tagged, field-value}
-use Rattle.layout.specs.Fields.{useOf, noted}
-use Rattle.layout.specs.declared.slots.Slots.{Slots}
-use Rattle.layout.specs.declared.fields.Use.{Use}
+use Rattle.layout.specs.Fields.{noted}
 use Rattle.layout.proofs.FieldsLaws.{goes-on}
-use Rattle.varint.proofs.TailLaws.{tail-byte, Stands, stands-length, stands-first, stands-next}
-use Rattle.writer.proofs.FieldLaws.{tag-reads, behindTag, Reads}
-use Rattle.encode.specs.Field.{fixedField}
-use Rattle.encode.specs.Fixed.{fixedBytes}
 use Rattle.encode.proofs.FieldLaws.{fixed-length}
+use Rattle.writer.proofs.FieldLaws.{tag-reads}
+use Rattle.args_writer.proofs.Names.{varintBytes, varint-length, Stands, stands-length, stands-first}
+use Rattle.args_writer.proofs.Names.{stands-next, asFixed, valueAt, fieldAt, Field, useOf, Use, Slots}
+use Rattle.args_writer.proofs.Names.{fixedField, fixedBytes, behindTag, Reads}
 
 little-back : (k v at : ℕ) (s q : List ℕ) → v < 256 ^ k → Stands s at (fixedBytes k v) q → v ≡ little k s at
 unfolding little fixedBytes

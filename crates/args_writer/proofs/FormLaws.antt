@@ -1,22 +1,12 @@
 -- The form of an argument, case by case. Assumes nothing.
-use Prim.Native.Nat.{ℕ, _+_, _≤_, _<_}
-use native.Mathlib.Omega.{arith}
-use mathlib.Core.Path.{_≡_, refl, ap, subst}
-use mathlib.Core.Bool.{Bool, true, false, not, cond}
-use mathlib.Core.List.{List}
-use lib.ListN.{length, take, drop}
-use lib.Dec.{T, leb}
+use Rattle.prelude.proofs.Basics.{ℕ, _+_, _≤_, _<_, arith, Bool, true, false, not, cond, _≡_, refl, ap, subst, List}
+use Rattle.prelude.proofs.Basics.{length, take, drop, T, leb, le-leb, leb-true, lt-leb, yes, no as without}
 use lib.Ieee.{Float, nan, inf, fin, isNan, ne, nanBits, binary32, binary64, toBits}
 use lib.Ieee.Compare.{differs-from-itself, nan-differs}
-use borrow.Author.Tests.{le-leb, lt-leb, leb-true}
-use Rattle.prelude.proofs.Cases.{yes, no as without}
-use Rattle.scalar.specs.Argument.{typeOf}
-use Rattle.scalar.specs.declared.argument.Argument.{Argument}
-use Rattle.scalar.specs.declared.argument.Argument.the-variants as Va
 use Rattle.protocol.specs.Scalars as Scalars
-use Rattle.args_writer.specs.Scalar.{writable, valueField}
+use Rattle.scalar.specs.declared.argument.Argument.the-variants as Va
+use Rattle.args_writer.proofs.Names.{typeOf, Argument, writable, valueField, Form}
 use Rattle.args_writer.specs.private.Form.{form, noForm, valueForm, bytesForm, formOf, valueAs, valueIn}
-use Rattle.args_writer.specs.declared.form.Form.{Form}
 
 -- ---- bytes in a source of n bytes
 

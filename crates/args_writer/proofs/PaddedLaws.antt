@@ -1,46 +1,27 @@
 -- An argument that is appended is not padded. Assumes nothing.
-use Prim.Native.Nat.{ℕ, _+_, _-_, _*_, _^_, _<_}
-use native.Mathlib.Omega.{arith}
-use mathlib.Core.Path.{_≡_, refl, sym, ap, ap₂, _∙_}
-use mathlib.Core.Bool.{Bool, true, false, cond, _||_}
-use mathlib.Core.List.{List, [], _++_, append-nil}
-use lib.ListN.{length, getD, take, drop}
+use Rattle.prelude.proofs.Basics.{ℕ, _+_, _-_, _*_, _^_, _<_, arith, Bool, true, false, _||_, cond, _≡_, refl, sym, ap}
+use Rattle.prelude.proofs.Basics.{ap₂, _∙_, List, [], _++_, append-nil, length, getD, take, drop, or-false}
 use lib.Ieee.{binary32, binary64, toBits}
 use lib.Ieee.Bits.{toBits-lt}
-use Rattle.prelude.proofs.OrLaws.{or-false}
-use Rattle.varint.specs.Shortest.{varintBytes}
-use Rattle.varint.proofs.TailLaws.{Stands, stands-length, stands-first}
-use Rattle.wire.specs.Value.{asFixed, valueAt}
+use Rattle.scalar.specs.declared.argument.Argument.the-variants as Va
 use Rattle.wire.specs.Padded.{fieldPadded}
 use Rattle.wire.proofs.PaddedLaws.{no-flag}
-use Rattle.scalar.specs.Zigzag.{zigzag}
-use Rattle.scalar.specs.Argument.{typeOf}
-use Rattle.scalar.specs.declared.argument.Argument.{Argument}
-use Rattle.scalar.specs.declared.argument.Argument.the-variants as Va
-use Rattle.encode.specs.Field.{numberField, bytesField, fixedField}
-use Rattle.encode.specs.Fixed.{fixedBytes}
-use Rattle.layout.specs.Table.{rowsOf, scalar}
-use Rattle.layout.specs.Slots.{noSlots}
 use Rattle.layout.specs.Padded.{paddedFrom, nothingInside, partPadded}
-use Rattle.layout.specs.declared.slots.Slots.{Slots}
 use Rattle.args.specs.Padded.{insideArgs, insideScalar, scalarPadded, insideAny, argumentPadded}
-use Rattle.args.proofs.MovedArgLaws.{field-inside}
-use Rattle.writer.specs.Judge.{argsFrom, goodStretch}
 use Rattle.writer.specs.RoundTrip.{hasArgs}
 use Rattle.writer.specs.Padded.{stretchPadded}
-use Rattle.writer.proofs.FieldLaws.{behindTag, Reads, withNumber, withBytes, reads-number, reads-bytes, stands-inside}
-use Rattle.writer.proofs.ExecuteBackLaws.{partStart}
-use Rattle.writer.proofs.StretchLaws.{stretch-of}
 use Rattle.writer.proofs.MarkLaws.{field-plain, ownOnly, Says, says-none, says-then, says-whole, says-part, one-field}
-use Rattle.writer.proofs.PaddedLaws.{written-padded}
 use Rattle.writer.proofs.MarkLaws.{says-stretch, says-args, says-number, says-bytes}
-use Rattle.args_writer.specs.Scalar.{writable, valueField, scalarBytes, anyBytes, argField}
-use Rattle.args_writer.specs.Reads.{Sized}
+use Rattle.writer.proofs.PaddedLaws.{written-padded}
+use Rattle.args_writer.proofs.Names.{varintBytes, Stands, stands-length, stands-first, typeOf, zigzag, Argument}
+use Rattle.args_writer.proofs.Names.{asFixed, valueAt, scalar, rowsOf, noSlots, Slots, field-inside, numberField}
+use Rattle.args_writer.proofs.Names.{bytesField, fixedField, fixedBytes, goodStretch, argsFrom, behindTag, Reads}
+use Rattle.args_writer.proofs.Names.{withNumber, withBytes, reads-number, reads-bytes, stands-inside, stretch-of}
+use Rattle.args_writer.proofs.Names.{partStart, writable, valueField, scalarBytes, anyBytes, argField, Sized}
 use Rattle.args_writer.specs.Padded.{AppendPadded, AppendedPadded, Made, empty, append, MadePlain, FramePlain}
 use Rattle.args_writer.proofs.FixedBackLaws.{fixed-reads, withFixed, reads-fixed}
-use Rattle.args_writer.proofs.ScalarBackLaws.{Listed, listed, kept-value, scalar-stands, any-listed}
-use Rattle.args_writer.proofs.ScalarBackLaws.{scalar-in, scalar-needed, innerPlace, inner-stands, bit-small}
-use Rattle.args_writer.proofs.ScalarBackLaws.{no-value}
+use Rattle.args_writer.proofs.ScalarBackLaws.{Listed, listed, kept-value, scalar-stands, any-listed, scalar-in}
+use Rattle.args_writer.proofs.ScalarBackLaws.{scalar-needed, innerPlace, inner-stands, bit-small, no-value}
 use Rattle.args_writer.proofs.ReadsLaws.{append-reads, not-refused, cut-is}
 
 -- ---- a field with a fixed value

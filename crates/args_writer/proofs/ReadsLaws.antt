@@ -1,39 +1,28 @@
 -- What is appended reads back. Assumes nothing.
-use Prim.Native.Nat.{ℕ, zero, suc, _+_, _-_, _≤_}
-use native.Mathlib.Omega.{arith}
-use native.Mathlib.Nat.{zero-add}
-use mathlib.Core.Path.{_≡_, refl, sym, ap, subst, _∙_}
-use mathlib.Core.Bool.{Bool, true, false, not, cond}
-use mathlib.Core.List.{List, [], _∷_, _++_, map, append-nil}
-use lib.ListN.{length, take, drop, length-append}
-use lib.Seq.{drop-at, drop-drop, take-at, length-take-le}
-use lib.Dec.{leb}
-use borrow.Author.Tests.{lt-ltb, le-ltb, le-leb, leb-true, ne-eqb}
+use Rattle.prelude.proofs.Basics.{ℕ, zero, suc, _+_, _-_, _≤_, arith, zero-add, Bool, true, false, not, cond, _≡_, refl}
+use Rattle.prelude.proofs.Basics.{sym, ap, subst, _∙_, List, [], _∷_, _++_, map, append-nil, length, take, drop}
+use Rattle.prelude.proofs.Basics.{length-append, drop-at, drop-drop, length-take-le, take-at, leb, le-leb, le-ltb}
+use Rattle.prelude.proofs.Basics.{leb-true, lt-ltb, ne-eqb, both, yes}
 use lib.Ieee.{binary32, binary64, nanBits, ofBits}
 use lib.Ieee.Bits.{ofBits-fits, nanBits-is}
-use Rattle.prelude.proofs.Cases.{both, yes}
-use Rattle.scalar.specs.Argument.{typeOf}
-use Rattle.scalar.specs.declared.argument.Argument.{Argument}
 use Rattle.scalar.specs.declared.argument.Argument.the-variants as Va
-use Rattle.wire.specs.Field.{fieldAt}
-use Rattle.wire.specs.declared.field.Field.{Field}
-use Rattle.args.specs.Value.{argumentIn}
 use Rattle.args.specs.Arguments.{anyTypeOf, argumentsFrom, argumentsAt}
+use Rattle.args.specs.Moved.{moved}
 use Rattle.args.proofs.PlaceLaws.{next-end}
 use Rattle.args.proofs.ArgsFieldLaws.{is-args}
-use Rattle.writer.specs.Judge.{isGood, argsFrom, goodStretch}
-use Rattle.args.specs.Moved.{moved}
-use Rattle.varint.proofs.TailLaws.{Stands, stands-length}
-use Rattle.writer.proofs.FieldLaws.{bytes-reads, stands-inside}
-use Rattle.args.proofs.MovedArgLaws.{argument-moved}
-use Rattle.args.proofs.MovedArgLaws.{field-inside, args-found}
+use Rattle.args.proofs.MovedArgLaws.{argument-moved, args-found}
 use Rattle.args.proofs.ArgumentsLaws.{from-none as args-none}
+use Rattle.writer.specs.Judge.{isGood}
+use Rattle.writer.proofs.FieldLaws.{bytes-reads}
 use Rattle.writer.proofs.ArgListLaws.{type-moved}
-use Rattle.writer.proofs.StretchLaws.{Stretch, done, more, stretch-of, there}
+use Rattle.writer.proofs.StretchLaws.{Stretch, done, more, there}
 use Rattle.writer.proofs.ListsLaws.{next-finds, lists-then, lists-stretch, lists-whole}
-use Rattle.args_writer.specs.Scalar.{bytesOf, writable, valueField, anyBytes, argField}
-use Rattle.args_writer.specs.Append.{appendReason, appendedOf, leftBy}
-use Rattle.args_writer.specs.Reads.{Sized, placed, Appended, AppendReads, AppendedReads, EveryBits}
+use Rattle.args_writer.proofs.Names.{Stands, stands-length, typeOf, Argument, fieldAt, Field, argumentIn}
+use Rattle.args_writer.proofs.Names.{field-inside, goodStretch, argsFrom, stands-inside, stretch-of, writable}
+use Rattle.args_writer.proofs.Names.{valueField, anyBytes, argField, appendReason, appendedOf, leftBy, Sized}
+use Rattle.args_writer.proofs.Names.{placed}
+use Rattle.args_writer.specs.Scalar.{bytesOf}
+use Rattle.args_writer.specs.Reads.{Appended, AppendReads, AppendedReads, EveryBits}
 use Rattle.args_writer.proofs.ScalarBackLaws.{scalar-stands, any-back, scalar-back}
 
 -- ---- good stretches one behind the other

@@ -1,39 +1,26 @@
 -- A scalar that is written reads back as itself, wherever its Any stands. Assumes nothing.
-use Prim.Native.Nat.{ℕ, _+_, _^_, _<_}
-use native.Mathlib.Omega.{arith}
-use native.Mathlib.Nat.{mod-eq-of-lt}
-use mathlib.Core.Path.{_≡_, refl, sym, ap, subst, _∙_}
-use mathlib.Core.Bool.{Bool, true, false, not, cond}
-use mathlib.Core.List.{List, []}
-use lib.ListN.{length, getD, take, drop, length-drop}
-use lib.Seq.{length-take-le}
-use lib.Dec.{T, leb, eqb}
+use Rattle.prelude.proofs.Basics.{ℕ, _+_, _^_, _<_, arith, mod-eq-of-lt, Bool, true, false, not, cond, _≡_, refl, sym}
+use Rattle.prelude.proofs.Basics.{ap, subst, _∙_, List, [], length, getD, take, drop, length-drop, length-take-le, T}
+use Rattle.prelude.proofs.Basics.{eqb, leb, leb-true, not-true, yes, no as without}
 use lib.Ieee.{Float, Format, binary32, binary64, fits, isNan, nanBits, ofBits, toBits}
 use lib.Ieee.Bits.{ofBits-toBits, toBits-lt, nanBits-is}
-use borrow.Author.Tests.{leb-true, not-true}
-use Rattle.prelude.proofs.Cases.{yes, no as without}
-use Rattle.scalar.specs.Zigzag.{zigzag}
-use Rattle.scalar.specs.Argument.{carried, doubleOf, floatOf, signedOf, typeOf}
-use Rattle.scalar.specs.declared.argument.Argument.{Argument}
+use Rattle.varint.proofs.TailLaws.{stands-bytes}
+use Rattle.scalar.specs.Argument.{carried, doubleOf, floatOf, signedOf}
 use Rattle.scalar.specs.declared.argument.Argument.the-variants as Va
 use Rattle.scalar.proofs.ZigzagLaws.{unzigzag-zigzag}
-use Rattle.layout.specs.Table.{rowsOf, any, scalar, bytes}
+use Rattle.layout.specs.Table.{any, bytes}
 use Rattle.layout.specs.Row.{rowFor}
-use Rattle.layout.specs.Slots.{noSlots}
-use Rattle.layout.specs.Fields.{useOf, hasRequired}
-use Rattle.layout.specs.declared.slots.Slots.{Slots}
-use Rattle.layout.specs.declared.fields.Use.{Use}
-use Rattle.layout.proofs.FieldsLaws.{Listing}
-use Rattle.encode.specs.Field.{numberField, bytesField}
+use Rattle.layout.specs.Fields.{hasRequired}
 use Rattle.layout.specs.Part.{embedded, low32}
-use Rattle.args.specs.Value.{bytesOf as bytesTaken, bytesIn, ofType, scalarOf, ofAnyType, anyOf, argumentIn}
-use Rattle.varint.proofs.TailLaws.{Stands, stands-length, stands-bytes, stands-next}
-use Rattle.writer.proofs.FieldLaws.{Reads, withNumber, withBytes, reads-number, reads-bytes, reads-then, embedded-good}
-use Rattle.writer.proofs.FieldLaws.{stands-inside}
-use Rattle.writer.proofs.ExecuteBackLaws.{partStart}
-use Rattle.encode.specs.Field.{fixedField}
-use Rattle.args_writer.specs.Scalar.{bytesOf, writable, valueField, scalarBytes, anyBytes}
-use Rattle.args_writer.specs.Reads.{Sized, placed}
+use Rattle.layout.proofs.FieldsLaws.{Listing}
+use Rattle.args.specs.Value.{bytesOf as bytesTaken, bytesIn, ofType, scalarOf, ofAnyType, anyOf}
+use Rattle.writer.proofs.FieldLaws.{reads-then, embedded-good}
+use Rattle.args_writer.proofs.Names.{Stands, stands-length, stands-next, typeOf, zigzag, Argument, scalar}
+use Rattle.args_writer.proofs.Names.{rowsOf, noSlots, useOf, Use, Slots, argumentIn, numberField, bytesField}
+use Rattle.args_writer.proofs.Names.{fixedField, Reads, withNumber, withBytes, reads-number, reads-bytes}
+use Rattle.args_writer.proofs.Names.{stands-inside, partStart, writable, valueField, scalarBytes, anyBytes}
+use Rattle.args_writer.proofs.Names.{Sized, placed}
+use Rattle.args_writer.specs.Scalar.{bytesOf}
 use Rattle.args_writer.proofs.FixedBackLaws.{withFixed, reads-fixed}
 
 -- ---- what the rows take

@@ -1,18 +1,9 @@
 -- The parts of an args field, and their lengths. Assumes nothing.
-use Prim.Native.Nat.{ℕ, _+_, _*_, _≤_}
-use native.Mathlib.Omega.{arith}
-use mathlib.Core.Path.{_≡_, sym, ap, _∙_}
-use mathlib.Core.List.{List, []}
-use lib.ListN.{length, length-append}
-use lib.Dec.{eqb}
-use borrow.Author.Tests.{ne-eqb}
-use Rattle.prelude.proofs.Cases.{both, no as without}
-use Rattle.varint.proofs.VarintLaws.{varint-length}
-use Rattle.encode.specs.Field.{numberField, prefixOf, bytesField, fixedField}
-use Rattle.encode.proofs.FieldLaws.{number-short, prefix-short, bytes-sum, fixed-parts}
-use Rattle.args_writer.specs.Scalar.{scalarBytes, anyBytes}
+use Rattle.prelude.proofs.Basics.{ℕ, _+_, _*_, _≤_, arith, _≡_, sym, ap, _∙_, List, [], length, length-append, eqb}
+use Rattle.prelude.proofs.Basics.{ne-eqb, both, no as without}
+use Rattle.args_writer.proofs.Names.{varint-length, prefixOf, numberField, bytesField, fixedField, number-short}
+use Rattle.args_writer.proofs.Names.{prefix-short, bytes-sum, fixed-parts, scalarBytes, anyBytes, Form}
 use Rattle.args_writer.specs.private.Form.{valueAs, valueIn}
-use Rattle.args_writer.specs.declared.form.Form.{Form}
 
 -- ---- the value, by its wire type
 

@@ -1,23 +1,15 @@
 -- What a push and a next_frame answer, case by case. Assumes nothing.
-use Prim.Native.Nat.{ℕ, _+_, _-_, _≤_, min}
-use native.Mathlib.Nat.{add-zero}
-use native.Mathlib.Omega.{arith}
-use mathlib.Core.Bool.{true, false}
-use mathlib.Core.Path.{_≡_, refl, sym, ap, _∙_}
-use mathlib.Core.List.{List, []}
-use lib.ListN.{length, take}
-use lib.Seq.{length-take-le}
-use borrow.Author.Tests.{le-leb, eq-eqb, ne-eqb}
-use Rattle.prelude.proofs.Cases.{yes, no}
+use Rattle.prelude.proofs.Basics.{ℕ, _+_, _-_, _≤_, min, arith, add-zero, true, false, _≡_, refl, sym, ap, _∙_, List}
+use Rattle.prelude.proofs.Basics.{[], length, take, length-take-le, eq-eqb, le-leb, ne-eqb, yes, no}
 use Rattle.protocol.specs.Reason as Reason
-use Rattle.encode.specs.Put.{written}
-use Rattle.encode.proofs.PutLaws.{put-fits}
 use Rattle.message.specs.declared.head.Head.{Head}
 use Rattle.message.specs.Head.{lengthBytes, headOf, headReason}
 use Rattle.message.proofs.WithinLaws.{frame-within}
-use Rattle.streams.specs.Reader.{standsFirst, reader, startOver, between, part, isPart}
-use Rattle.streams.specs.Reader.{usable, settled, nextBy, nextAt, nextOf}
-use Rattle.streams.specs.Reader.{Push, takenCount, readerFor, storeFor, pushedTo, behind, pushOn, pushAt, pushOf}
+use Rattle.encode.specs.Put.{written}
+use Rattle.encode.proofs.PutLaws.{put-fits}
+use Rattle.streams.specs.Reader.{standsFirst, reader, startOver, between, part, isPart, usable, settled, nextBy, nextAt}
+use Rattle.streams.specs.Reader.{nextOf, Push, takenCount, readerFor, storeFor, pushedTo, behind, pushOn, pushAt}
+use Rattle.streams.specs.Reader.{pushOf}
 use Rattle.streams.specs.declared.Reader.{Reader}
 use Rattle.streams.proofs.HeldLaws.{length-between, usable-part, usable-none}
 

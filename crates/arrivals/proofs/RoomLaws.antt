@@ -1,11 +1,5 @@
 -- Room behind the bytes held, as it is or made. Assumes nothing.
-use Prim.Native.Nat.{ℕ, _+_, _-_, _≤_, _<_}
-use native.Mathlib.Omega.{arith}
-use mathlib.Core.Path.{_≡_, _∙_}
-use mathlib.Core.List.{List}
-use lib.ListN.{length}
-use borrow.Author.Tests.{le-leb, lt-leb}
-use Rattle.prelude.proofs.Cases.{yes, no}
+use Rattle.prelude.proofs.Basics.{ℕ, _+_, _-_, _≤_, _<_, arith, _≡_, _∙_, List, length, le-leb, lt-leb, yes, no}
 use Rattle.encode.specs.Put.{written, movedFront}
 use Rattle.encode.proofs.MoveLaws.{moved-front}
 use Rattle.streams.specs.Reader.{reader, part, readerFor, storeFor}

@@ -1,11 +1,6 @@
 -- Lengths of fields, and fields put in two parts. Assumes nothing.
-use Prim.Native.Nat.{ℕ, zero, suc, _+_, _*_, _/_, _%_, _-_, _≤_, _<_}
-use native.Mathlib.Omega.{arith}
-use mathlib.Core.Path.{_≡_, refl, ap}
-use mathlib.Core.Bool.{Bool, true, false}
-use mathlib.Core.List.{List, [], _∷_, _++_}
-use lib.ListN.{length, length-append}
-use Rattle.prelude.proofs.Cases.{before-suc}
+use Rattle.prelude.proofs.Basics.{ℕ, zero, suc, _+_, _-_, _*_, _/_, _%_, _≤_, _<_, arith, Bool, true, false, _≡_, refl}
+use Rattle.prelude.proofs.Basics.{ap, List, [], _∷_, _++_, length, length-append, before-suc}
 use Rattle.varint.specs.Shortest.{varintBytes}
 use Rattle.varint.proofs.VarintLaws.{varint-length}
 use Rattle.encode.specs.Fixed.{fixedBytes}

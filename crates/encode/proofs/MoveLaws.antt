@@ -1,15 +1,9 @@
 -- Bytes moved to the front of their own store, the first one first: what is still to be read has not been written
 -- over. Assumes nothing.
-use Prim.Native.Nat.{ℕ, suc, _+_, _≤_, _<_}
-use native.Mathlib.Omega.{arith}
-use native.Mathlib.Numerals.{add-one}
-use mathlib.Core.Path.{_≡_, refl, sym, ap, _∙_}
-use mathlib.Core.List.{List}
-use mathlib.Core.Bool.{false}
-use lib.Dec.{leb}
-use borrow.Author.Tests.{le-leb}
-use lib.ListN.{length, getD, take, drop, set, length-drop, length-set, drop-of-length-le}
-use lib.Seq.{sets, length-take-le, drop-cons, drop-drop, drop-set-lt, getD-take, getD-drop}
+use Rattle.prelude.proofs.Basics.{ℕ, suc, _+_, _≤_, _<_, arith, add-one, false, _≡_, refl, sym, ap, _∙_, List, length}
+use Rattle.prelude.proofs.Basics.{getD, set, take, drop, drop-of-length-le, length-drop, length-set, drop-cons}
+use Rattle.prelude.proofs.Basics.{drop-drop, getD-drop, getD-take, length-take-le, sets, leb, le-leb}
+use lib.Seq.{drop-set-lt}
 use Rattle.encode.specs.Put.{written, movedFront}
 use Rattle.encode.proofs.PutLaws.{put-fits}
 

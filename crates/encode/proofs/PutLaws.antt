@@ -1,12 +1,7 @@
 -- Laws of bytes put at a place of a buffer, for any bytes and any place. Assumes nothing.
-use Prim.Native.Nat.{ℕ, _+_, _≤_, _<_}
-use mathlib.Core.Path.{_≡_, refl}
-use mathlib.Core.Bool.{Bool, true, false, cond}
-use mathlib.Core.List.{List, _++_, append-assoc}
-use native.Mathlib.Omega.{arith}
-use borrow.Author.Tests.{le-leb, lt-leb, leb-true}
-use lib.ListN.{length, take, drop}
-use lib.Seq.{sets, sets-eq, length-sets, length-take-le, drop-at}
+use Rattle.prelude.proofs.Basics.{ℕ, _+_, _≤_, _<_, arith, Bool, true, false, cond, _≡_, refl, List, _++_, append-assoc}
+use Rattle.prelude.proofs.Basics.{length, take, drop, drop-at, length-sets, length-take-le, sets, sets-eq, le-leb}
+use Rattle.prelude.proofs.Basics.{leb-true, lt-leb}
 use Rattle.encode.specs.declared.put.Put.the-variants.{Next, Full}
 use Rattle.encode.specs.Put.{fitsAt, putAt, written}
 

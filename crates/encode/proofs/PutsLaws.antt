@@ -1,16 +1,10 @@
 -- Laws of bytes put one stretch behind the other. Assumes nothing.
-use Prim.Native.Nat.{ℕ, suc, _+_, _-_, _≤_, _<_}
-use mathlib.Core.Path.{_≡_, refl, sym, ap, subst, _∙_}
-use mathlib.Core.List.{List, [], _∷_, _++_, append-assoc, append-nil}
-use native.Mathlib.Omega.{arith}
-use native.Mathlib.Nat.{add-zero, zero-add}
-use native.Mathlib.Numerals.{add-one}
-use borrow.Author.Tests.{le-leb, lt-leb}
-use lib.ListN.{length, getD, take, drop, set, length-append, length-set, length-drop, drop-of-length-le}
-use lib.Seq.{sets, sets-eq, length-sets, drop-cons, drop-drop, set-out, take-at, take-all}
+use Rattle.prelude.proofs.Basics.{ℕ, suc, _+_, _-_, _≤_, _<_, arith, add-zero, zero-add, add-one, _≡_, refl, sym, ap}
+use Rattle.prelude.proofs.Basics.{subst, _∙_, List, [], _∷_, _++_, append-nil, append-assoc, length, getD, set, take}
+use Rattle.prelude.proofs.Basics.{drop, drop-of-length-le, length-append, length-drop, length-set, drop-cons, drop-drop}
+use Rattle.prelude.proofs.Basics.{length-sets, sets, sets-eq, take-all, take-at, leb, le-leb, lt-leb, less-or-not}
+use lib.Seq.{set-out}
 use borrow.Rule.Slice.PartMut.{midOf, putMid}
-use lib.Dec.{leb}
-use Rattle.prelude.proofs.Cases.{less-or-not}
 use Rattle.encode.specs.declared.put.Put.{Put}
 use Rattle.encode.specs.declared.put.Put.the-variants.{Next, Full}
 use Rattle.encode.specs.Put.{putAt, written}

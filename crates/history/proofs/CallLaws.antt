@@ -1,8 +1,5 @@
 -- Calls that are related by the contract are a run, so that what holds of runs holds of them. Assumes nothing.
-use Prim.Native.Nat.{ℕ}
-use mathlib.Core.Path.{_≡_, refl, sym, ap, subst, _∙_}
-use mathlib.Core.List.{List, [], _∷_}
-use lib.ListN.{take}
+use Rattle.prelude.proofs.Basics.{ℕ, _≡_, refl, sym, ap, subst, _∙_, List, [], _∷_, take}
 use Rattle.session.specs.Session.{Session}
 use Rattle.session.specs.Tables.{fresh}
 use Rattle.session.specs.Words.{sessionOf}

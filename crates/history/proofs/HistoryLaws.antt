@@ -1,16 +1,9 @@
 -- Demand 3. The invariant ties the openings that the tally holds to the live cursors of the table: under every weight
 -- the two have the same sum. Assumes nothing.
-use Prim.Native.Nat.{ℕ, _+_, _-_, _≤_, min}
-use native.Mathlib.Nat.{le-trans}
-use native.Mathlib.Omega.{arith}
-use mathlib.Core.Bool.{Bool, true, false, cond, not, _&&_, or-false, true≢false, false≢true}
-use mathlib.Core.Path.{_≡_, refl, sym, ap, subst, _∙_}
-use mathlib.Core.List.{List, [], _∷_}
-use lib.ListN.{length, getD, take}
-use lib.Dec.{eqb}
-use borrow.Author.Tests.{eqb-true, eqb-false, eq-eqb, ne-eqb, ltb-false, not-true}
-use Rattle.prelude.proofs.Cases.{both}
-use Rattle.encode.specs.Put.{written}
+use Rattle.prelude.proofs.Basics.{ℕ, _+_, _-_, _≤_, min, arith, le-trans, Bool, true, false, not, _&&_, cond}
+use Rattle.prelude.proofs.Basics.{true≢false, false≢true, _≡_, refl, sym, ap, subst, _∙_, List, [], _∷_, length, getD}
+use Rattle.prelude.proofs.Basics.{take, eqb, eq-eqb, eqb-false, eqb-true, ltb-false, ne-eqb, not-true, both}
+use mathlib.Core.Bool.{or-false}
 use Rattle.protocol.specs.Client.{open', fetch}
 use Rattle.protocol.specs.Reason as Reason
 use Rattle.message.specs.Request.{cursorOf}
@@ -32,6 +25,7 @@ use Rattle.session.specs.Sound.{Sound}
 use Rattle.session.proofs.PlaceLaws.{Passes, found}
 use Rattle.session.proofs.SumLaws.{one, sum-same, sum-map, sum-replicate, counted}
 use Rattle.session.proofs.TableLaws.{fresh-sound, fetched-as}
+use Rattle.encode.specs.Put.{written}
 use Rattle.reply.specs.declared.Reply.{Reply}
 use Rattle.reply.specs.Reply.{replyBytes}
 use Rattle.reply.specs.ReplyRules.{minBuffer, isDone}
@@ -52,11 +46,10 @@ use Rattle.rules.proofs.ReadLaws.{frames-are-read}
 use Rattle.rules.proofs.RefusalLaws.{Looked, Took}
 use Rattle.rules.proofs.StepLaws.{refusedStep, step-has, reply-front}
 use Rattle.rules.proofs.SoundLaws.{after-sound}
-use Rattle.history.specs.Tally.{Segment, Opening, Tally, empty, sent, kept, endings, isOf, longer}
-use Rattle.history.specs.Tally.{adds, fedOn, fed}
+use Rattle.history.specs.Tally.{Segment, Opening, Tally, empty, sent, kept, endings, isOf, longer, adds, fedOn}
+use Rattle.history.specs.Tally.{fed}
 use Rattle.history.specs.Run.{Input, run, leaves, toldBy, told, fedBy, tallied}
-use Rattle.history.specs.History.{tallyOf, reached, Proper, allSent, TellsDone, TellDone}
-use Rattle.history.specs.History.{Demand3, ReachesSound}
+use Rattle.history.specs.History.{tallyOf, reached, Proper, allSent, TellsDone, TellDone, Demand3, ReachesSound}
 use Rattle.history.proofs.ListLaws.{sum-kept, sum-all, sum-only, all-kept, kept-pass, all-append, all-map}
 use Rattle.history.proofs.ListLaws.{all-imp, all-both, all-zero}
 use Rattle.history.proofs.OpeningLaws.{sent-longer, goes-on, begins, sent-or-not}

@@ -1,10 +1,6 @@
 -- Sums over parts of a list, and properties of their entries. Assumes nothing.
-use Prim.Native.Nat.{ℕ, _+_, _≤_}
-use native.Mathlib.Omega.{arith}
-use mathlib.Core.Bool.{Bool, true, false, cond}
-use mathlib.Core.Path.{_≡_, refl, ap}
-use mathlib.Core.List.{List, [], _∷_, _++_, map}
-use lib.ListN.{getD, set}
+use Rattle.prelude.proofs.Basics.{ℕ, _+_, _≤_, arith, Bool, true, false, cond, _≡_, refl, ap, List, [], _∷_, _++_, map}
+use Rattle.prelude.proofs.Basics.{getD, set}
 use Rattle.session.specs.Lists.{sumBy, howMany, All}
 use Rattle.session.proofs.PlaceLaws.{Passes}
 use Rattle.session.proofs.SumLaws.{one, sum-set}

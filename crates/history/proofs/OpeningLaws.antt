@@ -1,8 +1,6 @@
 -- An opening goes on properly. Assumes nothing.
-use Prim.Native.Nat.{ℕ, zero, suc, _+_, _≤_}
-use native.Mathlib.Omega.{arith}
-use mathlib.Core.Path.{_≡_, refl, sym, ap, _∙_}
-use mathlib.Core.List.{List, [], _∷_, _++_, append-assoc, append-nil}
+use Rattle.prelude.proofs.Basics.{ℕ, zero, suc, _+_, _≤_, arith, _≡_, refl, sym, ap, _∙_, List, [], _∷_, _++_}
+use Rattle.prelude.proofs.Basics.{append-nil, append-assoc}
 use Rattle.session.specs.Lists.{All, sumBy}
 use Rattle.history.specs.Tally.{Segment, Opening, sent, unsent, longer}
 use Rattle.history.specs.History.{numbers, rowNumbers, Proper}

@@ -1,16 +1,12 @@
 -- The samples, by computing them. An Open is read in parts, each computed once. Assumes nothing.
-use Prim.Native.Nat.{ℕ}
-use native.Mathlib.Omega.{arith}
-use mathlib.Core.Bool.{true}
-use mathlib.Core.Path.{_≡_, refl, ap, _∙_}
-use mathlib.Core.List.{List, [], _∷_, _++_}
+use Rattle.prelude.proofs.Basics.{ℕ, arith, true, _≡_, refl, ap, _∙_, List, [], _∷_, _++_}
+use Rattle.protocol.specs.Client.{open'}
 use Rattle.varint.specs.Shortest.{shortest}
 use Rattle.varint.specs.Varint.{groups}
-use Rattle.wire.specs.Field.{fieldAt}
 use Rattle.scalar.specs.Fixed.{little}
+use Rattle.wire.specs.Field.{fieldAt}
 use Rattle.layout.specs.Fields.{fieldsAt, fieldsFrom, hasRequired}
 use Rattle.layout.specs.Row.{rowFor}
-use Rattle.protocol.specs.Client.{open'}
 use Rattle.layout.specs.Table.{rowsOf, openStmt}
 use Rattle.layout.specs.declared.slots.Slots.{Slots}
 use Rattle.layout.specs.Part.{embedded}
@@ -26,9 +22,9 @@ use Rattle.message.specs.declared.request.Request.{Request}
 use Rattle.message.specs.declared.request.Frame.{Frame}
 use Rattle.session.specs.Lists.{sumBy, first, All}
 use Rattle.session.specs.Session.{Session}
+use Rattle.encode.specs.Field.{numberField, bytesField}
 use Rattle.reply.specs.Decimal.{digits}
 use Rattle.reply.specs.Text.{text}
-use Rattle.encode.specs.Field.{numberField, bytesField}
 use Rattle.reply.specs.Frame.{okFrame, fetchSuspended, stmtExecuteOk, errorPayload}
 use Rattle.reply.specs.Reply.{replyBytes}
 use Rattle.rules.specs.Ending.{endsIt}

@@ -1,13 +1,6 @@
 -- What the cursor table weighs after an accepted message, under every weight. Assumes nothing.
-use Prim.Native.Nat.{ℕ, _+_, _-_, _≤_}
-use native.Mathlib.Omega.{arith}
-use mathlib.Core.Bool.{Bool, true, false, cond, not, _&&_, true≢false}
-use mathlib.Core.Path.{_≡_, refl, sym, _∙_}
-use mathlib.Core.List.{List}
-use lib.ListN.{getD, set}
-use lib.Dec.{eqb}
-use borrow.Author.Tests.{not-true}
-use Rattle.prelude.proofs.Cases.{both}
+use Rattle.prelude.proofs.Basics.{ℕ, _+_, _≤_, arith, Bool, true, false, not, _&&_, cond, true≢false, _≡_, refl, sym}
+use Rattle.prelude.proofs.Basics.{_∙_, List, getD, set, eqb, not-true, both}
 use Rattle.session.specs.declared.Cursor.{Cursor}
 use Rattle.session.specs.declared.Place.{Place}
 use Rattle.session.specs.Lists.{first, orPlace, sumBy, howMany, put, changed, change}

@@ -10,7 +10,7 @@ use Rattle.rules.specs.declared.Report.{Report}
 use Rattle.rules.specs.declared.Answer.{Answer}
 use Rattle.rules.specs.Step.{stepOf}
 use Rattle.history.specs.Run.{Told}
-use Rattle.history.specs.History.{State, Kept}
+use Rattle.history.specs.History.{Kept}
 
 -- what goes into a call: a frame, a report and a reply buffer; and what it leaves: the answer, the session's words, the
 -- buffer

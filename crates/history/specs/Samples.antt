@@ -11,7 +11,6 @@ use Rattle.session.specs.Session.{Session}
 use Rattle.reply.specs.Frame.{okFrame, fetchDone, fetchSuspended, stmtExecuteOk, errorFrame}
 use Rattle.reply.specs.Text.{text}
 use Rattle.protocol.specs.Reason as Reason
-use Rattle.reply.specs.Reply.{codeOf}
 use Rattle.reply.specs.ReplyRules.{minBuffer}
 use Rattle.rules.specs.declared.Report.{Report}
 use Rattle.rules.specs.Report.{prepared, result, done}

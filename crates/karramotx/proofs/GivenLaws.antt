@@ -1,12 +1,9 @@
 -- Facts on scalars that a host gives: each is told as it was given.
-use Prim.Native.Nat.{ℕ, _^_, _≤_, _<_}
-use mathlib.Core.Path.{_≡_, refl, sym, ap, subst}
-use mathlib.Core.Bool.{Bool, true, false, cond, not}
-use lib.Dec.{eqb, ltb}
+use Rattle.prelude.proofs.Basics.{ℕ, _^_, _≤_, _<_, Bool, true, false, not, cond, _≡_, refl, sym, ap, subst, eqb, ltb}
+use Rattle.prelude.proofs.Basics.{eqb-true, le-ltb, lt-ltb, ltb-true, ne-eqb}
 use lib.Ieee.{binary32, binary64}
 use mir.Syntax.{w64}
 use mir.ValLaws.{ofZ-toZ}
-use borrow.Author.Tests.{ne-eqb, eqb-true, lt-ltb, le-ltb, ltb-true}
 use Rattle.scalar.specs.Argument.{floatOf}
 use Rattle.scalar.specs.declared.argument.Argument.the-variants as Va
 use Rattle.karramotx.specs.Given.{floatOfBits, ofKind}

@@ -1,8 +1,5 @@
 -- A frame as one struct, by its case, and what it says of padding. Assumes nothing.
-use Prim.Native.Nat.{ℕ}
-use mathlib.Core.Bool.{Bool, false}
-use mathlib.Core.Path.{_≡_, refl, sym, ap, _∙_}
-use mathlib.Core.List.{List}
+use Rattle.prelude.proofs.Basics.{ℕ, Bool, false, _≡_, refl, sym, ap, _∙_, List}
 use Rattle.protocol.specs.Reason as Reason
 use Rattle.message.specs.Frame.{frameOf}
 use Rattle.message.specs.Padded.{whereGood, paddedOf}

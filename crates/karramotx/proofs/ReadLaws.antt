@@ -1,17 +1,12 @@
 -- Every argument that is read is one of the machine's: a sint has 64 bits, a double and a float are numbers of their
 -- formats, and a NaN stands as its bits. So each is told by its number, its type and its value. Assumes nothing.
-use Prim.Native.Nat.{ℕ, zero, suc}
-use mathlib.Core.Bool.{Bool, true, false, not, cond}
-use mathlib.Core.Path.{_≡_, refl, sym, ap, _∙_}
-use mathlib.Core.List.{List}
-use lib.ListN.{length, take, getD}
-use lib.Dec.{T, eqb}
+use Rattle.prelude.proofs.Basics.{ℕ, zero, suc, Bool, true, false, not, cond, _≡_, refl, sym, ap, _∙_, List, length}
+use Rattle.prelude.proofs.Basics.{getD, take, T, eqb, both, yes, no}
 use mir.Syntax.{w64}
 use mir.Val.{SFits}
 use mir.Facts.{toZ-ofZ}
 use lib.Ieee.{Float, Format, binary32, binary64, ofBits, toBits, nanBits, isNan, fits}
 use lib.Ieee.Bits.{ofBits-toBits, ofBits-fits, nanBits-is}
-use Rattle.prelude.proofs.Cases.{both, yes, no}
 use Rattle.scalar.specs.Argument.{signedOf, carried, doubleOf, floatOf, reasonOf}
 use Rattle.scalar.specs.declared.argument.Argument.{Argument}
 use Rattle.scalar.specs.declared.argument.Argument.the-variants as Va
@@ -27,8 +22,8 @@ use Rattle.message.specs.Frame.{argumentIn as argumentFrom, argumentOf, frameOf
 use Rattle.message.specs.declared.request.Frame.{Frame}
 use Rattle.message.specs.declared.request.Frame.the-variants.{NotAllThere, BadLength, UnknownType, BadPayload, Good}
 use Rattle.karramotx.specs.Value.{valueOf}
-use Rattle.karramotx.specs.ValueRules.{Told, ToldByIndex, ToldNext, ToldInPass}
-use Rattle.karramotx.specs.ValueRules.{toldArgument, ValueByIndex, ValueNext, ValueInPass}
+use Rattle.karramotx.specs.ValueRules.{Told, ToldByIndex, ToldNext, ToldInPass, toldArgument, ValueByIndex}
+use Rattle.karramotx.specs.ValueRules.{ValueNext, ValueInPass}
 use Rattle.karramotx.proofs.ValueLaws.{signed-fits}
 use Rattle.karramotx.proofs.SintLaws.{Small, sint-small}
 

@@ -1,14 +1,6 @@
 -- The number of a sint field has 64 bits, since only a varint is kept for it. Assumes nothing.
-use Prim.Native.Nat.{ℕ, zero, suc, _+_, _^_, _<_}
-use native.Mathlib.Nat.{mod-lt}
-use native.Mathlib.Omega.{arith}
-use mathlib.Core.Bool.{Bool, true, false, cond}
-use mathlib.Core.Path.{_≡_, refl, sym, ap, subst}
-use mathlib.Core.List.{List, [], _∷_}
-use lib.ListN.{length, getD, set, take}
-use lib.Dec.{eqb, leb, ltb}
-use borrow.Author.Tests.{eqb-true}
-use Rattle.prelude.proofs.Cases.{both}
+use Rattle.prelude.proofs.Basics.{ℕ, zero, suc, _+_, _^_, _<_, arith, mod-lt, Bool, true, false, cond, _≡_, refl, sym}
+use Rattle.prelude.proofs.Basics.{ap, subst, List, [], _∷_, length, getD, set, take, eqb, leb, ltb, eqb-true, both}
 use Rattle.varint.specs.declared.Varint.{Varint}
 use Rattle.varint.specs.Varint.{groups, low64}
 use Rattle.wire.specs.declared.tag.Tag.{Tag}

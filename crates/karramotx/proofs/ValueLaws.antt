@@ -1,17 +1,13 @@
 -- What a host is told of an argument: a NaN is what differs from itself; each bit of a double and a float is told.
-use Prim.Native.Nat.{ℕ, _*_, _/_, _%_, _^_, _<_}
-use mathlib.Core.Path.{_≡_, refl, sym, ap, _∙_}
-use mathlib.Core.Bool.{Bool, true, false, not, cond}
-use lib.Dec.{T, eqb}
+use Rattle.prelude.proofs.Basics.{ℕ, _*_, _/_, _%_, _^_, _<_, arith, Bool, true, false, not, cond, _≡_, refl, sym, ap}
+use Rattle.prelude.proofs.Basics.{_∙_, T, eqb, both}
 use lib.IntN.{pos, negsuc}
 use mir.Syntax.{w64}
 use mir.Val.{Fits, SFits, boolByte}
 use mir.Facts.{toZ-ofZ}
-use native.Mathlib.Omega.{arith}
 use lib.Ieee.{Float, nan, inf, fin, Format, binary32, ofBits, toBits, nanBits, isNan, fits, ne, top}
 use lib.Ieee.Compare.{differs-from-itself, nan-differs}
 use lib.Ieee.Bits.{toBits-ofBits, toBits-lt, nanBits-is}
-use Rattle.prelude.proofs.Cases.{both}
 use Rattle.scalar.specs.Zigzag.{unzigzag}
 use Rattle.scalar.specs.Argument.{carried}
 use Rattle.scalar.specs.declared.argument.Argument.{Argument}

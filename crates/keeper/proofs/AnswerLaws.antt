@@ -1,18 +1,10 @@
 -- An answer, case by case, and a reply that fits its buffer. Assumes nothing.
-use Prim.Native.Nat.{ℕ, _+_, _≤_}
-use native.Mathlib.Omega.{arith}
-use mathlib.Core.Path.{_≡_, ap, subst, _∙_}
-use mathlib.Core.List.{List}
-use lib.ListN.{length}
-use borrow.Author.Tests.{eq-eqb, ne-eqb, le-leb}
-use Rattle.prelude.proofs.Cases.{yes, no as without}
+use Rattle.prelude.proofs.Basics.{ℕ, _+_, _≤_, arith, _≡_, ap, subst, _∙_, List, length, eq-eqb, le-leb, ne-eqb, yes}
+use Rattle.prelude.proofs.Basics.{no as without}
 use Rattle.protocol.specs.Reason as Reason
-use Rattle.reply.specs.Reply.{codeOf, replyBytes}
-use Rattle.reply.specs.declared.Reply.{Reply}
-use Rattle.rules.specs.declared.Answer.{Answer}
-use Rattle.rules.specs.declared.Report.{Report}
+use Rattle.reply.specs.Reply.{codeOf}
 use Rattle.rules.specs.Decision.{wireCode}
-use Rattle.keeper.specs.declared.answer.Names.{Names}
+use Rattle.keeper.proofs.Names.{replyBytes, Reply, Answer, Report, Names}
 use Rattle.keeper.specs.private.Does.{lengthIn, Replies, withLength, Answers, numberOf, kindNamed, errorOf}
 
 -- ---- what an Error tells

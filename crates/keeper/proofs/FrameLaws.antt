@@ -1,36 +1,22 @@
 -- A step on a frame that holds no request, or with too short a buffer; and the three clauses of a step's contract.
 -- Assumes
 -- nothing.
-use Prim.Native.Nat.{ℕ, _≤_, _<_}
-use native.Mathlib.Nat.{le-trans}
-use native.Mathlib.Omega.{arith}
-use mathlib.Core.Bool.{Bool, true, false, cond}
-use mathlib.Core.Path.{_≡_, refl, sym, ap, subst, _∙_}
-use mathlib.Core.List.{List}
-use lib.ListN.{length}
-use lib.Dec.{eqb}
-use borrow.Author.Tests.{ne-eqb, lt-leb, lt-ltb, le-ltb}
+use Rattle.prelude.proofs.Basics.{ℕ, _≤_, _<_, arith, le-trans, Bool, true, false, cond, _≡_, refl, sym, ap, subst, _∙_}
+use Rattle.prelude.proofs.Basics.{List, length, eqb, le-ltb, lt-leb, lt-ltb, ne-eqb}
 use Rattle.protocol.specs.Reason as Reason
-use Rattle.message.specs.Frame.{frameOf, usedOf}
-use Rattle.message.specs.declared.request.Request.{Request}
-use Rattle.message.specs.declared.request.Frame.{Frame}
+use Rattle.message.specs.Frame.{usedOf}
 use Rattle.message.specs.declared.request.Frame.the-variants.{NotAllThere, BadLength, UnknownType, BadPayload, Good}
-use Rattle.session.specs.Session.{Session, isClosed}
-use Rattle.reply.specs.Reply.{replyBytes}
-use Rattle.reply.specs.ReplyRules.{minBuffer}
-use Rattle.reply.specs.declared.Reply.{Reply}
-use Rattle.rules.specs.declared.Answer.{Answer}
-use Rattle.rules.specs.declared.Report.{Report}
-use Rattle.rules.specs.Refusal.{lookReason, reportReason, stepReason}
 use Rattle.rules.specs.Read.{ReadIn}
-use Rattle.rules.specs.Decision.{refusalOf, refusedReply, refused, decisionOf}
-use Rattle.rules.specs.Step.{Step, stepBy, stepOn, stepSays}
+use Rattle.rules.specs.Step.{Step, stepSays}
 use Rattle.rules.proofs.ReadLaws.{frames-are-read}
-use Rattle.rules.proofs.StepLaws.{error-fits, written-none}
-use Rattle.keeper.proofs.AnswerLaws.{put-behind}
+use Rattle.rules.proofs.StepLaws.{written-none}
+use Rattle.keeper.proofs.Names.{frameOf, Frame, Request, Session, isClosed, replyBytes, minBuffer, Reply}
+use Rattle.keeper.proofs.Names.{stepReason, lookReason, reportReason, refusalOf, refused, refusedReply}
+use Rattle.keeper.proofs.Names.{decisionOf, stepBy, stepOn, Answer, Report, error-fits}
 use Rattle.keeper.specs.private.Reasons.{closedOr}
 use Rattle.keeper.specs.private.Does.{Does, Readable, Answers, withLength, lengthIn, refusing, noNames, numberOf}
 use Rattle.keeper.specs.private.Does.{kindNamed, errorOf}
+use Rattle.keeper.proofs.AnswerLaws.{put-behind}
 
 -- ---- nothing is read
 

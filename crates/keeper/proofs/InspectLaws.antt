@@ -1,28 +1,15 @@
 -- What each request touches: the places that were searched, and the bits of the one test by which it ends cursors.
 -- Assumes nothing.
-use Prim.Native.Nat.{ℕ}
-use native.Mathlib.Omega.{arith}
-use mathlib.Core.Bool.{Bool, false, cond, and-false, and-true}
-use mathlib.Core.Path.{_≡_, refl, sym, ap, fun-ext, _∙_}
-use mathlib.Core.List.{List, [], _∷_}
-use Rattle.message.specs.declared.request.Prepare.{Prepare}
-use Rattle.message.specs.declared.request.Execute.{Execute}
-use Rattle.message.specs.declared.request.Open.{Open}
-use Rattle.message.specs.declared.request.Fetch.{Fetch}
-use Rattle.message.specs.declared.request.Request.{Request}
-use Rattle.message.specs.declared.request.Frame.{Frame}
-use Rattle.session.specs.declared.Cursor.{Cursor}
-use Rattle.session.specs.declared.Place.{Place}
-use Rattle.session.specs.Session.{Session}
+use Rattle.prelude.proofs.Basics.{ℕ, arith, Bool, false, cond, and-false, _≡_, refl, sym, ap, _∙_, List, [], _∷_}
+use mathlib.Core.Bool.{and-true}
+use mathlib.Core.Path.{fun-ext}
 use Rattle.session.specs.Lists.{maskOf}
-use Rattle.session.specs.Entry.{isLiveCursor, isCursor, onStmt}
-use Rattle.session.specs.Tables.{stmtAt, stmtPlace, cursorAt, cursorPlace}
-use Rattle.rules.specs.declared.Look.{Look}
-use Rattle.rules.specs.declared.Touches.{Touches}
-use Rattle.rules.specs.Decision.{lookOf}
 use Rattle.rules.specs.Ending.{endsIt}
-use Rattle.rules.specs.Inspect.{ownStmt, ownCursor, endsAt, touches, touchesOf, touchesIn}
+use Rattle.rules.specs.Inspect.{ownStmt, ownCursor, endsAt, touchesOf, touchesIn}
 use Rattle.rules.proofs.EndingLaws.{on-stmt, of-id}
+use Rattle.keeper.proofs.Names.{Execute, Fetch, Frame, Open, Prepare, Request, Session, isLiveCursor, isCursor}
+use Rattle.keeper.proofs.Names.{onStmt, stmtAt, cursorAt, stmtPlace, cursorPlace, Cursor, Place, lookOf, touches}
+use Rattle.keeper.proofs.Names.{Look, Touches}
 
 mask-same : (p q : Cursor → Bool) → ((c : Cursor) → p c ≡ q c) → (cs : List Cursor) → maskOf p cs ≡ maskOf q cs
 mask-same p q h cs = ap (λ t. maskOf t cs) (fun-ext h)

@@ -1,3 +1,4 @@
+mod Names
 pub mod AnswerLaws
 pub mod ReasonLaws
 pub mod RowsLaws

@@ -1,30 +1,12 @@
 -- A look, case by case: refused, or the work that the request wants. Assumes nothing.
-use Prim.Native.Nat.{ℕ}
-use mathlib.Core.Bool.{Bool, true, false, cond}
-use mathlib.Core.Path.{_≡_, refl, sym, ap, _∙_}
-use mathlib.Core.List.{List}
-use lib.Dec.{eqb}
-use borrow.Author.Tests.{eq-eqb, ne-eqb}
-use Rattle.prelude.proofs.Cases.{yes, no as without}
+use Rattle.prelude.proofs.Basics.{ℕ, Bool, true, false, cond, _≡_, refl, sym, ap, _∙_, eqb, eq-eqb, ne-eqb, yes}
+use Rattle.prelude.proofs.Basics.{no as without}
 use Rattle.protocol.specs.Reason as Reason
-use Rattle.message.specs.Frame.{frameOf}
-use Rattle.message.specs.declared.request.Prepare.{Prepare}
-use Rattle.message.specs.declared.request.Execute.{Execute}
-use Rattle.message.specs.declared.request.Open.{Open}
-use Rattle.message.specs.declared.request.Fetch.{Fetch}
-use Rattle.message.specs.declared.request.Optional.{Optional}
-use Rattle.message.specs.declared.request.Request.{Request}
-use Rattle.message.specs.declared.request.Frame.{Frame}
 use Rattle.message.specs.declared.request.Frame.the-variants.{NotAllThere, BadLength, UnknownType, BadPayload, Good}
-use Rattle.session.specs.declared.Cursor.{Cursor}
-use Rattle.session.specs.Session.{Session, isClosed}
-use Rattle.session.specs.Tables.{liveCursor}
-use Rattle.rules.specs.declared.Look.{Look}
 use Rattle.rules.specs.Report.{noWork, toPrepare, toExecute, toOpen, toFetch}
-use Rattle.rules.specs.Refusal.{lookReason}
-use Rattle.rules.specs.Rows.{firstRow, fetchCount}
-use Rattle.rules.specs.Decision.{looked, lookRefused, lookBy, lookOf}
-use Rattle.rules.specs.Step.{lookAt}
+use Rattle.rules.specs.Decision.{lookBy}
+use Rattle.keeper.proofs.Names.{Execute, Fetch, Open, Optional, Prepare, Request, Session, isClosed, liveCursor}
+use Rattle.keeper.proofs.Names.{Cursor, lookReason, fetchCount, firstRow, looked, lookRefused, lookOf, Look}
 use Rattle.keeper.specs.private.Reasons.{requestReason, closedOr, lookWork, lookRows, fetchReason}
 use Rattle.keeper.proofs.RequestLaws.{fetch-looks, reset-looks, session-close-looks}
 

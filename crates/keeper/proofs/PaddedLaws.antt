@@ -1,24 +1,15 @@
 -- From what is decided of a frame to what a look and a step say of its bytes: of one that holds a request what was read
 -- in it, and else no. Assumes nothing.
-use Prim.Native.Nat.{ℕ}
-use mathlib.Core.Bool.{Bool, true, false}
-use mathlib.Core.Path.{_≡_, refl, sym, ap, subst, _∙_}
-use mathlib.Core.List.{List}
-use Rattle.message.specs.Frame.{frameOf}
+use Rattle.prelude.proofs.Basics.{ℕ, Bool, false, _≡_, refl, sym, ap, subst, _∙_, List}
 use Rattle.message.specs.Head.{headOf}
-use Rattle.message.specs.Padded.{whereGood, headPadded, paddedOf}
+use Rattle.message.specs.Padded.{whereGood, headPadded}
 use Rattle.message.specs.private.Marks.{Tells}
-use Rattle.message.specs.declared.request.Request.{Request}
-use Rattle.message.specs.declared.request.Frame.{Frame}
 use Rattle.message.specs.declared.request.Frame.the-variants.{NotAllThere, BadLength, UnknownType, BadPayload, Good}
-use Rattle.session.specs.Session.{Session}
-use Rattle.rules.specs.declared.Answer.{Answer}
-use Rattle.rules.specs.declared.Look.{Look}
-use Rattle.rules.specs.declared.Report.{Report}
-use Rattle.rules.specs.Decision.{lookRefused, lookOf}
-use Rattle.rules.specs.Step.{said, lookSays, answerSays, lookAt, stepOn, stepOf}
+use Rattle.rules.specs.Step.{said, lookSays, answerSays, lookAt}
 use Rattle.rules.proofs.PaddedLaws.{said-none}
 use Rattle.rules.proofs.StepLaws.{step-has}
+use Rattle.keeper.proofs.Names.{frameOf, paddedOf, Frame, Request, Session, lookRefused, lookOf, stepOf, stepOn}
+use Rattle.keeper.proofs.Names.{Answer, Look, Report}
 use Rattle.keeper.specs.private.Does.{Does}
 
 -- ---- what was read

@@ -1,29 +1,17 @@
 -- The refusals of a request and of an engine report, case by case. Assumes nothing.
-use Prim.Native.Nat.{ℕ, _≤_, _<_}
-use mathlib.Core.Bool.{Bool, true, false, not, cond, _&&_}
-use mathlib.Core.Path.{_≡_, refl, ap, _∙_}
-use mathlib.Core.List.{[], _∷_}
-use lib.Dec.{eqb, ltb, leb}
-use borrow.Author.Tests.{eq-eqb, ne-eqb, lt-ltb, le-ltb, le-leb, lt-leb}
-use Rattle.prelude.proofs.Cases.{yes, no as without}
+use Rattle.prelude.proofs.Basics.{ℕ, _≤_, _<_, Bool, true, false, not, _&&_, cond, _≡_, refl, ap, _∙_, [], _∷_, eqb}
+use Rattle.prelude.proofs.Basics.{leb, ltb, eq-eqb, le-leb, le-ltb, lt-leb, lt-ltb, ne-eqb, yes, no as without}
 use Rattle.protocol.specs.Reason as Reason
 use Rattle.args.specs.declared.arguments.Arguments.{Arguments}
-use Rattle.message.specs.declared.request.Execute.{Execute}
-use Rattle.message.specs.declared.request.Open.{Open}
-use Rattle.message.specs.declared.request.Request.{Request}
-use Rattle.session.specs.Session.{Session, flag}
-use Rattle.session.specs.declared.Stmt.{Stmt}
-use Rattle.session.specs.declared.Cursor.{Cursor}
-use Rattle.session.specs.declared.Place.{Place}
-use Rattle.session.specs.Lists.{entryAt}
-use Rattle.session.specs.Entry.{noStmt, noCursor, isLiveStmt, isLiveCursor}
-use Rattle.session.specs.Sound.{maxNumber, maxPlaceholders}
-use Rattle.session.specs.Tables.{stmtAt, cursorOn, liveStmt, carried, cursorPlace}
-use Rattle.rules.specs.declared.Report.{Report}
-use Rattle.rules.specs.Report.{prepared, result, failed, maxColumns, fails, isPrepared, isResult}
-use Rattle.rules.specs.Refusal.{refusal, firstOf, noPlace}
-use Rattle.keeper.specs.private.Reasons.{bindingReason, cursorReason, fetchReason, requestReason}
-use Rattle.keeper.specs.private.Reasons.{orElse, unless, consulted}
+use Rattle.session.specs.Session.{flag}
+use Rattle.session.specs.Tables.{cursorOn, liveStmt, carried}
+use Rattle.rules.specs.Report.{prepared, result, failed, maxColumns}
+use Rattle.rules.specs.Refusal.{refusal}
+use Rattle.keeper.proofs.Names.{Execute, Open, Request, entryAt, Session, noStmt, noCursor, isLiveStmt}
+use Rattle.keeper.proofs.Names.{isLiveCursor, stmtAt, cursorPlace, maxNumber, maxPlaceholders, Cursor, Place}
+use Rattle.keeper.proofs.Names.{Stmt, isPrepared, isResult, fails, firstOf, noPlace, Report}
+use Rattle.keeper.specs.private.Reasons.{bindingReason, cursorReason, fetchReason, requestReason, orElse, unless}
+use Rattle.keeper.specs.private.Reasons.{consulted}
 
 -- ---- two refusals, a flag
 

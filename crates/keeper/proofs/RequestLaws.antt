@@ -1,37 +1,19 @@
 -- Each request: the refusal by the entries that were looked up, what it sends, and the session after it. Assumes
 -- nothing.
-use Prim.Native.Nat.{ℕ, _+_, _-_, _≤_, _<_, min}
-use native.Mathlib.Omega.{arith}
-use mathlib.Core.Bool.{Bool, true, false, cond, not}
-use mathlib.Core.Path.{_≡_, refl, sym, ap, _∙_}
-use mathlib.Core.List.{List}
-use lib.Dec.{eqb, leb}
-use borrow.Author.Tests.{eqb-true, eqb-false, leb-false}
+use Rattle.prelude.proofs.Basics.{ℕ, _+_, _-_, _≤_, _<_, min, arith, Bool, true, false, not, cond, _≡_, refl, sym, ap}
+use Rattle.prelude.proofs.Basics.{_∙_, List, eqb, leb, eqb-false, eqb-true, leb-false}
 use Rattle.protocol.specs.Reason as Reason
-use Rattle.message.specs.declared.request.Optional.{Optional}
-use Rattle.message.specs.declared.request.Prepare.{Prepare}
-use Rattle.message.specs.declared.request.Execute.{Execute}
-use Rattle.message.specs.declared.request.Open.{Open}
-use Rattle.message.specs.declared.request.Fetch.{Fetch}
-use Rattle.message.specs.declared.request.Request.{Request}
-use Rattle.session.specs.declared.Stmt.{Stmt}
-use Rattle.session.specs.declared.Cursor.{Cursor}
-use Rattle.session.specs.declared.Place.{Place}
-use Rattle.session.specs.Session.{Session}
-use Rattle.session.specs.Words.{sessionOf}
-use Rattle.session.specs.Lists.{entryAt}
-use Rattle.session.specs.Entry.{noStmt, noCursor, isLiveStmt, isLiveCursor, isCursor, onStmt, withSent}
-use Rattle.session.specs.Tables.{stmtAt, cursorAt, stmtPlace, cursorPlace, liveCursor, storedCursor, endedBy}
-use Rattle.session.specs.Tables.{preparedAt, freedAt, openedAt, reset, closedNow}
-use Rattle.session.specs.Sound.{maxNumber, maxPlaceholders}
-use Rattle.reply.specs.declared.Reply.{Reply}
-use Rattle.rules.specs.declared.Report.{Report}
+use Rattle.session.specs.Entry.{withSent}
+use Rattle.session.specs.Tables.{storedCursor, endedBy, preparedAt, freedAt, openedAt, reset, closedNow}
+use Rattle.rules.specs.Report.{isDone}
+use Rattle.rules.specs.Rows.{rowCount, sendsColumns}
+use Rattle.rules.specs.Decision.{replyTo}
 use Rattle.rules.proofs.SoundLaws.{placeholders-fit, rows-fit}
-use Rattle.rules.specs.Report.{isPrepared, isResult, isDone, fails}
-use Rattle.rules.specs.Refusal.{firstOf, noPlace, reportTests}
-use Rattle.rules.specs.Rows.{fetchCount, openCount, firstRow, rowCount, sendsColumns}
-use Rattle.rules.specs.Decision.{sessionAfter, replyTo}
-use Rattle.keeper.specs.declared.answer.Sends.{Sends}
+use Rattle.keeper.proofs.Names.{Execute, Fetch, Open, Optional, Prepare, Request, entryAt, Session, noStmt}
+use Rattle.keeper.proofs.Names.{noCursor, isLiveStmt, isLiveCursor, isCursor, onStmt, stmtAt, cursorAt}
+use Rattle.keeper.proofs.Names.{liveCursor, stmtPlace, cursorPlace, sessionOf, maxNumber, maxPlaceholders}
+use Rattle.keeper.proofs.Names.{Cursor, Place, Stmt, Reply, isPrepared, isResult, fails, firstOf, noPlace}
+use Rattle.keeper.proofs.Names.{reportTests, fetchCount, openCount, firstRow, sessionAfter, Report, Sends}
 use Rattle.keeper.specs.private.Reasons.{requestReason, orElse, unless, consulted, fetchReason}
 use Rattle.keeper.specs.private.Does.{Ready, sendsOf, sendsAll, sendsFirst, sendsNext}
 use Rattle.keeper.proofs.StepLaws.{Decided, open-reason, idle-reason}

@@ -1,16 +1,9 @@
 -- The rows that an Open or a Fetch sends, and the end of a reply, case by case. Assumes nothing.
-use Prim.Native.Nat.{ℕ, _+_, _-_, min}
-use native.Mathlib.Omega.{arith}
-use mathlib.Core.Bool.{Bool, true, false}
-use mathlib.Core.Path.{_≡_, ap, _∙_}
-use borrow.Author.Tests.{eq-eqb, ne-eqb}
-use Rattle.prelude.proofs.Cases.{yes, no as without}
-use Rattle.message.specs.declared.request.Optional.{Optional}
-use Rattle.reply.specs.declared.Reply.{Reply}
-use Rattle.session.specs.declared.Cursor.{Cursor}
+use Rattle.prelude.proofs.Basics.{ℕ, _+_, _-_, min, arith, Bool, true, false, _≡_, ap, _∙_, eq-eqb, ne-eqb, yes}
+use Rattle.prelude.proofs.Basics.{no as without}
 use Rattle.rules.specs.Decision.{endOf}
-use Rattle.rules.specs.Rows.{remaining, fetchCount, openCount}
-use Rattle.keeper.specs.declared.answer.Sends.{Sends}
+use Rattle.rules.specs.Rows.{remaining}
+use Rattle.keeper.proofs.Names.{Optional, Cursor, Reply, fetchCount, openCount, Sends}
 
 -- ---- how many rows
 

@@ -1,39 +1,21 @@
 -- A step on a request that is ready: refused with its Error, or accepted with what it sends and the session after it.
 -- Assumes nothing.
-use Prim.Native.Nat.{ℕ, _≤_}
-use native.Mathlib.Nat.{le-trans}
-use native.Mathlib.Omega.{arith}
-use mathlib.Core.Bool.{Bool, true, false, cond}
-use mathlib.Core.Path.{_≡_, refl, sym, ap, subst, _∙_}
-use mathlib.Core.List.{List}
-use lib.ListN.{length}
-use lib.Dec.{eqb, leb}
-use borrow.Author.Tests.{eqb-true, eq-eqb, ne-eqb, lt-leb, leb-true, leb-false, le-ltb}
+use Rattle.prelude.proofs.Basics.{ℕ, _≤_, arith, le-trans, Bool, true, false, cond, _≡_, refl, sym, ap, subst, _∙_}
+use Rattle.prelude.proofs.Basics.{List, length, eqb, leb, eq-eqb, eqb-true, le-ltb, leb-false, leb-true, lt-leb, ne-eqb}
 use Rattle.protocol.specs.Reason as Reason
-use Rattle.message.specs.declared.request.Request.{Request}
-use Rattle.message.specs.declared.request.Frame.{Frame}
 use Rattle.message.specs.declared.request.Frame.the-variants.{Good}
-use Rattle.session.specs.Session.{Session, isClosed}
-use Rattle.session.specs.Words.{sessionOf}
-use Rattle.reply.specs.Reply.{replyBytes}
-use Rattle.reply.specs.ReplyRules.{minBuffer}
-use Rattle.reply.specs.declared.Reply.{Reply}
-use Rattle.rules.specs.declared.Answer.{Answer}
-use Rattle.rules.specs.declared.Report.{Report}
-use Rattle.rules.specs.Refusal.{firstOf, lookReason, reportTests, reportReason, stepReason}
 use Rattle.rules.specs.Read.{Read}
-use Rattle.rules.specs.Decision.{Decision, sessionAfter, named, namedKind, refusalOf, refusedReply, refused}
-use Rattle.rules.specs.Decision.{accepted, decisionOf}
-use Rattle.rules.specs.Step.{stepBy, stepOn}
+use Rattle.rules.specs.Decision.{Decision, named, namedKind, accepted}
 use Rattle.rules.proofs.RefusalLaws.{late-read}
-use Rattle.rules.proofs.StepLaws.{error-fits}
 use Rattle.rules.proofs.BufferLaws.{reply-fits}
-use Rattle.keeper.specs.declared.answer.Names.{Names}
-use Rattle.keeper.specs.declared.answer.Sends.{Sends}
+use Rattle.keeper.proofs.Names.{Frame, Request, Session, isClosed, sessionOf, replyBytes, minBuffer, Reply}
+use Rattle.keeper.proofs.Names.{firstOf, reportTests, stepReason, lookReason, reportReason, refusalOf, refused}
+use Rattle.keeper.proofs.Names.{sessionAfter, refusedReply, decisionOf, stepBy, stepOn, Answer, Report}
+use Rattle.keeper.proofs.Names.{error-fits, Names, Sends}
 use Rattle.keeper.specs.private.Reasons.{requestReason, orElse}
-use Rattle.keeper.proofs.AnswerLaws.{put-behind}
 use Rattle.keeper.specs.private.Does.{Does, Answers, Readable, Ready, accepting, refusing, withLength, lengthIn}
 use Rattle.keeper.specs.private.Does.{noNames, namesOf, numberOf, kindNamed, errorOf, sendsOf}
+use Rattle.keeper.proofs.AnswerLaws.{put-behind}
 
 -- ---- with room, whatever the session
 

@@ -1,19 +1,8 @@
 -- A field that does not occur in a list has no bytes there. Assumes nothing.
-use Prim.Native.Nat.{ℕ, zero, suc, _+_}
-use native.Mathlib.Omega.{arith}
-use mathlib.Core.Path.{_≡_, refl, sym, ap, _∙_}
-use mathlib.Core.List.{List}
-use lib.ListN.{length, getD, set, length-set}
-use lib.Seq.{getD-set-same, getD-set-other}
-use lib.Dec.{ltb}
-use Rattle.prelude.proofs.Cases.{both}
-use Rattle.wire.specs.Field.{fieldAt}
-use Rattle.wire.specs.declared.field.Field.{Field}
-use Rattle.layout.specs.Row.{slotCount}
-use Rattle.layout.specs.Slots.{noSlots, badSlots}
-use Rattle.layout.specs.Fields.{useOf, noted, onField, fieldsFrom, fieldList, hasRequired, fieldsAt}
-use Rattle.layout.specs.declared.slots.Slots.{Slots}
-use Rattle.layout.specs.declared.fields.Use.{Use}
+use Rattle.prelude.proofs.Basics.{ℕ, zero, suc, _+_, arith, _≡_, refl, sym, ap, _∙_, List, length, getD, set}
+use Rattle.prelude.proofs.Basics.{length-set, getD-set-other, getD-set-same, ltb, both}
+use Rattle.layout.proofs.Names.{fieldAt, Field, slotCount, noSlots, badSlots, useOf, noted, onField, fieldsFrom}
+use Rattle.layout.proofs.Names.{fieldList, hasRequired, fieldsAt, Use, Slots}
 use Rattle.layout.proofs.FieldsLaws.{counted-slot, kept-slot}
 use Rattle.layout.proofs.KeptLaws.{zeros, same-or-not}
 

@@ -1,26 +1,12 @@
 -- Field lists read in bytes and in a byte string that holds these bytes: they are alike but for the places. Assumes
 -- nothing.
-use Prim.Native.Nat.{ℕ, zero, suc, _+_, _≤_, _<_}
-use native.Mathlib.Omega.{arith}
-use mathlib.Core.Bool.{Bool, true, false}
-use mathlib.Core.Path.{_≡_, refl, sym, ap, subst, _∙_}
-use mathlib.Core.List.{List}
-use lib.ListN.{length, getD, set, length-set}
-use lib.Seq.{getD-set-same, getD-set-other}
-use Rattle.prelude.proofs.Cases.{less-or-not}
-use Rattle.wire.specs.Field.{fieldAt}
-use Rattle.wire.specs.Past.{PastField}
-use Rattle.wire.specs.declared.field.Field.{Field}
-use Rattle.wire.proofs.PastLaws.{field-past}
-use Rattle.wire.proofs.MovedLaws.{movedField, field-moved, Tail, tail-length}
-use Rattle.layout.specs.Row.{isRepeated, rowFor, slotCount}
-use Rattle.layout.specs.Slots.{noSlots, badSlots}
-use Rattle.layout.specs.Fields.{useOf, noted, fieldsOnto, hasRequired, checked, fieldsAt}
-use Rattle.layout.specs.declared.slots.Slots.{Slots}
-use Rattle.layout.specs.declared.fields.Use.{Use}
+use Rattle.prelude.proofs.Basics.{ℕ, zero, suc, _+_, _≤_, _<_, arith, Bool, true, false, _≡_, refl, sym, ap, subst, _∙_}
+use Rattle.prelude.proofs.Basics.{List, length, getD, set, length-set, getD-set-other, getD-set-same, less-or-not}
+use Rattle.layout.proofs.Names.{fieldAt, PastField, Field, field-past, movedField, field-moved, Tail}
+use Rattle.layout.proofs.Names.{tail-length, isRepeated, rowFor, slotCount, noSlots, badSlots, useOf, noted}
+use Rattle.layout.proofs.Names.{fieldsOnto, hasRequired, checked, fieldsAt, startIn, Use, Slots}
 use Rattle.layout.proofs.FieldsLaws.{Towards, starts-onto, ends, no-field, advances, goes-on, kept-slot}
 use Rattle.layout.proofs.FieldsLaws.{checked-good, checked-bad}
-use Rattle.layout.specs.FieldsRules.{startIn}
 use Rattle.layout.proofs.KeptLaws.{zeros, same-or-not, Kept, none-kept, bad-kept, noted-kept}
 use Rattle.layout.proofs.UnreadLaws.{counted-repeated}
 

@@ -1,23 +1,9 @@
 -- The bytes of two fields that a list keeps do not overlap. Assumes nothing.
-use Prim.Native.Nat.{ℕ, zero, suc, _+_, _≤_, _<_}
-use native.Mathlib.Omega.{arith}
-use mathlib.Core.Logic.{_⊎_, inl, inr, ⊎-elim}
-use mathlib.Core.Path.{_≡_, refl, sym, ap, _∙_}
-use mathlib.Core.List.{List}
-use lib.ListN.{length, getD, set, length-set}
-use lib.Seq.{getD-set-same, getD-set-other}
-use lib.Dec.{ltb}
-use Rattle.prelude.proofs.Cases.{both}
-use Rattle.wire.specs.Field.{fieldAt}
-use Rattle.wire.specs.Past.{PastField}
-use Rattle.wire.specs.declared.field.Field.{Field}
-use Rattle.wire.proofs.PastLaws.{field-past}
-use Rattle.layout.specs.Row.{slotCount}
-use Rattle.layout.specs.Slots.{noSlots, badSlots}
-use Rattle.layout.specs.Fields.{useOf, noted, onField, fieldsFrom, fieldList, hasRequired}
-use Rattle.layout.specs.FieldsRules.{startIn, endIn, KeptApart}
-use Rattle.layout.specs.declared.slots.Slots.{Slots}
-use Rattle.layout.specs.declared.fields.Use.{Use}
+use Rattle.prelude.proofs.Basics.{ℕ, zero, suc, _+_, _≤_, _<_, arith, _≡_, refl, sym, ap, _∙_, _⊎_, inl, inr, ⊎-elim}
+use Rattle.prelude.proofs.Basics.{List, length, getD, set, length-set, getD-set-other, getD-set-same, ltb, both}
+use Rattle.layout.proofs.Names.{fieldAt, PastField, Field, field-past, slotCount, noSlots, badSlots, useOf}
+use Rattle.layout.proofs.Names.{noted, onField, fieldsFrom, fieldList, hasRequired, startIn, endIn, Use, Slots}
+use Rattle.layout.specs.FieldsRules.{KeptApart}
 use Rattle.layout.proofs.FieldsLaws.{kept-slot}
 use Rattle.layout.proofs.KeptLaws.{zeros, same-or-not}
 

@@ -1,27 +1,15 @@
 -- What lent arrays leave out can be told from the rest: whether a field occurs, and of a field with bytes the length,
 -- which is its value. Assumes nothing.
-use Prim.Native.Nat.{ℕ, zero, suc}
-use native.Mathlib.Omega.{arith}
-use mathlib.Core.Bool.{Bool, true, false, cond}
-use mathlib.Core.Path.{_≡_, refl, sym, ap, subst, _∙_}
-use mathlib.Core.List.{List, [], _∷_, map}
-use lib.ListN.{length, getD, set, take, length-set}
-use lib.Seq.{getD-set-other, take-length}
-use lib.Dec.{ltb, leb, eqb}
-use borrow.Author.Tests.{le-leb, eq-eqb, ne-eqb, eqb-true, eqb-false}
-use Rattle.prelude.proofs.Cases.{both}
-use Rattle.wire.specs.Field.{fieldAt}
-use Rattle.wire.specs.declared.field.Field.{Field}
+use Rattle.prelude.proofs.Basics.{ℕ, zero, suc, arith, Bool, true, false, cond, _≡_, refl, sym, ap, subst, _∙_, List}
+use Rattle.prelude.proofs.Basics.{[], _∷_, map, length, getD, set, take, length-set, getD-set-other, take-length, eqb}
+use Rattle.prelude.proofs.Basics.{leb, ltb, eq-eqb, eqb-false, eqb-true, le-leb, ne-eqb, both}
 use Rattle.wire.proofs.LongLaws.{LongField, field-long}
-use Rattle.layout.specs.Row.{numberOf, wireOf, isRepeated, rowFor, slotCount}
-use Rattle.layout.specs.Slots.{noSlots, badSlots}
-use Rattle.layout.specs.Fields.{useOf, noted, onField, fieldsFrom, fieldList, hasRequired, fieldsAt}
-use Rattle.layout.specs.Fields.{fieldsTo}
+use Rattle.layout.proofs.Names.{fieldAt, Field, numberOf, wireOf, isRepeated, rowFor, slotCount, noSlots}
+use Rattle.layout.proofs.Names.{badSlots, useOf, noted, onField, fieldsFrom, fieldList, hasRequired, fieldsAt}
+use Rattle.layout.proofs.Names.{fieldsTo, Use, Slots}
 use Rattle.layout.specs.Part.{absent}
 use Rattle.layout.specs.private.Arrays.{upToTwo, Holds, fromArrays, inArrays}
 use Rattle.layout.proofs.FieldsLaws.{getD-times, up-to-none}
-use Rattle.layout.specs.declared.slots.Slots.{Slots}
-use Rattle.layout.specs.declared.fields.Use.{Use}
 
 pub holds-arrays : {x : Slots} {g : Bool} {v w u : List ℕ} → Holds x g v w u →
     fromArrays g v w u ≡ inArrays x

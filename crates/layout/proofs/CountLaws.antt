@@ -1,20 +1,8 @@
 -- How often a field occurs: along a good field list no count falls, and what is counted is there. Assumes nothing.
-use Prim.Native.Nat.{ℕ, zero, suc, _+_, _≤_, _<_}
-use native.Mathlib.Omega.{arith}
-use mathlib.Core.Bool.{true}
-use mathlib.Core.Path.{_≡_, refl}
-use mathlib.Core.List.{List, [], _∷_}
-use lib.ListN.{length, getD, set, take, length-set}
-use lib.Seq.{getD-set-same}
-use lib.Dec.{ltb, leb}
-use borrow.Author.Tests.{leb-true}
-use Rattle.prelude.proofs.Cases.{both}
-use Rattle.wire.specs.Field.{fieldAt}
-use Rattle.wire.specs.declared.field.Field.{Field}
-use Rattle.layout.specs.Slots.{badSlots}
-use Rattle.layout.specs.Fields.{useOf, noted, onField, fieldsFrom, fieldList, hasRequired, fieldsAt, fieldsTo}
-use Rattle.layout.specs.declared.slots.Slots.{Slots}
-use Rattle.layout.specs.declared.fields.Use.{Use}
+use Rattle.prelude.proofs.Basics.{ℕ, zero, suc, _+_, _≤_, _<_, arith, true, _≡_, refl, List, [], _∷_, length, getD, set}
+use Rattle.prelude.proofs.Basics.{take, length-set, getD-set-same, leb, ltb, leb-true, both}
+use Rattle.layout.proofs.Names.{fieldAt, Field, badSlots, useOf, noted, onField, fieldsFrom, fieldList}
+use Rattle.layout.proofs.Names.{hasRequired, fieldsAt, fieldsTo, Use, Slots}
 
 -- one more at a place takes nothing away at any
 set-grows : (l : List ℕ) (i k : ℕ) → getD l k 0 ≤ getD (set l i (getD l i 0 + 1)) k 0

@@ -1,19 +1,8 @@
 -- Fuel that is enough for the bytes left makes no difference to a field list. Assumes nothing.
-use Prim.Native.Nat.{ℕ, zero, suc, _+_, _≤_, _<_}
-use native.Mathlib.Omega.{arith}
-use mathlib.Core.Bool.{cond}
-use mathlib.Core.Path.{_≡_, refl, sym, ap}
-use mathlib.Core.List.{List}
-use lib.ListN.{length}
-use lib.Dec.{ltb}
-use Rattle.wire.specs.Field.{fieldAt}
-use Rattle.wire.specs.Past.{PastField}
-use Rattle.wire.specs.declared.field.Field.{Field}
-use Rattle.wire.proofs.PastLaws.{field-past}
-use Rattle.layout.specs.Slots.{noSlots}
-use Rattle.layout.specs.Fields.{useOf, noted, onField, fieldsFrom}
+use Rattle.prelude.proofs.Basics.{ℕ, zero, suc, _+_, _≤_, _<_, arith, cond, _≡_, refl, sym, ap, List, length, ltb}
+use Rattle.layout.proofs.Names.{fieldAt, PastField, Field, field-past, noSlots, useOf, noted, onField}
+use Rattle.layout.proofs.Names.{fieldsFrom, Slots}
 use Rattle.layout.specs.FieldsRules.{EnoughFields}
-use Rattle.layout.specs.declared.slots.Slots.{Slots}
 use Rattle.layout.proofs.FieldsLaws.{from-end}
 
 module _ (rows : List (List ℕ)) (s : List ℕ) where

@@ -1,26 +1,13 @@
 -- Reading a field list, one turn of the loop at a time, and its required fields. Assumes nothing.
-use Prim.Native.Nat.{ℕ, zero, suc, _+_, _-_, _≤_, _<_}
-use native.Mathlib.Numerals.{add-one}
-use native.Mathlib.Omega.{arith}
-use mathlib.Core.Bool.{Bool, true, false, not, cond}
-use mathlib.Core.Path.{_≡_, refl, sym, ap, subst, _∙_}
-use mathlib.Core.List.{List, [], _∷_, map}
-use lib.ListN.{length, getD, set, take, drop, drop-of-length-le, List·getD-eq-default}
-use lib.Seq.{drop-cons}
-use lib.Dec.{ltb, eqb}
-use borrow.Author.Tests.{lt-ltb, le-ltb, lt-leb, le-leb, eq-eqb, ne-eqb, eqb-true, eqb-false, ltb-true}
-use Rattle.prelude.proofs.Cases.{before-suc}
-use Rattle.wire.specs.Field.{fieldAt}
-use Rattle.wire.specs.Past.{PastField}
-use Rattle.wire.specs.declared.field.Field.{Field}
-use Rattle.wire.proofs.PastLaws.{field-past}
-use Rattle.layout.specs.Row.{numberOf, noRow, takes, slotCount}
-use Rattle.layout.specs.Slots.{noSlots, badSlots}
-use Rattle.layout.specs.Fields.{useBy, useOf, noted, onField, fieldsFrom, fieldsOnto, fieldList, met}
-use Rattle.layout.specs.Fields.{hasRequired, checked, fieldsAt, fieldsTo}
+use Rattle.prelude.proofs.Basics.{ℕ, zero, suc, _+_, _-_, _≤_, _<_, arith, add-one, Bool, true, false, not, cond, _≡_}
+use Rattle.prelude.proofs.Basics.{refl, sym, ap, subst, _∙_, List, [], _∷_, map, length, getD, set, take, drop}
+use Rattle.prelude.proofs.Basics.{List·getD-eq-default, drop-of-length-le, drop-cons, eqb, ltb, eq-eqb, eqb-false}
+use Rattle.prelude.proofs.Basics.{eqb-true, le-leb, le-ltb, lt-leb, lt-ltb, ltb-true, ne-eqb, before-suc}
+use Rattle.layout.proofs.Names.{fieldAt, PastField, Field, field-past, numberOf, noRow, slotCount, takes}
+use Rattle.layout.proofs.Names.{noSlots, badSlots, useBy, useOf, noted, onField, fieldsFrom, fieldsOnto}
+use Rattle.layout.proofs.Names.{fieldList, hasRequired, checked, fieldsAt, fieldsTo, Use, Slots}
+use Rattle.layout.specs.Fields.{met}
 use Rattle.layout.specs.private.Arrays.{upToTwo, Noted, Listed, Holds}
-use Rattle.layout.specs.declared.slots.Slots.{Slots}
-use Rattle.layout.specs.declared.fields.Use.{Use}
 
 module _ (row : List ℕ) (number wire value : ℕ) where
   pub use-unknown : takes row number wire value ≡ false → Use.Unknown ≡ useBy row number wire value

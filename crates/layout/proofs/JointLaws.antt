@@ -1,29 +1,14 @@
 -- A part's bytes where they stand among those of others, one part behind the other: each of its fields is read in both
 -- places. Assumes nothing.
-use Prim.Native.Nat.{ℕ, zero, suc, _+_, _≤_, _<_}
-use native.Mathlib.Omega.{arith}
-use mathlib.Core.Bool.{Bool, true, false, cond, _&&_}
-use mathlib.Core.Path.{_≡_, refl, sym, ap, subst, _∙_}
-use mathlib.Core.List.{List, [], _∷_, _++_}
-use lib.ListN.{length, take, drop, length-drop, take-append-drop}
-use lib.Seq.{drop-at, drop-drop, drop-append-le, take-append-le, length-take-le}
-use lib.Dec.{leb}
-use borrow.Author.Tests.{leb-true}
-use Rattle.prelude.proofs.Cases.{less-or-not}
+use Rattle.prelude.proofs.Basics.{ℕ, zero, suc, _+_, _≤_, _<_, arith, Bool, true, false, _&&_, cond, _≡_, refl, sym, ap}
+use Rattle.prelude.proofs.Basics.{subst, _∙_, List, [], _∷_, length, take, drop, length-drop, take-append-drop}
+use Rattle.prelude.proofs.Basics.{drop-append-le, drop-at, drop-drop, length-take-le, take-append-le, leb, leb-true}
+use Rattle.prelude.proofs.Basics.{less-or-not}
 use Rattle.varint.proofs.TailLaws.{stands-cut}
-use Rattle.wire.specs.Field.{fieldAt}
-use Rattle.wire.specs.Past.{PastField}
-use Rattle.wire.specs.declared.field.Field.{Field}
-use Rattle.wire.proofs.PastLaws.{field-past}
 use Rattle.wire.proofs.AgreeLaws.{field-longer}
-use Rattle.wire.proofs.MovedLaws.{movedField, field-moved, Tail, tail-length, Stands, stands-length}
-use Rattle.layout.specs.Slots.{noSlots, badSlots}
-use Rattle.layout.specs.Fields.{useOf, noted, fieldsOnto, fieldsAt, hasRequired}
-use Rattle.layout.specs.Part.{embedded}
-use Rattle.layout.specs.Merged.{endOf}
-use Rattle.layout.specs.MergedRules.{allGood, joined}
-use Rattle.layout.specs.declared.part.Part.{Part}
-use Rattle.layout.specs.declared.slots.Slots.{Slots}
+use Rattle.layout.proofs.Names.{fieldAt, PastField, Field, field-past, movedField, field-moved, Stands, Tail}
+use Rattle.layout.proofs.Names.{stands-length, tail-length, noSlots, badSlots, useOf, noted, fieldsOnto}
+use Rattle.layout.proofs.Names.{hasRequired, fieldsAt, embedded, endOf, allGood, joined, Part, Slots}
 use Rattle.layout.proofs.FieldsLaws.{Towards, starts, no-field, goes-on}
 use Rattle.layout.proofs.AlikeLaws.{none-alike, onto-alike}
 use Rattle.layout.proofs.PartLaws.{part-within}

@@ -1,25 +1,14 @@
 -- How often a field with bytes occurs is how many parts it has, and the last is the one that is kept. Assumes nothing.
-use Prim.Native.Nat.{ℕ, zero, suc, _+_, _<_}
-use native.Mathlib.Omega.{arith}
-use mathlib.Core.Bool.{Bool, true, false, not, cond, _&&_}
-use mathlib.Core.Path.{_≡_, refl, sym, ap, subst, _∙_}
-use mathlib.Core.List.{List, [], _∷_, _++_}
-use lib.ListN.{length, getD, set, take, length-append, length-set}
-use lib.Seq.{getD-set-same, getD-set-other}
-use lib.Dec.{ltb, leb, eqb}
-use borrow.Author.Tests.{eqb-true, eqb-false, ltb-true, eq-eqb, ne-eqb, not-true}
-use Rattle.wire.specs.Field.{fieldAt}
-use Rattle.wire.specs.declared.field.Field.{Field}
-use Rattle.layout.specs.Row.{numberOf, wireOf, isRepeated, listedOf, listed, slotCount, rowFor, takes}
-use Rattle.layout.specs.Slots.{noSlots, badSlots}
-use Rattle.layout.specs.Table.{len}
-use Rattle.layout.specs.Fields.{useBy, useOf, noted, onField, fieldsFrom, fieldsOnto, hasRequired, checked}
+use Rattle.prelude.proofs.Basics.{ℕ, zero, suc, _+_, _<_, arith, Bool, true, false, not, _&&_, cond, _≡_, refl, sym, ap}
+use Rattle.prelude.proofs.Basics.{subst, _∙_, List, [], _∷_, _++_, length, getD, take, length-append, length-set}
+use Rattle.prelude.proofs.Basics.{getD-set-other, getD-set-same, eqb, leb, ltb, eq-eqb, eqb-true, ltb-true, ne-eqb}
+use Rattle.prelude.proofs.Basics.{not-true}
+use Rattle.layout.proofs.Names.{fieldAt, Field, len, numberOf, wireOf, isRepeated, listedOf, rowFor, listed}
+use Rattle.layout.proofs.Names.{slotCount, takes, noSlots, badSlots, useOf, noted, onField, fieldsFrom}
+use Rattle.layout.proofs.Names.{fieldsOnto, hasRequired, checked, endOf, isPart, partBy, partsFrom, partsOf}
+use Rattle.layout.proofs.Names.{partsIn, partOnto, partsOnto, Use, Part, Slots}
 use Rattle.layout.specs.Part.{countOf, startOf, lenOf}
-use Rattle.layout.specs.Merged.{endOf, isPart, partBy, partsFrom, partsOf, partsIn, partOnto, partsOnto}
 use Rattle.layout.specs.MergedRules.{holdsBytes, lastStart, lastLen, Keeps, PartsKept}
-use Rattle.layout.specs.declared.part.Part.{Part}
-use Rattle.layout.specs.declared.slots.Slots.{Slots}
-use Rattle.layout.specs.declared.fields.Use.{Use}
 use Rattle.layout.proofs.JointLaws.{not-both, and-first, and-second}
 use Rattle.layout.proofs.KeptLaws.{zeros, same-or-not}
 

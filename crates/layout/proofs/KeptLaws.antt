@@ -1,24 +1,10 @@
 -- The fields that a list keeps lie within its bytes. Assumes nothing.
-use Prim.Native.Nat.{ℕ, zero, suc, _+_, _≤_}
-use native.Mathlib.Omega.{arith}
-use mathlib.Core.Bool.{Bool, true, false}
-use mathlib.Core.Path.{_≡_, refl, ap, _∙_}
-use mathlib.Core.List.{List}
-use lib.ListN.{length, getD, set, replicate, length-set}
-use lib.Seq.{getD-set-same, getD-set-other}
-use lib.Dec.{ltb, eqb}
-use borrow.Author.Tests.{eqb-true, eqb-false}
-use Rattle.prelude.proofs.Cases.{both}
-use Rattle.wire.specs.Field.{fieldAt}
-use Rattle.wire.specs.Past.{PastField}
-use Rattle.wire.specs.declared.field.Field.{Field}
-use Rattle.wire.proofs.PastLaws.{field-past}
-use Rattle.layout.specs.Row.{slotCount}
-use Rattle.layout.specs.Slots.{noSlots, badSlots}
-use Rattle.layout.specs.Fields.{useOf, noted, onField, fieldsFrom, fieldList, hasRequired}
+use Rattle.prelude.proofs.Basics.{ℕ, zero, suc, _+_, _≤_, arith, Bool, true, false, _≡_, refl, ap, _∙_, List, length}
+use Rattle.prelude.proofs.Basics.{getD, set, replicate, length-set, getD-set-other, getD-set-same, eqb, ltb, eqb-false}
+use Rattle.prelude.proofs.Basics.{eqb-true, both}
+use Rattle.layout.proofs.Names.{fieldAt, PastField, Field, field-past, slotCount, noSlots, badSlots, useOf}
+use Rattle.layout.proofs.Names.{noted, onField, fieldsFrom, fieldList, hasRequired, Use, Slots}
 use Rattle.layout.specs.FieldsRules.{KeptWithin}
-use Rattle.layout.specs.declared.slots.Slots.{Slots}
-use Rattle.layout.specs.declared.fields.Use.{Use}
 use Rattle.layout.proofs.FieldsLaws.{kept-slot}
 
 pub zeros : (n k : ℕ) → _≡_ {A = ℕ} (getD (replicate n 0) k 0) 0

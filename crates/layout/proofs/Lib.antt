@@ -1,3 +1,4 @@
+mod Names
 pub mod RowLaws
 pub mod FieldsLaws
 pub mod ArrayLaws

@@ -1,27 +1,12 @@
 -- Going from part to part, whatever is done with each: what the arrays hold, and what the flag says. Assumes nothing.
-use Prim.Native.Nat.{ℕ, zero, suc, _+_, _≤_, _<_}
-use native.Mathlib.Omega.{arith}
-use mathlib.Core.Bool.{Bool, true, false, not, cond, _&&_, _||_}
-use mathlib.Core.Path.{_≡_, refl, sym, ap, subst, _∙_}
-use mathlib.Core.List.{List, [], _∷_, _++_}
-use lib.ListN.{length, take, length-take}
-use lib.Seq.{take-take, length-take-le}
-use lib.Dec.{ltb, leb, eqb}
-use borrow.Author.Tests.{le-leb, eq-eqb, ne-eqb}
-use Rattle.prelude.proofs.Cases.{both, yes, no}
-use Rattle.prelude.proofs.OrLaws.{or-false, or-assoc, or-same}
-use Rattle.wire.specs.Field.{fieldAt}
-use Rattle.wire.specs.Past.{PastField}
-use Rattle.wire.specs.declared.field.Field.{Field}
-use Rattle.wire.proofs.PastLaws.{field-past}
-use Rattle.layout.specs.Slots.{noSlots, badSlots}
-use Rattle.layout.specs.Table.{len}
-use Rattle.layout.specs.Fields.{fieldsOnto, hasRequired, checked}
-use Rattle.layout.specs.Merged.{endOf, isPart, partBy, partsFrom, partsOf, partsIn, partOnto, partsOnto, merged}
-use Rattle.layout.specs.Padded.{listPadded, partPadded, partsPadded}
-use Rattle.layout.specs.private.Arrays.{Noted, Listed, Adds, Holds}
-use Rattle.layout.specs.declared.part.Part.{Part}
-use Rattle.layout.specs.declared.slots.Slots.{Slots}
+use Rattle.prelude.proofs.Basics.{ℕ, zero, suc, _+_, _≤_, _<_, arith, Bool, true, false, _||_, cond, _≡_, refl, sym, ap}
+use Rattle.prelude.proofs.Basics.{subst, _∙_, List, [], _∷_, _++_, length, take, length-take-le, take-take, eqb, ltb}
+use Rattle.prelude.proofs.Basics.{eq-eqb, le-leb, ne-eqb, both, yes, no, or-assoc, or-false, or-same}
+use Rattle.layout.proofs.Names.{fieldAt, PastField, Field, field-past, len, badSlots, fieldsOnto, endOf, isPart}
+use Rattle.layout.proofs.Names.{partBy, partsFrom, partsOf, partsIn, partOnto, partsOnto, listPadded, Part}
+use Rattle.layout.proofs.Names.{Slots}
+use Rattle.layout.specs.Padded.{partPadded, partsPadded}
+use Rattle.layout.specs.private.Arrays.{Noted, Listed, Adds}
 use Rattle.layout.proofs.PartsLaws.{parts-end, parts-on}
 use Rattle.layout.proofs.JointLaws.{not-both}
 use Rattle.layout.proofs.PaddedLaws.{padded-inside}

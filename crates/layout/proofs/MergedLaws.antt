@@ -1,32 +1,17 @@
 -- Messages in parts: one part is the message, each part is a good list, and good parts read as their bytes do where
 -- these stand one after the other. Assumes nothing.
-use Prim.Native.Nat.{ℕ, zero, suc, _+_, _≤_, _<_}
-use native.Mathlib.Omega.{arith}
-use mathlib.Core.Bool.{Bool, true, false, cond, _&&_}
-use mathlib.Core.Path.{_≡_, refl, sym, ap, subst, _∙_}
-use mathlib.Core.List.{List, [], _∷_}
-use lib.ListN.{length, getD, set, take, drop, length-set}
-use lib.Seq.{getD-set-same, getD-set-other}
-use lib.Dec.{ltb, leb}
-use borrow.Author.Tests.{le-leb}
-use Rattle.prelude.proofs.Cases.{both, yes}
-use Rattle.wire.specs.Field.{fieldAt}
-use Rattle.wire.specs.declared.field.Field.{Field}
-use Rattle.wire.proofs.MovedLaws.{Tail, tail-length}
-use Rattle.layout.specs.Row.{slotCount}
-use Rattle.layout.specs.Slots.{noSlots, badSlots}
-use Rattle.layout.specs.Fields.{useOf, noted, onField, fieldsFrom, fieldsOnto, hasRequired, checked}
-use Rattle.layout.specs.Part.{embedded}
-use Rattle.layout.specs.Merged.{endOf, partOnto, partsOnto}
-use Rattle.layout.specs.MergedRules.{OnePart, allGood, EachGood, joined, bytesIn, SameFields, MergesAsGuide}
-use Rattle.layout.specs.declared.part.Part.{Part}
-use Rattle.layout.specs.declared.slots.Slots.{Slots}
-use Rattle.layout.specs.declared.fields.Use.{Use}
+use Rattle.prelude.proofs.Basics.{ℕ, zero, suc, _+_, _<_, arith, Bool, true, false, _&&_, cond, _≡_, refl, sym, ap}
+use Rattle.prelude.proofs.Basics.{subst, _∙_, List, [], _∷_, length, getD, set, take, drop, length-set, getD-set-other}
+use Rattle.prelude.proofs.Basics.{getD-set-same, leb, ltb, le-leb, both, yes}
+use Rattle.layout.proofs.Names.{fieldAt, Field, Tail, tail-length, slotCount, noSlots, badSlots, useOf, noted}
+use Rattle.layout.proofs.Names.{onField, fieldsFrom, fieldsOnto, hasRequired, checked, embedded, endOf, partOnto}
+use Rattle.layout.proofs.Names.{partsOnto, allGood, joined, Use, Part, Slots}
+use Rattle.layout.specs.MergedRules.{OnePart, EachGood, bytesIn, SameFields, MergesAsGuide}
 use Rattle.layout.proofs.FieldsLaws.{Towards, starts-onto, from-end, ends, goes-on, kept-slot}
 use Rattle.layout.proofs.EnoughLaws.{fields-same}
 use Rattle.layout.proofs.KeptLaws.{zeros, same-or-not}
-use Rattle.layout.proofs.JointLaws.{not-both, Joint, here-length, there-length, j-along, joint-rest}
-use Rattle.layout.proofs.JointLaws.{rest-good, first-joint}
+use Rattle.layout.proofs.JointLaws.{not-both, Joint, here-length, there-length, j-along, joint-rest, rest-good}
+use Rattle.layout.proofs.JointLaws.{first-joint}
 
 -- ---- good or not
 

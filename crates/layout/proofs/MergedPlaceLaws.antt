@@ -1,25 +1,14 @@
 -- Where a message in parts stands: what it keeps lies within the bytes; it reads alike wherever its bytes stand; and of
 -- a field with bytes the value is the length. Assumes nothing.
-use Prim.Native.Nat.{ℕ, zero, suc, _+_, _≤_}
-use native.Mathlib.Omega.{arith}
-use mathlib.Core.Bool.{Bool, true, false, cond}
-use mathlib.Core.Path.{_≡_, refl, sym, ap, _∙_}
-use mathlib.Core.List.{List, [], _∷_, _++_, map}
-use lib.ListN.{length, getD, take, length-take}
-use lib.Seq.{length-take-le}
-use lib.Dec.{ltb, leb, eqb}
-use borrow.Author.Tests.{le-leb, leb-true, lt-ltb, le-ltb}
-use Rattle.prelude.proofs.Cases.{both, yes, less-or-not}
-use Rattle.wire.specs.Field.{fieldAt}
-use Rattle.wire.specs.declared.field.Field.{Field}
-use Rattle.wire.proofs.MovedLaws.{movedField, field-moved, Tail, tail-length, Stands, stands-length, stands-take}
-use Rattle.layout.specs.Row.{wireOf, rowFor}
-use Rattle.layout.specs.Slots.{noSlots, badSlots}
-use Rattle.layout.specs.Fields.{fieldsOnto, hasRequired, checked}
-use Rattle.layout.specs.Merged.{endOf, isPart, partBy, partsFrom, partsOf, partsIn, partOnto, partsOnto, merged}
+use Rattle.prelude.proofs.Basics.{ℕ, zero, suc, _+_, _≤_, arith, Bool, true, false, cond, _≡_, refl, sym, ap, _∙_, List}
+use Rattle.prelude.proofs.Basics.{[], _∷_, _++_, length, getD, take, length-take-le, leb, le-leb, le-ltb, leb-true}
+use Rattle.prelude.proofs.Basics.{lt-ltb, both, yes, less-or-not}
+use Rattle.layout.proofs.Names.{fieldAt, Field, movedField, field-moved, Stands, Tail, stands-length}
+use Rattle.layout.proofs.Names.{stands-take, tail-length, wireOf, rowFor, noSlots, badSlots, fieldsOnto}
+use Rattle.layout.proofs.Names.{hasRequired, endOf, isPart, partBy, partsFrom, partsOf, partsIn, partOnto}
+use Rattle.layout.proofs.Names.{partsOnto, Part, Slots}
+use Rattle.layout.specs.Merged.{merged}
 use Rattle.layout.specs.MergedRules.{MergedWithin}
-use Rattle.layout.specs.declared.part.Part.{Part}
-use Rattle.layout.specs.declared.slots.Slots.{Slots}
 use Rattle.layout.proofs.AlikeLaws.{Alike, alike-as, none-alike, bad-alike, checked-alike, onto-alike}
 use Rattle.layout.proofs.ArrayLaws.{SameSize, none-sized, bad-sized, from-sized}
 use Rattle.layout.proofs.KeptLaws.{Kept, none-kept, bad-kept, from-kept-by}

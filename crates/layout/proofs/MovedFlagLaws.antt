@@ -1,16 +1,10 @@
 -- Whether a list is padded does not depend on where its bytes stand. Assumes nothing.
-use Prim.Native.Nat.{ℕ, zero, suc, _+_, _-_, _≤_, _<_}
-use native.Mathlib.Omega.{arith}
-use mathlib.Core.Bool.{Bool, false, _||_}
-use mathlib.Core.Path.{_≡_, refl, sym, ap, ap₂, _∙_}
-use mathlib.Core.List.{List}
-use lib.ListN.{length, take}
-use Rattle.prelude.proofs.Cases.{less-or-not}
-use Rattle.wire.specs.Field.{fieldAt}
-use Rattle.wire.specs.declared.field.Field.{Field}
-use Rattle.wire.proofs.MovedLaws.{movedField, field-moved, Tail, tail-length, Stands, stands-length, stands-take}
+use Rattle.prelude.proofs.Basics.{ℕ, zero, suc, _+_, _-_, _≤_, _<_, arith, Bool, false, _||_, _≡_, refl, sym, ap₂, _∙_}
+use Rattle.prelude.proofs.Basics.{List, length, less-or-not}
 use Rattle.wire.proofs.MovedFlagLaws.{field-flag-moved}
-use Rattle.layout.specs.Padded.{onward, paddedFrom, nothingInside, listPadded, paddedTo}
+use Rattle.layout.proofs.Names.{fieldAt, Field, movedField, field-moved, Stands, Tail, stands-length}
+use Rattle.layout.proofs.Names.{stands-take, tail-length, onward, paddedFrom, nothingInside, listPadded}
+use Rattle.layout.proofs.Names.{paddedTo}
 use Rattle.layout.proofs.PaddedLaws.{flag-end, flag-turn, field-ahead, padded-inside}
 
 module _ {s : List ℕ} {d : ℕ} {t : List ℕ} (k : Tail s d t) where

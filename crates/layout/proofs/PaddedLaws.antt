@@ -1,19 +1,10 @@
 -- Whether a list is padded, field by field. Assumes nothing.
-use Prim.Native.Nat.{ℕ, zero, suc, _+_, _-_, _≤_, _<_}
-use native.Mathlib.Omega.{arith}
-use mathlib.Core.Path.{_≡_, refl, sym, ap, _∙_}
-use mathlib.Core.Bool.{Bool, true, false, cond, _||_}
-use mathlib.Core.List.{List}
-use lib.ListN.{length, take}
-use borrow.Author.Tests.{lt-ltb, le-ltb, le-leb, lt-leb}
-use Rattle.prelude.proofs.Cases.{before-suc}
-use Rattle.prelude.proofs.OrLaws.{or-false, or-assoc, or-same}
-use Rattle.wire.specs.Field.{fieldAt}
+use Rattle.prelude.proofs.Basics.{ℕ, zero, suc, _+_, _-_, _≤_, _<_, arith, Bool, false, _||_, _≡_, refl, sym, ap, _∙_}
+use Rattle.prelude.proofs.Basics.{List, length, take, le-leb, le-ltb, lt-leb, lt-ltb, before-suc, or-assoc, or-false}
+use Rattle.prelude.proofs.Basics.{or-same}
 use Rattle.wire.specs.Padded.{fieldPadded}
-use Rattle.wire.specs.Past.{PastField}
-use Rattle.wire.specs.declared.field.Field.{Field}
-use Rattle.wire.proofs.PastLaws.{field-past}
-use Rattle.layout.specs.Padded.{onward, paddedFrom, paddedList, listPadded, paddedTo}
+use Rattle.layout.proofs.Names.{fieldAt, PastField, Field, field-past, onward, paddedFrom, listPadded, paddedTo}
+use Rattle.layout.specs.Padded.{paddedList}
 
 pub flag-end : (inside : Field → Bool) (most : ℕ) (s : List ℕ) (p : ℕ) → length s ≤ p →
     paddedFrom inside most s p ≡ false

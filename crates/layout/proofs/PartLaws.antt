@@ -1,15 +1,7 @@
 -- Embedded messages, case by case. Assumes nothing.
-use Prim.Native.Nat.{ℕ, _+_, _-_, _≤_, _<_}
-use mathlib.Core.Bool.{false}
-use mathlib.Core.Path.{_≡_, refl, subst}
-use mathlib.Core.List.{List}
-use lib.ListN.{length, take}
-use borrow.Author.Tests.{le-leb, lt-leb}
-use Rattle.layout.specs.Slots.{badSlots}
-use Rattle.layout.specs.Fields.{fieldsAt}
+use Rattle.prelude.proofs.Basics.{ℕ, _+_, _≤_, _<_, false, _≡_, refl, subst, List, length, take, le-leb, lt-leb}
+use Rattle.layout.proofs.Names.{badSlots, fieldsAt, embedded, Slots}
 use Rattle.layout.specs.private.Arrays.{Noted, Holds}
-use Rattle.layout.specs.declared.slots.Slots.{Slots}
-use Rattle.layout.specs.Part.{embedded}
 
 module _ (rows : List (List ℕ)) (s : List ℕ) (start len : ℕ) where
   part-past : length s < start + len → badSlots ≡ embedded rows s start len

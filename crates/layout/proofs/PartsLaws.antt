@@ -1,24 +1,12 @@
 -- Where the parts of a message stand, field by field; and that parts inside good parts are those of the joined bytes.
 -- Assumes nothing.
-use Prim.Native.Nat.{ℕ, zero, suc, _+_, _≤_, _<_}
-use native.Mathlib.Omega.{arith}
-use mathlib.Core.Bool.{Bool, true, false, cond, _&&_}
-use mathlib.Core.Path.{_≡_, refl, sym, ap, _∙_}
-use mathlib.Core.List.{List, [], _∷_, _++_, append-assoc}
-use lib.ListN.{length, take, drop}
-use lib.Dec.{ltb, eqb}
-use borrow.Author.Tests.{lt-ltb, le-ltb}
-use Rattle.wire.specs.Field.{fieldAt}
-use Rattle.wire.specs.Past.{PastField}
-use Rattle.wire.specs.declared.field.Field.{Field}
-use Rattle.wire.proofs.PastLaws.{field-past}
-use Rattle.wire.proofs.MovedLaws.{Tail, tail-length}
-use Rattle.layout.specs.Table.{len}
-use Rattle.layout.specs.Merged.{endOf, partBy, partsFrom, partsOf, partsIn}
-use Rattle.layout.specs.MergedRules.{allGood, joined, InnerAsGuide}
-use Rattle.layout.specs.declared.part.Part.{Part}
-use Rattle.layout.proofs.JointLaws.{Joint, InBoth, here-length, there-length, j-along, joint-rest}
-use Rattle.layout.proofs.JointLaws.{rest-good, first-joint}
+use Rattle.prelude.proofs.Basics.{ℕ, zero, suc, _+_, _≤_, _<_, arith, Bool, true, false, _&&_, cond, _≡_, refl, sym, ap}
+use Rattle.prelude.proofs.Basics.{_∙_, List, [], _∷_, _++_, append-assoc, length, take, drop, eqb, ltb, le-ltb, lt-ltb}
+use Rattle.layout.proofs.Names.{fieldAt, PastField, Field, field-past, Tail, tail-length, len, endOf, partBy}
+use Rattle.layout.proofs.Names.{partsFrom, partsOf, partsIn, allGood, joined, Part}
+use Rattle.layout.specs.MergedRules.{InnerAsGuide}
+use Rattle.layout.proofs.JointLaws.{Joint, here-length, there-length, j-along, joint-rest, rest-good}
+use Rattle.layout.proofs.JointLaws.{first-joint}
 
 -- ---- fuel that is enough makes no difference
 

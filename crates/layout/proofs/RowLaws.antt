@@ -1,14 +1,7 @@
 -- Finding a row, and what it takes, case by case. Assumes nothing.
-use Prim.Native.Nat.{ℕ, _+_, _/_, _%_, _^_, _≤_, _<_}
-use native.Mathlib.Numerals.{add-one}
-use mathlib.Core.Bool.{true, false}
-use mathlib.Core.Path.{_≡_}
-use mathlib.Core.List.{List, []}
-use lib.ListN.{length, getD, drop, drop-of-length-le}
-use lib.Seq.{drop-cons}
-use lib.Dec.{eqb}
-use borrow.Author.Tests.{lt-ltb, le-ltb, eq-eqb, ne-eqb}
-use Rattle.layout.specs.Row.{numberOf, wireOf, listedOf, noRow, rowFor, listed, takes, slotCount}
+use Rattle.prelude.proofs.Basics.{ℕ, _+_, _/_, _%_, _^_, _≤_, _<_, add-one, true, false, _≡_, List, [], length, getD}
+use Rattle.prelude.proofs.Basics.{drop, drop-of-length-le, drop-cons, eqb, eq-eqb, le-ltb, lt-ltb, ne-eqb}
+use Rattle.layout.proofs.Names.{numberOf, wireOf, listedOf, noRow, rowFor, listed, slotCount, takes}
 
 module _ (rows : List (List ℕ)) (number i : ℕ) where
   pub row-hit : i < length rows → numberOf (getD rows i []) ≡ number → getD rows i [] ≡ rowFor (drop i rows) number

@@ -1,13 +1,8 @@
 -- The layout table, row by row: computed tests over it. Assumes nothing.
-use Prim.Native.Nat.{ℕ, zero, suc, _/_, _%_, _^_, _≤_, _<_}
-use native.Mathlib.Omega.{arith}
-use mathlib.Core.Bool.{Bool, true, false, cond, not, _&&_}
-use mathlib.Core.Path.{_≡_, refl, sym}
-use mathlib.Core.List.{List, [], _∷_}
-use lib.Dec.{ltb, eqb}
-use borrow.Author.Tests.{ne-eqb, eqb-true, eqb-false, ltb-true, ltb-false}
-use Rattle.layout.specs.Row.{rowFor}
-use Rattle.layout.specs.Table.{listing, rowsOf, stmtTypes, openTypes, anyTypes, scalarTypes}
+use Rattle.prelude.proofs.Basics.{ℕ, zero, suc, _/_, _%_, _^_, _≤_, _<_, arith, Bool, true, false, not, _&&_, cond, _≡_}
+use Rattle.prelude.proofs.Basics.{refl, sym, List, [], _∷_, eqb, ltb, eqb-false, eqb-true, ltb-false, ltb-true, ne-eqb}
+use Rattle.layout.proofs.Names.{rowsOf, rowFor}
+use Rattle.layout.specs.Table.{listing, stmtTypes, openTypes, anyTypes, scalarTypes}
 use Rattle.layout.specs.TableRules.{RowsApart, RepeatedAreArgs, among, TypesListed}
 
 pub rows-apart : RowsApart

@@ -1,29 +1,14 @@
 -- What a field list does not read: the bytes of a field that has bytes. Assumes nothing.
-use Prim.Native.Nat.{ℕ, zero, suc, _+_, _≤_, _<_}
-use native.Mathlib.Omega.{arith}
-use mathlib.Core.Bool.{Bool, true, false, cond}
-use mathlib.Core.Logic.{_⊎_, inl, inr, ⊎-elim}
-use mathlib.Core.Path.{_≡_, refl, sym, ap, subst, _∙_}
-use mathlib.Core.List.{List}
-use lib.ListN.{length, getD, set}
-use lib.Seq.{getD-set-same, getD-set-other}
-use lib.Dec.{ltb, eqb}
-use borrow.Author.Tests.{lt-ltb, eqb-true}
-use Rattle.prelude.proofs.Cases.{both}
-use Rattle.wire.specs.Field.{fieldAt}
-use Rattle.wire.specs.Past.{PastField}
-use Rattle.wire.specs.declared.field.Field.{Field}
+use Rattle.prelude.proofs.Basics.{ℕ, zero, suc, _+_, _≤_, _<_, arith, Bool, true, false, cond, _≡_, refl, sym, ap}
+use Rattle.prelude.proofs.Basics.{subst, _∙_, _⊎_, inl, inr, ⊎-elim, List, length, getD, set, getD-set-other}
+use Rattle.prelude.proofs.Basics.{getD-set-same, eqb, ltb, eqb-true, lt-ltb, both}
 use Rattle.wire.proofs.AgreeLaws.{Agree, reach, reach-le, field-kept, Tails, tails-later, field-tail}
-use Rattle.wire.proofs.PastLaws.{field-past}
+use Rattle.layout.proofs.Names.{fieldAt, PastField, Field, field-past, len, numberOf, wireOf, isRepeated, rowFor}
+use Rattle.layout.proofs.Names.{slotCount, takes, noSlots, badSlots, useOf, noted, onField, fieldsFrom}
+use Rattle.layout.proofs.Names.{fieldList, hasRequired, checked, fieldsAt, startIn, endIn, Use, Slots}
 use Rattle.layout.specs.SameBut.{SameBut}
-use Rattle.layout.specs.Row.{numberOf, wireOf, isRepeated, rowFor, takes, slotCount}
-use Rattle.layout.specs.Table.{len}
-use Rattle.layout.specs.Slots.{noSlots, badSlots}
-use Rattle.layout.specs.Fields.{useOf, noted, onField, fieldsFrom, fieldList, hasRequired, checked, fieldsAt}
-use Rattle.layout.specs.FieldsRules.{startIn, endIn, BytesUnread, FieldUnread}
+use Rattle.layout.specs.FieldsRules.{BytesUnread, FieldUnread}
 use Rattle.layout.specs.Reaches.{Reaches, stays, passes}
-use Rattle.layout.specs.declared.slots.Slots.{Slots}
-use Rattle.layout.specs.declared.fields.Use.{Use}
 use Rattle.layout.proofs.FieldsLaws.{kept-slot}
 use Rattle.layout.proofs.KeptLaws.{same-or-not, zeros, Kept, none-kept, noted-kept, from-kept}
 use Rattle.layout.proofs.EnoughLaws.{field-same}

@@ -1,31 +1,19 @@
 -- Frames from the arrays that hold their fields. Assumes nothing.
-use Prim.Native.Nat.{ℕ, _+_}
-use mathlib.Core.Bool.{Bool, true, false, not}
-use mathlib.Core.Path.{_≡_, refl, sym, ap, _∙_}
-use mathlib.Core.List.{List}
-use lib.ListN.{length, getD}
-use lib.Dec.{eqb}
-use Rattle.prelude.proofs.Cases.{both, yes, no as without}
+use Rattle.prelude.proofs.Basics.{ℕ, _+_, Bool, true, false, not, _≡_, refl, sym, ap, _∙_, List, length, getD, eqb}
+use Rattle.prelude.proofs.Basics.{both, yes, no as without}
 use Rattle.protocol.specs.Client as Client
-use Rattle.layout.specs.Row.{wireOf, rowFor}
-use Rattle.layout.specs.Table.{rowsOf, prepareStmt, openStmt}
-use Rattle.layout.specs.Fields.{fieldsAt}
 use Rattle.layout.specs.private.Arrays.{Holds}
-use Rattle.layout.specs.declared.slots.Slots.{Slots}
-use Rattle.layout.proofs.ArrayLaws.{held-good, held-value, held-start, held-none, held-absent, held-present}
-use Rattle.layout.proofs.ArrayLaws.{bytes-long, bytes-long-to}
-use Rattle.layout.specs.Part.{embedded, absent, countOf, valueOf, startOf, lenOf, low32}
-use Rattle.args.specs.declared.arguments.Arguments.{Arguments}
+use Rattle.layout.proofs.ArrayLaws.{held-value, held-start, held-none, held-absent, held-present, bytes-long}
+use Rattle.layout.proofs.ArrayLaws.{bytes-long-to}
+use Rattle.message.proofs.Names.{prepareStmt, openStmt, rowsOf, wireOf, rowFor, fieldsAt, embedded, countOf}
+use Rattle.message.proofs.Names.{absent, valueOf, startOf, lenOf, low32, Slots, held-good, Arguments, payload}
+use Rattle.message.proofs.Names.{ifGood, optionalBy, optionalOf, fetchIn, executeIn, openFrom, openInside}
+use Rattle.message.proofs.Names.{openFrame, prepareFrom, prepareInside, prepareFrame, Execute, Frame, Optional}
+use Rattle.message.proofs.Names.{Request}
 use Rattle.message.specs.Operation as Operation
-use Rattle.message.specs.Payload.{payload, ifGood, optionalBy, optional, optionalOf}
-use Rattle.message.specs.Simple.{fetchIn}
-use Rattle.message.specs.Execute.{executeIn, openFrom, openInside, openFrame}
-use Rattle.message.specs.Prepare.{bodyIn, prepareFrom, prepareChosen, prepareTyped, prepareInside, prepareFrame}
+use Rattle.message.specs.Payload.{optional}
+use Rattle.message.specs.Prepare.{bodyIn, prepareChosen, prepareTyped}
 use Rattle.message.proofs.MessageLaws.{payload-bad, payload-good, neither, first-only, both-hold}
-use Rattle.message.specs.declared.request.Optional.{Optional}
-use Rattle.message.specs.declared.request.Execute.{Execute}
-use Rattle.message.specs.declared.request.Request.{Request}
-use Rattle.message.specs.declared.request.Frame.{Frame}
 
 -- an optional field
 optional-held : {x : Slots} {g : Bool} {v w u : List ℕ} → Holds x g v w u → (k : ℕ) →

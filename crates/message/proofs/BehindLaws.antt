@@ -1,25 +1,14 @@
 -- Bytes behind a frame are not read. Assumes nothing.
-use Prim.Native.Nat.{ℕ, zero, suc, _+_, _*_, _≤_, _<_}
-use native.Mathlib.Omega.{arith}
-use mathlib.Core.Bool.{Bool, true, false}
-use mathlib.Core.Path.{_≡_, refl, sym, ap, ap₂, _∙_}
-use mathlib.Core.List.{List, _++_}
-use lib.ListN.{length, getD, take, drop, length-append, length-drop, List·getD-append}
-use lib.Seq.{take-append-le, drop-append-le}
-use lib.Dec.{leb, ltb, eqb}
-use borrow.Author.Tests.{le-leb, le-ltb, leb-true, ltb-false, eqb-false}
+use Rattle.prelude.proofs.Basics.{ℕ, zero, suc, _+_, _*_, _≤_, _<_, arith, Bool, true, false, _≡_, refl, sym, ap, ap₂}
+use Rattle.prelude.proofs.Basics.{_∙_, List, _++_, length, getD, take, drop, List·getD-append, length-append}
+use Rattle.prelude.proofs.Basics.{length-drop, drop-append-le, take-append-le, eqb, leb, ltb, eqb-false, le-leb, le-ltb}
+use Rattle.prelude.proofs.Basics.{leb-true, ltb-false}
 use Rattle.protocol.specs.Reason as Reason
-use Rattle.scalar.specs.Fixed.{little}
-use Rattle.args.specs.Arguments.{nthArgument}
-use Rattle.message.specs.Head.{lengthBytes, maxLength, lengthOf, headOf}
-use Rattle.message.specs.Payload.{payload}
-use Rattle.message.specs.Request.{argsOf}
-use Rattle.message.specs.Frame.{frameIn, ofHead, frameOf, reasonOf, usedOf, partOf, chosenPart, bodyIn}
-use Rattle.message.specs.Frame.{argumentIn}
-use Rattle.message.specs.WithinRules.{PartsInside}
+use Rattle.message.proofs.Names.{little, nthArgument, lengthBytes, maxLength, lengthOf, headOf, argsOf, payload}
+use Rattle.message.proofs.Names.{frameIn, ofHead, frameOf, reasonOf, usedOf, partOf, chosenPart, argumentIn}
+use Rattle.message.proofs.Names.{PartsInside, Head, Frame}
+use Rattle.message.specs.Frame.{bodyIn}
 use Rattle.message.specs.UnreadRules.{BehindUnread}
-use Rattle.message.specs.declared.head.Head.{Head}
-use Rattle.message.specs.declared.request.Frame.{Frame}
 use Rattle.message.proofs.WithinLaws.{frame-within}
 use Rattle.message.proofs.UsedLaws.{lies-in-frame}
 

@@ -1,29 +1,17 @@
 -- An Execute, and a StmtExecute's body, by what one pass over it finds. Assumes nothing.
-use Prim.Native.Nat.{ℕ, _+_}
-use mathlib.Core.Bool.{Bool, true, false}
-use mathlib.Core.Path.{_≡_, refl, sym, ap, _∙_}
-use mathlib.Core.List.{List}
-use lib.ListN.{take}
-use Rattle.layout.specs.Row.{rowFor}
-use Rattle.layout.specs.Table.{rowsOf, stmtExecute}
-use Rattle.layout.specs.Fields.{hasRequired}
-use Rattle.layout.specs.declared.slots.Slots.{Slots}
-use Rattle.layout.proofs.CountLaws.{good-list}
-use Rattle.layout.specs.Part.{embedded, valueOf, low32}
+use Rattle.prelude.proofs.Basics.{ℕ, _+_, Bool, true, false, _≡_, refl, sym, ap, _∙_, List, take}
 use Rattle.args.specs.private.Pair.{textIn}
-use Rattle.args.specs.Arguments.{noArguments, badArguments, argumentsIn}
 use Rattle.args.specs.private.Bound.{rowsBy, boundIn, argsOf}
-use Rattle.args.specs.declared.arguments.Arguments.{Arguments}
 use Rattle.args.specs.declared.bound.Bound.{Bound}
 use Rattle.args.specs.declared.pair.Text.{Text}
-use Rattle.args.proofs.TextLaws.{told, text-kept, text-arguments}
-use Rattle.args.proofs.BoundLaws.{bound-found, bound-lost, found-arguments, lost-arguments}
+use Rattle.args.proofs.TextLaws.{text-kept, text-arguments}
+use Rattle.args.proofs.BoundLaws.{bound-lost, found-arguments, lost-arguments}
+use Rattle.message.proofs.Names.{stmtExecute, rowsOf, rowFor, hasRequired, embedded, valueOf, low32, Slots}
+use Rattle.message.proofs.Names.{good-list, noArguments, badArguments, argumentsIn, Arguments, told, bound-found}
+use Rattle.message.proofs.Names.{optionalBy, optionalOf, truthOf, badExecute, argumentsWithin, executeOf}
+use Rattle.message.proofs.Names.{executeIn, Execute, Optional}
 use Rattle.message.specs.Operation as Operation
-use Rattle.message.specs.Payload.{optionalBy, optionalOf, truthOf}
-use Rattle.message.specs.Execute.{argumentsWithin, badExecute, executeOf, executeIn}
 use Rattle.message.specs.Prepare.{bodyIn}
-use Rattle.message.specs.declared.request.Optional.{Optional}
-use Rattle.message.specs.declared.request.Execute.{Execute}
 use Rattle.message.proofs.MessageLaws.{within-there, execute-bad, execute-worse, execute-good, body-stmt-bad}
 use Rattle.message.proofs.MessageLaws.{body-stmt}
 

@@ -1,32 +1,20 @@
 -- The id that stands first, with a field behind it: what a message's rows make of them, and a Fetch and a Prepare of
 -- them. Assumes nothing.
-use Prim.Native.Nat.{ℕ, _+_, _-_, _/_, _%_, _≤_, _<_}
-use native.Mathlib.Omega.{arith}
-use mathlib.Core.Bool.{true}
-use mathlib.Core.Path.{_≡_, refl, sym, ap, _∙_}
-use mathlib.Core.List.{List}
-use lib.ListN.{length, getD}
+use Rattle.prelude.proofs.Basics.{ℕ, _+_, _-_, _/_, _%_, _≤_, _<_, arith, true, _≡_, refl, sym, ap, _∙_, List, length}
+use Rattle.prelude.proofs.Basics.{getD}
 use Rattle.protocol.specs.Client as Client
-use Rattle.varint.specs.Varint.{varintAt}
-use Rattle.varint.specs.declared.Varint.{Varint}
-use Rattle.wire.specs.Value.{ofVarint, asNumber, asLength}
-use Rattle.wire.specs.Field.{ofValue, fieldOf, fieldAt}
+use Rattle.wire.specs.Value.{asNumber}
+use Rattle.wire.specs.Field.{fieldOf}
 use Rattle.wire.specs.Past.{PastField}
-use Rattle.wire.specs.declared.value.Value.{Value}
-use Rattle.wire.specs.declared.field.Field.{Field}
-use Rattle.wire.proofs.FieldLaws.{quick-wire}
 use Rattle.wire.proofs.PastLaws.{field-past}
 use Rattle.wire.proofs.LongLaws.{LongField, field-long}
-use Rattle.layout.specs.Table.{rowsOf}
-use Rattle.layout.specs.Row.{rowFor}
-use Rattle.layout.specs.Slots.{noSlots}
-use Rattle.layout.specs.Fields.{useOf, noted, checked, hasRequired}
-use Rattle.layout.specs.declared.slots.Slots.{Slots}
-use Rattle.layout.specs.declared.fields.Use.{Use}
-use Rattle.layout.proofs.FieldsLaws.{Listing, starts, goes-on, ends}
-use Rattle.message.specs.Payload.{payload}
-use Rattle.message.specs.Simple.{fetchIn, fetchFrame}
-use Rattle.message.specs.Prepare.{prepareInside, prepareOf, prepareFrame}
+use Rattle.layout.specs.Fields.{useOf}
+use Rattle.layout.proofs.FieldsLaws.{starts}
+use Rattle.message.proofs.Names.{varintAt, Varint, ofVarint, asLength, ofValue, fieldAt, Field, Value}
+use Rattle.message.proofs.Names.{quick-wire, rowsOf, rowFor, noSlots, noted, checked, hasRequired, Use, Slots}
+use Rattle.message.proofs.Names.{Listing, ends, goes-on, payload, fetchIn, fetchFrame, prepareInside}
+use Rattle.message.proofs.Names.{prepareFrame}
+use Rattle.message.specs.Prepare.{prepareOf}
 use Rattle.message.specs.private.First.{idTag, Starts}
 use Rattle.message.specs.private.Parts.{fetchOf}
 

@@ -1,17 +1,10 @@
 -- A frame's head, case by case. Assumes nothing.
-use Prim.Native.Nat.{ℕ, _+_, _≤_, _<_}
-use native.Mathlib.Omega.{arith}
-use mathlib.Core.Bool.{Bool, true, false, cond}
-use mathlib.Core.Path.{_≡_, refl, sym, ap, _∙_}
-use mathlib.Core.List.{List}
-use lib.ListN.{length, getD}
-use lib.Dec.{leb}
-use borrow.Author.Tests.{lt-ltb, le-ltb, le-leb, eq-eqb, ne-eqb, leb-true}
+use Rattle.prelude.proofs.Basics.{ℕ, _+_, _≤_, _<_, arith, Bool, true, false, cond, _≡_, refl, sym, ap, _∙_, List}
+use Rattle.prelude.proofs.Basics.{length, getD, leb, eq-eqb, le-leb, le-ltb, leb-true, lt-ltb, ne-eqb}
 use Rattle.protocol.specs.Reason as Reason
-use Rattle.scalar.specs.Fixed.{little, fixedAt}
+use Rattle.scalar.specs.Fixed.{fixedAt}
 use Rattle.scalar.specs.declared.fixed.Fixed.{Fixed}
-use Rattle.message.specs.Head.{lengthBytes, maxLength, lengthOf, headOf}
-use Rattle.message.specs.declared.head.Head.{Head}
+use Rattle.message.proofs.Names.{little, lengthBytes, maxLength, lengthOf, headOf, Head}
 
 fixed-cases : (s : List ℕ) (f : Fixed) → f ≡ fixedAt lengthBytes s 0 →
     (b : Bool) → leb lengthBytes (length s) ≡ b →

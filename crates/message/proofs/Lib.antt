@@ -1,3 +1,4 @@
+mod Names
 pub mod HeadLaws
 pub mod MessageLaws
 pub mod WithinLaws

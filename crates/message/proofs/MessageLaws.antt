@@ -1,26 +1,12 @@
 -- Frames, case by case. Assumes nothing.
-use Prim.Native.Nat.{ℕ, _+_, _≤_, _<_}
-use mathlib.Core.Bool.{Bool, true, false, cond, _&&_}
-use mathlib.Core.Path.{_≡_, ap, _∙_}
-use mathlib.Core.List.{List, []}
-use lib.ListN.{length, take}
-use borrow.Author.Tests.{eq-eqb, ne-eqb, le-leb, lt-leb}
-use Rattle.prelude.proofs.Cases.{yes, no as without}
+use Rattle.prelude.proofs.Basics.{ℕ, _+_, _≤_, _<_, Bool, true, false, _&&_, cond, _≡_, ap, _∙_, List, [], length, take}
+use Rattle.prelude.proofs.Basics.{eq-eqb, le-leb, lt-leb, ne-eqb, yes, no as without}
 use Rattle.protocol.specs.Client as Client
-use Rattle.args.specs.Arguments.{noArguments, badArguments, argumentsIn}
-use Rattle.layout.specs.Part.{embedded, valueOf, low32}
-use Rattle.args.specs.declared.arguments.Arguments.{Arguments}
-use Rattle.layout.specs.declared.slots.Slots.{Slots}
-use Rattle.layout.specs.Table.{rowsOf, stmtExecute}
+use Rattle.message.proofs.Names.{stmtExecute, rowsOf, embedded, valueOf, low32, Slots, noArguments, badArguments}
+use Rattle.message.proofs.Names.{argumentsIn, Arguments, ifGood, optionalOf, truthOf, badExecute}
+use Rattle.message.proofs.Names.{argumentsWithin, executeOf, frameIn, Execute, Frame, Optional, Request}
 use Rattle.message.specs.Operation as Operation
-use Rattle.message.specs.Payload.{ifGood, optionalOf, truthOf}
-use Rattle.message.specs.Execute.{argumentsWithin, badExecute, executeOf}
 use Rattle.message.specs.Prepare.{bodyIn}
-use Rattle.message.specs.Frame.{frameIn}
-use Rattle.message.specs.declared.request.Optional.{Optional}
-use Rattle.message.specs.declared.request.Execute.{Execute}
-use Rattle.message.specs.declared.request.Request.{Request}
-use Rattle.message.specs.declared.request.Frame.{Frame}
 
 -- a payload that is good or not
 module _ (s : List ℕ) (kind : ℕ) (q : Request) {good : Bool} where

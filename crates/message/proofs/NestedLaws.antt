@@ -1,22 +1,14 @@
 -- A message embedded in a field of the payload: bytes of a field of it that are others leave both as they are. Assumes
 -- nothing.
-use Prim.Native.Nat.{ℕ, _+_, _≤_, _<_}
-use native.Mathlib.Omega.{arith}
-use mathlib.Core.Bool.{Bool, true, false, cond}
-use mathlib.Core.Path.{_≡_, refl, ap, _∙_}
-use mathlib.Core.List.{List}
-use lib.ListN.{getD}
+use Rattle.prelude.proofs.Basics.{ℕ, _+_, _≤_, _<_, arith, Bool, true, false, cond, _≡_, refl, ap, _∙_, List, getD}
 use Rattle.layout.specs.SameBut.{SameBut}
-use Rattle.layout.specs.Row.{wireOf, isRepeated, rowFor}
-use Rattle.layout.specs.Table.{len}
-use Rattle.layout.specs.Fields.{hasRequired, fieldList, fieldsAt}
-use Rattle.layout.specs.FieldsRules.{startIn, endIn}
+use Rattle.layout.specs.Row.{isRepeated}
+use Rattle.layout.specs.Fields.{fieldList}
 use Rattle.layout.specs.Slots.{badSlots}
-use Rattle.layout.specs.declared.slots.Slots.{Slots}
 use Rattle.layout.proofs.UnreadLaws.{kept-behind, bytes-unread}
-use Rattle.layout.specs.Part.{embedded, absent, countOf, startOf, lenOf}
-use Rattle.args.proofs.UnreadLaws.{same-wider, field-in, embedded-unread}
-use Rattle.message.specs.Payload.{payload}
+use Rattle.args.proofs.UnreadLaws.{field-in, embedded-unread}
+use Rattle.message.proofs.Names.{len, wireOf, rowFor, fieldsAt, hasRequired, embedded, countOf, absent, startOf}
+use Rattle.message.proofs.Names.{lenOf, startIn, endIn, Slots, same-wider, payload}
 
 -- a field that has bytes and stands once
 abbrev pub Bytes : List (List ℕ) → ℕ → Type 0

@@ -1,44 +1,22 @@
 -- Bytes in which one argument reads alike mean the same message. Assumes nothing.
-use Prim.Native.Nat.{ℕ, _+_, _-_, _≤_, _<_}
-use native.Mathlib.Omega.{arith}
-use mathlib.Core.Bool.{Bool, true, false, not, cond, _&&_}
-use mathlib.Core.Logic.{_⊎_, inl, inr, ⊎-elim}
-use mathlib.Core.Path.{_≡_, refl, sym, ap, ap₂, subst, _∙_}
-use mathlib.Core.List.{List, []}
-use lib.ListN.{length, getD, take}
-use lib.Seq.{length-take-le}
-use lib.Dec.{leb, eqb}
-use borrow.Author.Tests.{leb-true, eq-eqb}
-use Rattle.prelude.proofs.Cases.{both}
+use Rattle.prelude.proofs.Basics.{ℕ, _+_, _-_, _≤_, _<_, arith, Bool, true, false, not, _&&_, cond, _≡_, refl, sym, ap}
+use Rattle.prelude.proofs.Basics.{ap₂, subst, _∙_, _⊎_, inl, inr, ⊎-elim, List, [], length, getD, take, length-take-le}
+use Rattle.prelude.proofs.Basics.{eqb, leb, eq-eqb, leb-true, both}
 use Rattle.protocol.specs.Client as Client
 use Rattle.protocol.specs.Reason as Reason
-use Rattle.layout.specs.Row.{rowFor}
-use Rattle.layout.specs.Table.{rowsOf, prepareStmt, stmtExecute, openStmt, len}
-use Rattle.layout.specs.Fields.{hasRequired, fieldsAt}
-use Rattle.layout.specs.FieldsRules.{startIn, endIn}
-use Rattle.layout.specs.declared.slots.Slots.{Slots}
-use Rattle.scalar.specs.declared.argument.Argument.{Argument}
-use Rattle.layout.specs.Part.{embedded, absent, valueOf, startOf, lenOf, low32}
-use Rattle.args.specs.Arguments.{noArguments, badArguments, together, argumentsAt}
-use Rattle.args.specs.UnreadRules.{typeIn, OneField}
-use Rattle.args.specs.declared.arguments.Arguments.{Arguments}
+use Rattle.args.specs.UnreadRules.{OneField}
 use Rattle.args.proofs.ArgumentsLaws.{together-kept}
-use Rattle.args.proofs.UnreadLaws.{same-wider, take-size, one-inside, one-cut, cut-start}
-use Rattle.args.proofs.UnreadLaws.{one-embedded, one-list}
+use Rattle.args.proofs.UnreadLaws.{one-inside, one-cut, cut-start, one-embedded, one-list}
+use Rattle.message.proofs.Names.{Argument, prepareStmt, stmtExecute, openStmt, len, rowsOf, rowFor, fieldsAt}
+use Rattle.message.proofs.Names.{hasRequired, embedded, absent, valueOf, startOf, lenOf, low32, startIn, endIn}
+use Rattle.message.proofs.Names.{Slots, argumentsAt, noArguments, badArguments, together, typeIn, Arguments}
+use Rattle.message.proofs.Names.{same-wider, take-size, headOf, argsOf, payload, optionalOf, resetFrame}
+use Rattle.message.proofs.Names.{sessionCloseFrame, deallocateFrame, closeFrame, fetchFrame, argumentsWithin}
+use Rattle.message.proofs.Names.{executeIn, executeFrame, openFrame, prepareFrame, frameIn, ofHead, frameOf}
+use Rattle.message.proofs.Names.{usedOf, PartsInside, prepareIn, stmtIn, Head, Execute, Frame, Request}
 use Rattle.message.specs.Operation as Operation
-use Rattle.message.specs.Request.{argsOf}
-use Rattle.message.specs.Payload.{payload, optionalOf}
-use Rattle.message.specs.Simple.{resetFrame, sessionCloseFrame, deallocateFrame, closeFrame, fetchFrame}
-use Rattle.message.specs.Execute.{argumentsWithin, executeIn, executeFrame, openFrame}
-use Rattle.message.specs.Prepare.{bodyIn, prepareFrame}
-use Rattle.message.specs.Head.{headOf}
-use Rattle.message.specs.Frame.{frameIn, ofHead, frameOf, usedOf}
-use Rattle.message.specs.WithinRules.{PartsInside}
-use Rattle.message.specs.UnreadRules.{prepareIn, stmtIn, ArgumentUnread}
-use Rattle.message.specs.declared.head.Head.{Head}
-use Rattle.message.specs.declared.request.Execute.{Execute}
-use Rattle.message.specs.declared.request.Request.{Request}
-use Rattle.message.specs.declared.request.Frame.{Frame}
+use Rattle.message.specs.Prepare.{bodyIn}
+use Rattle.message.specs.UnreadRules.{ArgumentUnread}
 use Rattle.message.proofs.WithinLaws.{execute-good-inv, every-frame, frame-within}
 use Rattle.message.proofs.UsedLaws.{uses-all}
 use Rattle.message.proofs.BehindLaws.{head-same}

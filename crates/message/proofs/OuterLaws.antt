@@ -1,33 +1,13 @@
 -- An Open's own fields in their order: what its rows make of them. Assumes nothing.
-use Prim.Native.Nat.{ℕ, _+_, _-_, _≤_, _<_}
-use native.Mathlib.Omega.{arith}
-use mathlib.Core.Bool.{Bool, true, false}
-use mathlib.Core.Path.{_≡_, refl, sym, ap, _∙_}
-use mathlib.Core.List.{List}
-use lib.ListN.{length, getD}
-use Rattle.prelude.proofs.Cases.{yes}
+use Rattle.prelude.proofs.Basics.{ℕ, _+_, _-_, _≤_, _<_, arith, Bool, true, false, _≡_, refl, sym, ap, _∙_, List}
+use Rattle.prelude.proofs.Basics.{length, getD, yes}
 use Rattle.protocol.specs.Client as Client
-use Rattle.varint.specs.Varint.{varintAt}
-use Rattle.varint.specs.declared.Varint.{Varint}
-use Rattle.wire.specs.Value.{ofVarint, asLength}
-use Rattle.wire.specs.Field.{ofValue, fieldAt}
-use Rattle.wire.specs.declared.value.Value.{Value}
-use Rattle.wire.specs.declared.field.Field.{Field}
-use Rattle.wire.proofs.FieldLaws.{quick-wire}
-use Rattle.layout.specs.Row.{rowFor}
-use Rattle.layout.specs.Table.{rowsOf}
-use Rattle.layout.specs.Slots.{noSlots}
-use Rattle.layout.specs.Fields.{noted, hasRequired, checked, fieldsAt}
-use Rattle.layout.specs.declared.slots.Slots.{Slots}
-use Rattle.layout.specs.declared.fields.Use.{Use}
-use Rattle.layout.proofs.FieldsLaws.{Listing, goes-on, ends}
-use Rattle.layout.specs.Part.{valueOf, startOf, lenOf}
-use Rattle.message.specs.Payload.{payload, optionalBy, optionalOf}
-use Rattle.message.specs.Execute.{openInside, openFrame}
+use Rattle.message.proofs.Names.{varintAt, Varint, ofVarint, asLength, ofValue, fieldAt, Field, Value}
+use Rattle.message.proofs.Names.{quick-wire, rowsOf, rowFor, noSlots, noted, checked, fieldsAt, hasRequired}
+use Rattle.message.proofs.Names.{valueOf, startOf, lenOf, Use, Slots, Listing, ends, goes-on, payload}
+use Rattle.message.proofs.Names.{optionalBy, optionalOf, openInside, openFrame, Frame, Optional}
 use Rattle.message.specs.private.First.{Starts}
 use Rattle.message.specs.private.Outer.{Opens}
-use Rattle.message.specs.declared.request.Optional.{Optional}
-use Rattle.message.specs.declared.request.Frame.{Frame}
 use Rattle.message.proofs.FirstLaws.{bytes-behind, two-listed}
 
 abbrev rows-of : List (List ℕ)

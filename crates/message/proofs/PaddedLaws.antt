@@ -1,47 +1,24 @@
 -- Whether a message is padded, by what its readers find. Assumes nothing.
-use Prim.Native.Nat.{ℕ, _+_, _-_, _%_, _≤_, _<_}
-use native.Mathlib.Omega.{arith}
-use mathlib.Core.Bool.{Bool, true, false, cond, _||_}
-use mathlib.Core.Path.{_≡_, refl, sym, ap, ap₂, _∙_}
-use mathlib.Core.List.{List}
-use lib.ListN.{length, take, getD}
-use lib.Seq.{take-length}
-use lib.Dec.{eqb}
-use Rattle.prelude.proofs.Cases.{both}
-use Rattle.prelude.proofs.OrLaws.{or-false, or-assoc, or-same, or-then}
+use Rattle.prelude.proofs.Basics.{ℕ, _+_, _%_, _≤_, _<_, arith, Bool, true, false, _||_, _≡_, refl, sym, ap, ap₂, _∙_}
+use Rattle.prelude.proofs.Basics.{List, length, getD, take-length, eqb, both, or-assoc, or-false, or-same, or-then}
 use Rattle.protocol.specs.Client as Client
 use Rattle.protocol.specs.Reason as Reason
-use Rattle.varint.specs.Padded.{paddedAt}
-use Rattle.varint.specs.Varint.{varintAt}
-use Rattle.varint.specs.declared.Varint.{Varint}
-use Rattle.wire.specs.Value.{ofVarint, asLength}
-use Rattle.wire.specs.Padded.{valuePadded, fieldPadded}
-use Rattle.wire.specs.Field.{fieldAt}
-use Rattle.wire.specs.declared.value.Value.{Value}
-use Rattle.wire.specs.declared.field.Field.{Field}
+use Rattle.wire.specs.Padded.{valuePadded}
 use Rattle.wire.proofs.PaddedLaws.{quick-flag}
-use Rattle.layout.specs.Table.{rowsOf, prepareStmt, openStmt}
-use Rattle.layout.specs.Row.{rowFor}
-use Rattle.layout.specs.Fields.{fieldsAt, hasRequired, checked}
 use Rattle.layout.specs.Padded.{listPadded, paddedTo, nothingInside, partPadded, slotPadded}
 use Rattle.layout.specs.private.Arrays.{Holds}
-use Rattle.layout.specs.declared.slots.Slots.{Slots}
-use Rattle.layout.proofs.FieldsLaws.{ends}
 use Rattle.layout.proofs.PaddedLaws.{Marking, marks, marks-on, marked, padded-inside}
-use Rattle.layout.specs.Part.{embedded}
-use Rattle.args.specs.Padded.{executePadded}
 use Rattle.args.specs.private.Pair.{pairPadded}
 use Rattle.args.proofs.PaddedLaws.{pair-absorbed}
-use Rattle.message.specs.Head.{headOf}
-use Rattle.message.specs.Payload.{payload}
-use Rattle.message.specs.Frame.{frameIn, frameOf, refusedHead}
-use Rattle.message.specs.Padded.{ownPadded, preparePadded, openExecutePadded, openStmtPadded, openPadded}
-use Rattle.message.specs.Padded.{kindPadded, whereGood, headPadded, paddedOf}
+use Rattle.message.proofs.Names.{varintAt, paddedAt, Varint, ofVarint, asLength, fieldAt, fieldPadded, Field}
+use Rattle.message.proofs.Names.{Value, prepareStmt, openStmt, rowsOf, rowFor, checked, fieldsAt, hasRequired}
+use Rattle.message.proofs.Names.{embedded, Slots, ends, executePadded, headOf, payload, frameIn, frameOf}
+use Rattle.message.proofs.Names.{ownPadded, openExecutePadded, kindPadded, headPadded, paddedOf, Inner, Chosen}
+use Rattle.message.proofs.Names.{Frame}
+use Rattle.message.specs.Frame.{refusedHead}
+use Rattle.message.specs.Padded.{preparePadded, openStmtPadded, openPadded, whereGood}
 use Rattle.message.specs.private.First.{idTag, Starts}
 use Rattle.message.specs.private.Marks.{Tells, TellsChosen, TellsInner}
-use Rattle.message.specs.declared.prepare.Chosen.{Chosen}
-use Rattle.message.specs.declared.execute.Inner.{Inner}
-use Rattle.message.specs.declared.request.Frame.{Frame}
 use Rattle.message.specs.private.Outer.{Opens}
 use Rattle.message.proofs.ArrayLaws.{part-held, run-long, opened-long, prepared-long}
 use Rattle.message.proofs.OuterLaws.{rows-field}

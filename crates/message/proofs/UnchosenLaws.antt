@@ -1,33 +1,17 @@
 -- A body that a Prepare's type does not choose is not read. Assumes nothing.
-use Prim.Native.Nat.{ℕ, zero, suc, _+_, _≤_, _<_}
-use native.Mathlib.Omega.{arith}
-use mathlib.Core.Bool.{Bool, true, false, not, cond, _&&_}
-use mathlib.Core.Logic.{_⊎_, inl, inr, ⊎-elim}
-use mathlib.Core.Path.{_≡_, refl, sym, ap, ap₂, _∙_}
-use mathlib.Core.List.{List, []}
-use lib.ListN.{length, getD, take}
-use lib.Seq.{length-take-le}
-use lib.Dec.{leb, eqb}
-use borrow.Author.Tests.{leb-true, eq-eqb}
+use Rattle.prelude.proofs.Basics.{ℕ, zero, suc, _+_, _≤_, _<_, arith, Bool, true, false, not, _&&_, cond, _≡_, refl}
+use Rattle.prelude.proofs.Basics.{sym, ap, ap₂, _∙_, _⊎_, inl, inr, ⊎-elim, List, [], length, getD, take}
+use Rattle.prelude.proofs.Basics.{length-take-le, eqb, leb, eq-eqb, leb-true}
 use Rattle.protocol.specs.Client as Client
-use Rattle.layout.specs.Row.{rowFor}
-use Rattle.layout.specs.Table.{rowsOf, prepareStmt, stmtExecute, len}
-use Rattle.layout.specs.Fields.{hasRequired}
-use Rattle.layout.specs.declared.slots.Slots.{Slots}
-use Rattle.scalar.specs.declared.argument.Argument.{Argument}
-use Rattle.layout.specs.Part.{absent, countOf, valueOf, startOf, lenOf, low32}
-use Rattle.args.specs.Arguments.{noArguments, together, argumentsAt}
-use Rattle.args.specs.UnreadRules.{typeIn, OnlyField}
-use Rattle.args.specs.declared.arguments.Arguments.{Arguments}
-use Rattle.args.proofs.UnreadLaws.{same-take, take-same, take-size, embedded-local, arguments-local}
-use Rattle.args.proofs.UnreadLaws.{field-beside}
+use Rattle.args.specs.UnreadRules.{OnlyField}
+use Rattle.args.proofs.UnreadLaws.{same-take, take-same, embedded-local, arguments-local, field-beside}
+use Rattle.message.proofs.Names.{Argument, prepareStmt, stmtExecute, len, rowsOf, rowFor, hasRequired, countOf}
+use Rattle.message.proofs.Names.{absent, valueOf, startOf, lenOf, low32, Slots, argumentsAt, noArguments}
+use Rattle.message.proofs.Names.{together, typeIn, Arguments, take-size, argumentsWithin, prepareFrame, frameIn}
+use Rattle.message.proofs.Names.{ofHead, frameOf, prepareIn, stmtIn, Frame, Request}
 use Rattle.message.specs.Operation as Operation
-use Rattle.message.specs.Execute.{argumentsWithin}
-use Rattle.message.specs.Prepare.{bodyIn, prepareFrame}
-use Rattle.message.specs.Frame.{frameIn, ofHead, frameOf}
-use Rattle.message.specs.UnreadRules.{prepareIn, stmtIn, UnchosenUnread}
-use Rattle.message.specs.declared.request.Request.{Request}
-use Rattle.message.specs.declared.request.Frame.{Frame}
+use Rattle.message.specs.Prepare.{bodyIn}
+use Rattle.message.specs.UnreadRules.{UnchosenUnread}
 use Rattle.message.proofs.BehindLaws.{head-same}
 use Rattle.message.proofs.NestedLaws.{Bytes, required-there, payload-before, same-outer, same-inner}
 

@@ -1,27 +1,15 @@
 -- A whole frame is used to its last byte, and is not refused 1 or 2: every reader answers with the frame's length, be
 -- its type unknown, its payload bad or good. What the frame holds lies in these bytes. Assumes nothing.
-use Prim.Native.Nat.{ℕ, _+_, _≤_}
-use native.Mathlib.Omega.{arith}
-use mathlib.Core.Bool.{Bool, false, _||_, true≢false}
-use mathlib.Core.Path.{_≡_, refl, sym, ap, _∙_}
-use mathlib.Core.List.{List}
-use lib.ListN.{length, take, drop, length-take, length-drop}
-use lib.Seq.{length-take-le}
-use lib.Dec.{eqb}
-use Rattle.prelude.proofs.Cases.{both}
+use Rattle.prelude.proofs.Basics.{ℕ, _+_, _≤_, arith, Bool, false, _||_, true≢false, _≡_, refl, sym, ap, _∙_, List}
+use Rattle.prelude.proofs.Basics.{length, take, drop, length-drop, length-take, length-take-le, eqb, both}
 use Rattle.protocol.specs.Reason as Reason
-use Rattle.args.specs.Arguments.{nthArgument}
 use Rattle.args.specs.WithinRules.{EndsBy}
-use Rattle.layout.specs.declared.part.Part.{Part}
 use Rattle.args.proofs.ArgumentsLaws.{nth-within}
 use Rattle.args.proofs.WithinLaws.{ends-later}
-use Rattle.message.specs.Head.{headOf}
-use Rattle.message.specs.Request.{argsOf}
-use Rattle.message.specs.Frame.{frameIn, ofHead, frameOf, reasonOf, usedOf}
-use Rattle.message.specs.Frame.{partOf, chosenPart, bodyOf, argumentIn}
-use Rattle.message.specs.WithinRules.{PartsInside, LiesInFrame}
-use Rattle.message.specs.declared.head.Head.{Head}
-use Rattle.message.specs.declared.request.Frame.{Frame}
+use Rattle.message.proofs.Names.{Part, nthArgument, headOf, argsOf, frameIn, ofHead, frameOf, reasonOf, usedOf}
+use Rattle.message.proofs.Names.{partOf, chosenPart, argumentIn, PartsInside, Head, Frame}
+use Rattle.message.specs.Frame.{bodyOf}
+use Rattle.message.specs.WithinRules.{LiesInFrame}
 use Rattle.message.proofs.WithinLaws.{every-frame, frame-within}
 
 -- the refusals of a frame that was not read

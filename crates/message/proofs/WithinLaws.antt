@@ -1,35 +1,18 @@
 -- The parts of a request lie within its frame, as a law for every frame. Assumes nothing.
-use Prim.Native.Nat.{ℕ, _+_, _-_, _≤_}
-use native.Mathlib.Omega.{arith}
-use mathlib.Core.Bool.{Bool, true, false, not, _&&_}
-use mathlib.Core.Path.{_≡_, refl, sym, subst, _∙_}
-use mathlib.Core.List.{List, [], _∷_}
-use lib.ListN.{length, take}
-use lib.Seq.{length-take-le}
-use lib.Dec.{leb, ltb, eqb}
-use borrow.Author.Tests.{ltb-false, leb-true}
-use Rattle.prelude.proofs.Cases.{both}
+use Rattle.prelude.proofs.Basics.{ℕ, _+_, _-_, _≤_, arith, Bool, true, false, not, _&&_, _≡_, refl, sym, subst, _∙_}
+use Rattle.prelude.proofs.Basics.{List, [], _∷_, length, take, length-take-le, eqb, leb, ltb, leb-true, ltb-false, both}
 use Rattle.protocol.specs.Client as Client
-use Rattle.scalar.specs.declared.argument.Argument.{Argument}
-use Rattle.layout.specs.Table.{rowsOf, prepareStmt, stmtExecute, openStmt}
-use Rattle.layout.specs.Fields.{fieldsAt}
-use Rattle.layout.specs.declared.slots.Slots.{Slots}
-use Rattle.layout.proofs.CountLaws.{good-list}
-use Rattle.layout.specs.Part.{embedded, absent, valueOf, startOf, lenOf, low32}
-use Rattle.args.specs.Arguments.{anyTypeOf, noArguments, badArguments, withType, together, argumentsAt}
-use Rattle.args.specs.declared.arguments.Arguments.{Arguments}
-use Rattle.message.specs.Head.{lengthBytes, headOf, lengthOf, maxLength}
+use Rattle.args.specs.Arguments.{anyTypeOf, withType}
+use Rattle.message.proofs.Names.{Argument, prepareStmt, stmtExecute, openStmt, rowsOf, fieldsAt, embedded}
+use Rattle.message.proofs.Names.{absent, valueOf, startOf, lenOf, low32, Slots, good-list, argumentsAt}
+use Rattle.message.proofs.Names.{noArguments, badArguments, together, Arguments, lengthBytes, maxLength}
+use Rattle.message.proofs.Names.{lengthOf, headOf, payload, ifGood, resetFrame, sessionCloseFrame}
+use Rattle.message.proofs.Names.{deallocateFrame, closeFrame, fetchFrame, badExecute, argumentsWithin, executeOf}
+use Rattle.message.proofs.Names.{executeIn, executeFrame, openFrame, prepareFrame, frameIn, Head, Frame, Request}
 use Rattle.message.specs.Operation as Operation
 use Rattle.message.specs.Request as Request
-use Rattle.message.specs.Payload.{payload, ifGood}
-use Rattle.message.specs.Simple.{resetFrame, sessionCloseFrame, deallocateFrame, closeFrame, fetchFrame}
-use Rattle.message.specs.Execute.{argumentsWithin, badExecute, executeOf, executeIn, executeFrame, openFrame}
-use Rattle.message.specs.Prepare.{bodyIn, prepareFrame}
-use Rattle.message.specs.Frame.{frameIn}
+use Rattle.message.specs.Prepare.{bodyIn}
 use Rattle.message.specs.WithinRules.{Inside}
-use Rattle.message.specs.declared.head.Head.{Head}
-use Rattle.message.specs.declared.request.Request.{Request}
-use Rattle.message.specs.declared.request.Frame.{Frame}
 
 -- arguments end where their bytes do, or are bad
 abbrev Stretch : ℕ → Arguments → Type 0

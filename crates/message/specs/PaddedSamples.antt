@@ -1,6 +1,6 @@
 -- Frames whose padding is worked out: a message that pads is found, and one that does not is not (W20).
 use Prim.Native.Nat.{ℕ}
-use mathlib.Core.Bool.{Bool, true, false}
+use mathlib.Core.Bool.{true, false}
 use mathlib.Core.Path.{_≡_}
 use mathlib.Core.List.{List, [], _∷_}
 use Rattle.protocol.specs.Client as Client

@@ -1,2 +1,3 @@
 pub mod Cases
 pub mod OrLaws
+pub mod Basics

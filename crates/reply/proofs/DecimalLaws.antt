@@ -1,15 +1,11 @@
 -- Laws of the decimal of a number. Assumes nothing.
-use Prim.Native.Nat.{ℕ, zero, suc, _+_, _-_, _*_, _/_, _%_, _^_, _≤_, _<_}
-use mathlib.Core.Path.{_≡_, refl, sym, ap, _∙_}
-use mathlib.Core.List.{List, [], _∷_, _++_}
-use native.Mathlib.Omega.{arith}
-use borrow.Author.Tests.{lt-ltb, le-ltb}
-use lib.ListN.{length, getD, length-append, List·getD-append}
-use Rattle.prelude.proofs.Cases.{less-or-not}
-use Rattle.reply.specs.Decimal.{digits, decimal}
-use Rattle.reply.specs.DecimalRules.{denoted, Denotes, EachDigit, NoLeadingZero, Short}
+use Rattle.prelude.proofs.Basics.{ℕ, zero, suc, _+_, _-_, _*_, _/_, _%_, _^_, _≤_, _<_, arith, _≡_, refl, sym, ap, _∙_}
+use Rattle.prelude.proofs.Basics.{List, [], _∷_, _++_, length, getD, List·getD-append, length-append, le-ltb, lt-ltb}
+use Rattle.prelude.proofs.Basics.{less-or-not}
 use Rattle.encode.specs.Puts.{Puts}
 use Rattle.encode.proofs.PutsLaws.{puts-then, puts-as}
+use Rattle.reply.specs.Decimal.{digits, decimal}
+use Rattle.reply.specs.DecimalRules.{denoted, Denotes, EachDigit, NoLeadingZero, Short}
 
 -- below 10 the number is its one digit
 pub digits-last : (k n : ℕ) → n < 10 → digits (suc k) n ≡ (48 + n) ∷ []

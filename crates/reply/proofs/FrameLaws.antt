@@ -1,18 +1,14 @@
 -- Laws of the frames: how long an Error's payload is, and frames put at the front of a buffer. Assumes nothing.
-use Prim.Native.Nat.{ℕ, _+_, _<_}
-use mathlib.Core.Path.{_≡_, refl, ap}
-use mathlib.Core.List.{List, [], _∷_, _++_}
-use native.Mathlib.Omega.{arith}
-use lib.ListN.{length, length-append}
+use Rattle.prelude.proofs.Basics.{ℕ, _+_, _<_, arith, _≡_, refl, ap, List, [], _∷_, _++_, length, length-append}
 use Rattle.varint.specs.Shortest.{varintBytes}
-use Rattle.encode.proofs.FieldLaws.{number-parts, prefix-parts, bytes-sum}
 use Rattle.varint.proofs.ShortestLaws.{shortest-last}
-use Rattle.reply.specs.Text.{ascii}
 use Rattle.encode.specs.Puts.{Puts}
 use Rattle.encode.specs.Frame.{fourBytes, frame}
 use Rattle.encode.specs.Field.{numberField, bytesField}
-use Rattle.reply.specs.Frame.{errorPayload, errorFrame}
+use Rattle.encode.proofs.FieldLaws.{number-parts, prefix-parts, bytes-sum}
 use Rattle.encode.proofs.PutsLaws.{puts-as, puts-then}
+use Rattle.reply.specs.Text.{ascii}
+use Rattle.reply.specs.Frame.{errorPayload, errorFrame}
 
 -- ---- lengths
 

@@ -1,12 +1,8 @@
 -- Laws of the walk over the frames of a byte string. Assumes nothing.
-use Prim.Native.Nat.{ℕ, zero, suc, _+_, _*_, _/_, _%_, _^_, _≤_, _<_}
-use mathlib.Core.Path.{_≡_, refl, sym, ap, _∙_}
-use mathlib.Core.Bool.{cond}
-use mathlib.Core.List.{List, [], _∷_, _++_, append-nil}
-use native.Mathlib.Omega.{arith}
-use native.Mathlib.Nat.{div-div-eq-div-mul, mod-eq-of-lt}
-use borrow.Author.Tests.{lt-ltb, le-leb}
-use lib.ListN.{length, getD, drop, length-append, length-drop}
+use Rattle.prelude.proofs.Basics.{ℕ, zero, suc, _+_, _*_, _/_, _%_, _^_, _≤_, _<_, arith, mod-eq-of-lt, cond, _≡_, refl}
+use Rattle.prelude.proofs.Basics.{sym, ap, _∙_, List, [], _∷_, _++_, append-nil, length, getD, drop, length-append}
+use Rattle.prelude.proofs.Basics.{length-drop, le-leb, lt-ltb}
+use native.Mathlib.Nat.{div-div-eq-div-mul}
 use lib.Seq.{drop-append-seam}
 use Rattle.encode.specs.Frame.{frame}
 use Rattle.reply.specs.Frames.{sizeOf, frameFirst, typesIn, frameTypes}

@@ -1,19 +1,15 @@
 -- Laws of a reply's bytes. Assumes nothing.
-use Prim.Native.Nat.{_+_, _^_, _≤_, _<_}
-use mathlib.Core.Path.{_≡_, refl, sym, ap, _∙_}
-use mathlib.Core.List.{[], _∷_, _++_}
-use native.Mathlib.Omega.{arith}
-use lib.ListN.{length}
+use Rattle.prelude.proofs.Basics.{_+_, _^_, _≤_, _<_, arith, _≡_, refl, sym, ap, _∙_, [], _∷_, _++_, length}
 use Rattle.protocol.specs.Server as Server
 use Rattle.varint.specs.Shortest.{shortest}
 use Rattle.varint.proofs.ShortestLaws.{shortest-at-most}
 use Rattle.varint.proofs.VarintLaws.{varint-length}
+use Rattle.encode.specs.Field.{numberField, bytesField}
 use Rattle.reply.specs.declared.Refusal.{Refusal}
 use Rattle.reply.specs.declared.Reply.{Reply}
 use Rattle.reply.specs.declared.Reply.the-variants.{Nothing, Ok, Suspended, Done, Executed, Error}
 use Rattle.reply.specs.Decimal.{digits}
 use Rattle.reply.specs.Text.{text}
-use Rattle.encode.specs.Field.{numberField, bytesField}
 use Rattle.reply.specs.Frame.{okFrame, fetchDone, fetchSuspended, stmtExecuteOk, errorPayload, errorFrame}
 use Rattle.reply.specs.Frames.{typesIn, frameTypes, among}
 use Rattle.reply.specs.Reply.{messageOf, typesOf, replyBytes}

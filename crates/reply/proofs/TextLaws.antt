@@ -1,12 +1,6 @@
 -- Laws of the message texts: which text a refusal has, and how long it is. Assumes nothing.
-use Prim.Native.Nat.{ℕ, _+_, _^_, _≤_, _<_}
-use mathlib.Core.Path.{_≡_}
-use mathlib.Core.List.{List, [], _++_, append-nil}
-use native.Mathlib.Omega.{arith}
-use borrow.Author.Tests.{eq-eqb, ne-eqb}
-use lib.ListN.{length, length-append}
-use lib.Dec.{eqb}
-use Rattle.prelude.proofs.Cases.{both}
+use Rattle.prelude.proofs.Basics.{ℕ, _+_, _^_, _≤_, _<_, arith, _≡_, List, [], _++_, append-nil, length, length-append}
+use Rattle.prelude.proofs.Basics.{eqb, eq-eqb, ne-eqb, both}
 use Rattle.reply.specs.Decimal.{decimal}
 use Rattle.reply.specs.Text.{ascii, kindName, unsupported, text}
 use Rattle.reply.proofs.DecimalLaws.{decimal-within, decimal-short}

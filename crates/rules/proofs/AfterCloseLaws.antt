@@ -1,18 +1,12 @@
 -- After Session close every frame that is there and of a good length is refused 4; before it a Reset is not. Assumes
 -- nothing.
-use Prim.Native.Nat.{ℕ}
-use mathlib.Core.Bool.{Bool, true, false, cond}
-use mathlib.Core.Path.{_≡_, refl, ap, _∙_}
+use Rattle.prelude.proofs.Basics.{ℕ, Bool, true, false, cond, _≡_, refl, ap, _∙_}
 use Rattle.protocol.specs.Reason as Reason
-use Rattle.message.specs.Frame.{frameOf}
-use Rattle.message.specs.declared.request.Request.{Request}
 use Rattle.message.specs.declared.request.Request.the-variants.{Reset, SessionClose}
-use Rattle.message.specs.declared.request.Frame.{Frame}
 use Rattle.message.specs.declared.request.Frame.the-variants.{NotAllThere, BadLength, UnknownType, BadPayload, Good}
-use Rattle.session.specs.Session.{Session, isClosed}
-use Rattle.rules.specs.Refusal.{firstOf, requestTests, lookReason}
-use Rattle.rules.specs.Decision.{lookBy, lookOf}
-use Rattle.rules.specs.Step.{lookAt}
+use Rattle.rules.proofs.Names.{frameOf, Frame, Request, Session, isClosed, firstOf, requestTests, lookReason}
+use Rattle.rules.proofs.Names.{lookOf, lookAt}
+use Rattle.rules.specs.Decision.{lookBy}
 use Rattle.rules.specs.StepRules.{ClosedFirst, UnclosedAccepts}
 
 -- what a look gives of a frame that is all there, by whether the session is closed

@@ -1,34 +1,16 @@
 -- With the smallest buffer every reply fits, and its bytes stand at the front: what a host has of a step is then what
 -- was decided, whatever the buffer. Assumes nothing.
-use Prim.Native.Nat.{ℕ, _≤_}
-use native.Mathlib.Nat.{le-trans}
-use mathlib.Core.Bool.{Bool}
-use mathlib.Core.Path.{_≡_, sym, ap, _∙_}
-use mathlib.Core.List.{List}
-use lib.ListN.{length}
-use lib.Dec.{eqb, leb}
-use borrow.Author.Tests.{le-ltb}
-use Rattle.prelude.proofs.Cases.{both}
+use Rattle.prelude.proofs.Basics.{ℕ, _≤_, le-trans, Bool, _≡_, sym, ap, _∙_, List, length, eqb, leb, le-ltb, both}
 use Rattle.protocol.specs.Reason as Reason
-use Rattle.message.specs.Frame.{frameOf}
-use Rattle.message.specs.Padded.{paddedOf}
-use Rattle.message.specs.declared.request.Request.{Request}
 use Rattle.message.specs.declared.request.Request.the-variants.{Reset, SessionClose, Prepare, Execute, Deallocate, Open}
 use Rattle.message.specs.declared.request.Request.the-variants.{Close, Fetch}
-use Rattle.message.specs.declared.request.Frame.{Frame}
 use Rattle.message.specs.declared.request.Frame.the-variants.{NotAllThere, BadLength, UnknownType, BadPayload, Good}
-use Rattle.session.specs.Session.{Session}
-use Rattle.reply.specs.declared.Reply.{Reply}
-use Rattle.reply.specs.Reply.{replyBytes}
-use Rattle.reply.specs.ReplyRules.{minBuffer}
-use Rattle.reply.proofs.ReplyLaws.{fits-smallest}
-use Rattle.rules.specs.declared.Report.{Report}
-use Rattle.rules.specs.Kind.{onGood}
-use Rattle.rules.specs.Refusal.{stepReason}
-use Rattle.rules.specs.Rows.{sendsColumns, leftAfter}
-use Rattle.rules.specs.Decision.{Decision, endOf, replyTo, refusalOf, refusedReply, refused, accepted, decisionOf}
-use Rattle.rules.specs.Step.{answerOf, stepOn, answerSays}
-use Rattle.rules.specs.Read.{ReadIn}
+use Rattle.rules.proofs.Names.{frameOf, paddedOf, Frame, Request, Session, replyBytes, minBuffer, Reply}
+use Rattle.rules.proofs.Names.{fits-smallest, onGood, stepReason, sendsColumns, replyTo, accepted, refusalOf}
+use Rattle.rules.proofs.Names.{refusedReply, refused, decisionOf, stepOn, answerSays, ReadIn, Report}
+use Rattle.rules.specs.Rows.{leftAfter}
+use Rattle.rules.specs.Decision.{Decision, endOf}
+use Rattle.rules.specs.Step.{answerOf}
 use Rattle.rules.specs.StepRules.{Outcome, outcome, BufferMakesNoDifference}
 use Rattle.rules.proofs.ReadLaws.{frames-are-read}
 use Rattle.rules.proofs.StepLaws.{reply-front, error-fits}

@@ -1,35 +1,19 @@
 -- The rules of specs/RefusalRules.antt hold: reasons rise along the list of tests, so that each stands for one test.
 -- Assumes nothing.
-use Prim.Native.Nat.{ℕ, _≤_, _<_}
-use native.Mathlib.Omega.{arith}
-use mathlib.Core.Bool.{Bool, true, false, not, cond, _&&_, true≢false, false≢true}
-use mathlib.Core.Path.{_≡_, refl, sym, ap, subst, _∙_}
-use mathlib.Core.List.{List, [], _∷_, _++_}
-use lib.ListN.{length}
-use lib.Dec.{eqb, leb, ltb}
-use borrow.Author.Tests.{eqb-true, eq-eqb, ltb-true, leb-true, le-ltb}
-use Rattle.prelude.proofs.Cases.{both}
-use Rattle.protocol.specs.Client.{prepare, open'}
+use Rattle.prelude.proofs.Basics.{ℕ, _≤_, _<_, arith, Bool, true, false, not, _&&_, cond, true≢false, false≢true, _≡_}
+use Rattle.prelude.proofs.Basics.{refl, sym, ap, subst, _∙_, List, [], _∷_, _++_, length, eqb, leb, ltb, eq-eqb}
+use Rattle.prelude.proofs.Basics.{eqb-true, le-ltb, leb-true, ltb-true, both}
 use Rattle.protocol.specs.Reason as Reason
-use Rattle.message.specs.Frame.{frameOf}
-use Rattle.message.specs.Request.{stmtOf, cursorOf}
-use Rattle.message.specs.declared.request.Frame.{Frame}
 use Rattle.message.specs.declared.request.Frame.the-variants.{NotAllThere, BadLength, UnknownType, BadPayload, Good}
-use Rattle.session.specs.Session.{Session}
-use Rattle.session.specs.declared.Place.{Place}
-use Rattle.session.specs.Lists.{howMany}
-use Rattle.session.specs.Entry.{isStmt, isCursor}
-use Rattle.session.specs.Tables.{maxStmts, maxCursors, stmtPlace, cursorPlace, stmtCount, cursorCount}
-use Rattle.session.proofs.SumLaws.{and-true}
-use Rattle.session.proofs.TableLaws.{stmts-full, full-stmts, cursors-full, full-cursors}
-use Rattle.reply.specs.ReplyRules.{minBuffer}
-use Rattle.rules.specs.declared.Report.{Report}
-use Rattle.rules.specs.Kind.{isA, onGood}
-use Rattle.rules.specs.Refusal.{Test, firstOf, noPlace, lookTests, lookReason}
-use Rattle.rules.specs.Refusal.{reportTests, reportReason, stepReason}
-use Rattle.rules.specs.Step.{lookAt}
-use Rattle.rules.specs.RefusalRules.{NoneHolds, Decides, LookDecides, stepTests, StepDecides, LookGives}
-use Rattle.rules.specs.RefusalRules.{StepGives, FullWhen, FullTables}
+use Rattle.session.specs.Tables.{maxStmts, maxCursors, stmtCount, cursorCount}
+use Rattle.session.proofs.TableLaws.{stmts-full, full-stmts, full-cursors}
+use Rattle.rules.proofs.Names.{prepare, open', stmtOf, cursorOf, frameOf, Frame, howMany, Session, isStmt}
+use Rattle.rules.proofs.Names.{isCursor, stmtPlace, cursorPlace, Place, and-true, cursors-full, minBuffer, isA}
+use Rattle.rules.proofs.Names.{onGood, Test, firstOf, noPlace, lookReason, reportTests, reportReason, stepReason}
+use Rattle.rules.proofs.Names.{lookAt, NoneHolds, Report}
+use Rattle.rules.specs.Refusal.{lookTests}
+use Rattle.rules.specs.RefusalRules.{Decides, LookDecides, stepTests, StepDecides, LookGives, StepGives, FullWhen}
+use Rattle.rules.specs.RefusalRules.{FullTables}
 use Rattle.rules.proofs.TestLaws.{rises, accepted-none}
 use Rattle.rules.proofs.RefusalLaws.{look-small, look-passes, report-passes, step-passes}
 use Rattle.rules.proofs.LookLaws.{look-reason, step-reason}

@@ -1,28 +1,20 @@
 -- The tables go by the list of endings. Assumes nothing.
-use Prim.Native.Nat.{ℕ}
-use mathlib.Core.Bool.{Bool, true, false, cond, _&&_, _||_, and-false, and-true, or-false}
-use mathlib.Core.Path.{_≡_, refl, sym, ap, fun-ext, _∙_}
-use mathlib.Core.List.{List, [], _∷_}
-use lib.ListN.{set}
-use lib.Dec.{eqb}
+use Rattle.prelude.proofs.Basics.{ℕ, Bool, true, false, _&&_, _||_, cond, and-false, _≡_, refl, sym, ap, _∙_, List, []}
+use Rattle.prelude.proofs.Basics.{_∷_, set, eqb}
+use mathlib.Core.Bool.{and-true, or-false}
+use mathlib.Core.Path.{fun-ext}
 use Rattle.message.specs.declared.request.Request.the-variants.{Reset, SessionClose, Prepare, Execute, Deallocate, Open}
 use Rattle.message.specs.declared.request.Request.the-variants.{Close, Fetch}
-use Rattle.session.specs.declared.Cursor.{Cursor}
-use Rattle.session.specs.declared.Place.{Place}
-use Rattle.session.specs.Session.{Session}
-use Rattle.session.specs.Lists.{All, put, changed, always}
-use Rattle.session.specs.Entry.{noCursor, newCursor, isLiveCursor, isCursor, onStmt, freeCursor, raise}
-use Rattle.session.specs.Tables.{ends, cursorPlace}
-use Rattle.session.specs.Sound.{Sound, ProperCursor}
-use Rattle.session.proofs.PlaceLaws.{Taken, taken}
-use Rattle.session.proofs.PlaceLaws.Taken.{own, new}
-use Rattle.session.proofs.SumLaws.{one, sum-none}
+use Rattle.session.specs.Lists.{All, changed, always}
+use Rattle.session.specs.Entry.{onStmt}
+use Rattle.session.specs.Tables.{ends}
+use Rattle.session.specs.Sound.{ProperCursor}
+use Rattle.session.proofs.SumLaws.{sum-none}
 use Rattle.session.proofs.OnceLaws.{none-changed, put-changed}
-use Rattle.session.proofs.TableLaws.{cursors-full, fetched-as}
-use Rattle.rules.specs.declared.Report.{Report}
-use Rattle.rules.specs.Ending.{endsIt}
-use Rattle.rules.specs.Rows.{rowCount}
-use Rattle.rules.specs.Decision.{sessionAfter}
+use Rattle.session.proofs.TableLaws.{fetched-as}
+use Rattle.rules.proofs.Names.{put, Session, noCursor, newCursor, isLiveCursor, isCursor, freeCursor, raise}
+use Rattle.rules.proofs.Names.{cursorPlace, Sound, Cursor, Place, Taken, taken, one, cursors-full, new, own}
+use Rattle.rules.proofs.Names.{rowCount, endsIt, sessionAfter, Report}
 use Rattle.rules.specs.StepRules.{EndsAsListed}
 
 ends-same : (p q : Cursor → Bool) → ((c : Cursor) → p c ≡ q c) → (cs : List Cursor) → ends p cs ≡ ends q cs

@@ -1,41 +1,26 @@
 -- The rules of specs/InspectRules.antt hold: bits by the list of cursors, places by what a search found, and endings by
 -- the list that the tables go by. Assumes nothing.
-use Prim.Native.Nat.{ℕ, zero, suc, _+_, _*_, _/_, _%_, _≤_, _<_}
-use native.Mathlib.Omega.{arith}
-use mathlib.Core.Bool.{Bool, true, false, cond, not, _&&_, and-false, or-false, true≢false, false≢true}
-use mathlib.Core.Path.{_≡_, refl, sym, ap, subst, _∙_}
-use mathlib.Core.List.{List, [], _∷_, map}
-use lib.ListN.{length, getD, set}
-use lib.Dec.{eqb}
-use borrow.Author.Tests.{eq-eqb, ne-eqb, not-false}
-use Rattle.protocol.specs.Client.{open', fetch}
+use Rattle.prelude.proofs.Basics.{ℕ, zero, suc, _+_, _*_, _/_, _%_, _≤_, _<_, arith, Bool, true, false, not, _&&_, cond}
+use Rattle.prelude.proofs.Basics.{true≢false, false≢true, and-false, _≡_, refl, sym, ap, subst, _∙_, List, [], _∷_, map}
+use Rattle.prelude.proofs.Basics.{length, getD, set, eqb, eq-eqb, ne-eqb, not-false}
+use mathlib.Core.Bool.{or-false}
 use Rattle.protocol.specs.Reason as Reason
-use Rattle.message.specs.Frame.{frameOf}
 use Rattle.message.specs.declared.request.Open.{Open as Opening}
 use Rattle.message.specs.declared.request.Fetch.{Fetch as Fetching}
-use Rattle.message.specs.declared.request.Request.{Request}
 use Rattle.message.specs.declared.request.Request.the-variants.{Reset, SessionClose, Prepare, Execute, Deallocate, Open}
 use Rattle.message.specs.declared.request.Request.the-variants.{Close, Fetch}
-use Rattle.session.specs.declared.Cursor.{Cursor}
-use Rattle.session.specs.declared.Place.{Place}
-use Rattle.session.specs.Session.{Session}
-use Rattle.session.specs.Lists.{first, put, entryAt, change, sumBy, howMany, orPlace, indexOf, maskOf}
-use Rattle.session.specs.Entry.{noStmt, noCursor, newStmt, newCursor, isLiveStmt, isLiveCursor, isStmt, isCursor}
-use Rattle.session.specs.Entry.{freeStmt, freeCursor, raise}
-use Rattle.session.specs.Tables.{stmtAt, cursorAt, stmtPlace, cursorPlace}
-use Rattle.session.specs.Sound.{Sound}
-use Rattle.session.proofs.PlaceLaws.{Passes, Taken, taken, found}
-use Rattle.session.proofs.PlaceLaws.Taken.{own, new}
-use Rattle.session.proofs.SumLaws.{one, counted}
-use Rattle.rules.specs.declared.Report.{Report}
-use Rattle.rules.specs.Kind.{isA}
-use Rattle.rules.specs.Ending.{endsIt, endsCursor, cursorsLeft}
+use Rattle.session.specs.Lists.{change, sumBy, indexOf, maskOf}
+use Rattle.session.specs.Entry.{newStmt}
+use Rattle.session.proofs.PlaceLaws.{Passes}
+use Rattle.session.proofs.SumLaws.{counted}
+use Rattle.rules.proofs.Names.{open', fetch, frameOf, Request, orPlace, put, entryAt, howMany, first, Session}
+use Rattle.rules.proofs.Names.{noStmt, noCursor, newCursor, isLiveStmt, isLiveCursor, isStmt, freeStmt, isCursor}
+use Rattle.rules.proofs.Names.{freeCursor, raise, stmtAt, cursorAt, cursorPlace, Sound, Cursor, Place, found}
+use Rattle.rules.proofs.Names.{Taken, taken, one, new, own, isA, noPlace, rowCount, endsIt, sessionAfter, Report}
+use Rattle.rules.specs.Ending.{endsCursor, cursorsLeft}
 use Rattle.rules.specs.Inspect.{ownStmt, ownCursor, noStmtPlace, noCursorPlace, endsAt}
 use Rattle.rules.specs.InspectRules.{bit, stmtThere, cursorThere, BitsTold, SameOpening, EndsAndKeeps, EndsTold}
 use Rattle.rules.specs.InspectRules.{Stands, PlacesTold}
-use Rattle.rules.specs.Refusal.{noPlace}
-use Rattle.rules.specs.Rows.{rowCount}
-use Rattle.rules.specs.Decision.{sessionAfter}
 use Rattle.rules.proofs.RefusalLaws.{Looked}
 use Rattle.rules.proofs.StepLaws.{step-has}
 use Rattle.rules.proofs.EndingLaws.{ends-as-listed}

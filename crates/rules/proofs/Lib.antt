@@ -1,3 +1,4 @@
+mod Names
 pub mod AfterCloseLaws
 pub mod TestLaws
 pub mod RefusalLaws

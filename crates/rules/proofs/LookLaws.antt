@@ -1,32 +1,15 @@
 -- A look and a step agree. Assumes nothing.
-use Prim.Native.Nat.{ℕ, _≤_, _<_}
-use native.Mathlib.Omega.{arith}
-use mathlib.Core.Bool.{Bool, true, false, cond, true≢false}
-use mathlib.Core.Path.{_≡_, refl, sym, ap, _∙_}
-use mathlib.Core.List.{List}
-use lib.ListN.{length}
-use lib.Dec.{eqb}
-use borrow.Author.Tests.{eqb-true, ne-eqb, lt-ltb, ltb-true, le-ltb}
+use Rattle.prelude.proofs.Basics.{ℕ, _≤_, _<_, arith, Bool, true, false, cond, true≢false, _≡_, refl, sym, ap, _∙_}
+use Rattle.prelude.proofs.Basics.{List, length, eqb, eqb-true, le-ltb, lt-ltb, ltb-true, ne-eqb}
 use Rattle.protocol.specs.Reason as Reason
-use Rattle.message.specs.Frame.{frameOf}
-use Rattle.message.specs.Padded.{paddedOf}
-use Rattle.message.specs.declared.request.Request.{Request}
 use Rattle.message.specs.declared.request.Request.the-variants.{Reset, SessionClose, Prepare, Execute, Deallocate, Open}
 use Rattle.message.specs.declared.request.Request.the-variants.{Close, Fetch}
-use Rattle.message.specs.declared.request.Frame.{Frame}
 use Rattle.message.specs.declared.request.Frame.the-variants.{NotAllThere, BadLength, UnknownType, BadPayload, Good}
-use Rattle.session.specs.Session.{Session}
-use Rattle.reply.specs.declared.Reply.{Reply}
-use Rattle.reply.specs.Frames.{among}
-use Rattle.reply.specs.ReplyRules.{minBuffer}
-use Rattle.rules.specs.declared.Report.{Report}
-use Rattle.rules.specs.Kind.{onGood}
-use Rattle.rules.specs.Report.{noWork, workOf}
-use Rattle.rules.specs.Refusal.{lookReason, reportReason, stepReason}
-use Rattle.rules.specs.Rows.{rowCount, sendsColumns}
-use Rattle.rules.specs.Decision.{sessionAfter, replyTo, wireCode, refusedReply, refused, accepted, decidedBy}
-use Rattle.rules.specs.Decision.{decisionOf, looked, lookRefused, lookOf}
-use Rattle.rules.specs.Step.{short, stepBy, stepOn, lookAt, stepSays, tooShort}
+use Rattle.rules.proofs.Names.{frameOf, paddedOf, Frame, Request, Session, among, minBuffer, Reply, onGood}
+use Rattle.rules.proofs.Names.{noWork, workOf, lookReason, reportReason, stepReason, rowCount, sendsColumns}
+use Rattle.rules.proofs.Names.{sessionAfter, replyTo, accepted, wireCode, refusedReply, refused, decisionOf}
+use Rattle.rules.proofs.Names.{looked, lookOf, short, tooShort, stepBy, stepOn, stepSays, lookAt, Report}
+use Rattle.rules.specs.Decision.{decidedBy, lookRefused}
 use Rattle.rules.specs.StepRules.{RefusesAlike, RefusesFew, ShortFirst, ReportNotConsulted}
 use Rattle.rules.proofs.RefusalLaws.{took-look, look-small, not-three, idle, few, report-few}
 use Rattle.rules.proofs.StepLaws.{step-has}

@@ -1,25 +1,15 @@
 -- An id that is live finds its own place, another the lowest free one; what an Open and a Fetch without fetch_rows
 -- send. Assumes nothing.
-use Prim.Native.Nat.{ℕ, zero, suc, _+_, _<_}
-use native.Mathlib.Omega.{arith}
-use mathlib.Core.Bool.{Bool, true, false, not, cond, _&&_, and-false, false≢true}
-use mathlib.Core.Path.{_≡_, refl, sym, ap, _∙_}
-use mathlib.Core.List.{List, [], _∷_}
-use lib.ListN.{length, getD}
-use borrow.Author.Tests.{not-true, not-false}
-use Rattle.protocol.specs.Client.{prepare, open'}
-use Rattle.message.specs.Request.{stmtOf, cursorOf}
-use Rattle.message.specs.declared.request.Optional.{Optional}
-use Rattle.session.specs.declared.Place.{Place}
+use Rattle.prelude.proofs.Basics.{ℕ, zero, suc, _+_, _<_, arith, Bool, true, false, not, _&&_, cond, false≢true}
+use Rattle.prelude.proofs.Basics.{and-false, _≡_, refl, sym, ap, _∙_, List, [], _∷_, length, getD, not-false, not-true}
 use Rattle.session.specs.declared.Stmt.{Stmt}
-use Rattle.session.specs.declared.Cursor.{Cursor}
-use Rattle.session.specs.Lists.{first, orPlace, entryAt}
-use Rattle.session.specs.Entry.{noStmt, noCursor, freeStmt, freeCursor, isLiveStmt, isLiveCursor, isStmt, isCursor}
-use Rattle.session.proofs.PlaceLaws.{At-same, At-nothing, found}
-use Rattle.session.specs.Tables.{stmtAt, cursorAt, liveCursor, stmtPlace, cursorPlace}
-use Rattle.rules.specs.Kind.{isA}
-use Rattle.rules.specs.Refusal.{noPlace}
-use Rattle.rules.specs.Rows.{remaining, fetchCount, openCount, rowCount}
+use Rattle.session.specs.Tables.{liveCursor}
+use Rattle.session.proofs.PlaceLaws.{At-same, At-nothing}
+use Rattle.rules.proofs.Names.{prepare, open', stmtOf, cursorOf, Optional, orPlace, entryAt, first, noStmt}
+use Rattle.rules.proofs.Names.{noCursor, isLiveStmt, isLiveCursor, isStmt, freeStmt, isCursor, freeCursor}
+use Rattle.rules.proofs.Names.{stmtAt, cursorAt, stmtPlace, cursorPlace, Cursor, Place, found, isA, noPlace}
+use Rattle.rules.proofs.Names.{openCount, rowCount}
+use Rattle.rules.specs.Rows.{remaining, fetchCount}
 use Rattle.rules.specs.StepRules.{OwnPlace, LowestPlace, SendsUnasked}
 
 -- the place of a live entry is its own

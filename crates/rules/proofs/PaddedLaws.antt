@@ -1,22 +1,10 @@
 -- What a look and a step say of padded varints: no where they refuse 1 to 6, and otherwise what was read, both alike.
 -- Assumes nothing.
-use Prim.Native.Nat.{ℕ, _≤_, _<_}
-use native.Mathlib.Omega.{arith}
-use mathlib.Core.Path.{_≡_, refl, sym, ap, _∙_}
-use mathlib.Core.Bool.{Bool, true, false, cond, not, _&&_}
-use mathlib.Core.List.{List}
-use lib.ListN.{length}
-use lib.Dec.{eqb, leb}
-use borrow.Author.Tests.{eqb-true, le-leb, le-ltb, lt-leb, not-true}
-use Rattle.prelude.proofs.Cases.{both, no}
-use Rattle.message.specs.Frame.{frameOf}
-use Rattle.message.specs.Padded.{paddedOf}
-use Rattle.message.specs.declared.request.Frame.{Frame}
-use Rattle.session.specs.Session.{Session}
-use Rattle.reply.specs.ReplyRules.{minBuffer}
-use Rattle.rules.specs.declared.Report.{Report}
-use Rattle.rules.specs.Refusal.{lookReason, reportReason, stepReason}
-use Rattle.rules.specs.Step.{firstNo, lastNo, saysNo, said, lookAt}
+use Rattle.prelude.proofs.Basics.{ℕ, arith, Bool, false, not, _≡_, refl, sym, ap, _∙_, List, length, eqb, eqb-true}
+use Rattle.prelude.proofs.Basics.{le-leb, le-ltb, lt-leb, not-true, both, no}
+use Rattle.rules.proofs.Names.{frameOf, paddedOf, Frame, Session, minBuffer, lookReason, reportReason}
+use Rattle.rules.proofs.Names.{stepReason, lookAt, Report}
+use Rattle.rules.specs.Step.{firstNo, lastNo, saysNo, said}
 use Rattle.rules.specs.PaddedRules.{Says, LookSays, StepSays, SaysAlike}
 use Rattle.rules.proofs.RefusalLaws.{report-passes}
 use Rattle.rules.proofs.LookLaws.{look-reason, step-reason}

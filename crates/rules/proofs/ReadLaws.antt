@@ -1,42 +1,29 @@
 -- Every request that a frame gives has numbers of 32 bits: ids are cut to them, and a frame has fewer bytes. Assumes
 -- nothing.
-use Prim.Native.Nat.{ℕ, zero, suc, _+_, _-_, _%_, _^_, _≤_, _<_}
-use native.Mathlib.Nat.{mod-lt, le-trans}
-use native.Mathlib.Omega.{arith}
-use mathlib.Core.Bool.{Bool, not, _&&_}
-use mathlib.Core.List.{List, [], _∷_}
-use lib.ListN.{length, getD, take, length-take}
-use lib.Dec.{eqb, ltb, leb}
-use borrow.Author.Tests.{ltb-false}
-use Rattle.prelude.proofs.Cases.{both}
-use Rattle.protocol.specs.Client.{reset, sessionClose, prepare, execute, deallocate, open', close, fetch}
+use Rattle.prelude.proofs.Basics.{ℕ, zero, suc, _+_, _-_, _%_, _^_, _≤_, _<_, arith, le-trans, mod-lt, Bool, not, _&&_}
+use Rattle.prelude.proofs.Basics.{List, [], _∷_, length, getD, take, length-take, eqb, leb, ltb, ltb-false, both}
+use Rattle.protocol.specs.Client.{reset, sessionClose, execute, deallocate, close}
 use Rattle.protocol.specs.Reason as Reason
 use Rattle.scalar.specs.declared.argument.Argument.{Argument}
 use Rattle.layout.specs.Table.{rowsOf, prepareStmt, stmtExecute, openStmt}
 use Rattle.layout.specs.Fields.{fieldsAt}
 use Rattle.layout.specs.declared.slots.Slots.{Slots}
 use Rattle.layout.specs.Part.{embedded, absent, valueOf, startOf, lenOf, low32}
+use Rattle.layout.specs.declared.part.Part.{Part}
 use Rattle.args.specs.Arguments.{noArguments, badArguments, counted, withType, anyTypeOf, together, argumentsFrom}
 use Rattle.args.specs.Arguments.{argumentsAt, argumentsIn, nextArgument, andMore}
 use Rattle.args.specs.declared.arguments.Arguments.{Arguments}
 use Rattle.args.specs.declared.arguments.NextArgument.{NextArgument}
-use Rattle.layout.specs.declared.part.Part.{Part}
-use Rattle.message.specs.Head.{headOf, lengthOf, maxLength, lengthBytes}
 use Rattle.message.specs.Operation as Operation
 use Rattle.message.specs.Payload.{payload, ifGood, optionalOf, truthOf}
 use Rattle.message.specs.Simple.{resetFrame, sessionCloseFrame, deallocateFrame, closeFrame, fetchFrame}
-use Rattle.message.specs.Execute.{badExecute, argumentsWithin, executeOf, executeIn, executeFrame}
-use Rattle.message.specs.Execute.{openFrom, openChosen, openInside, openFrame}
-use Rattle.message.specs.Prepare.{bodyIn, prepareFrom, prepareChosen, prepareInside}
-use Rattle.message.specs.Prepare.{prepareFrame}
-use Rattle.message.specs.Frame.{frameIn, ofHead, frameOf}
-use Rattle.message.specs.declared.head.Head.{Head}
-use Rattle.message.specs.declared.request.Optional.{Optional}
+use Rattle.message.specs.Execute.{badExecute, argumentsWithin, executeOf, executeIn, executeFrame, openFrom, openChosen}
+use Rattle.message.specs.Execute.{openInside, openFrame}
+use Rattle.message.specs.Prepare.{bodyIn, prepareFrom, prepareChosen, prepareInside, prepareFrame}
 use Rattle.message.specs.declared.request.Execute.{Execute}
-use Rattle.message.specs.declared.request.Request.{Request}
-use Rattle.message.specs.declared.request.Frame.{Frame}
-use Rattle.session.specs.Sound.{maxNumber}
-use Rattle.rules.specs.Read.{Read, ReadIn, FramesAreRead}
+use Rattle.rules.proofs.Names.{prepare, open', fetch, lengthBytes, maxLength, lengthOf, headOf, ofHead, frameIn}
+use Rattle.rules.proofs.Names.{frameOf, Head, Frame, Optional, Request, maxNumber, Read, ReadIn}
+use Rattle.rules.specs.Read.{FramesAreRead}
 
 -- ---- at most k arguments
 

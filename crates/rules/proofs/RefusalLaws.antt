@@ -1,28 +1,16 @@
 -- What the tests of a step come to: which reasons it gives, and what holds where it gives none. Assumes nothing.
-use Prim.Native.Nat.{ℕ, _≤_}
-use native.Mathlib.Omega.{arith}
-use mathlib.Core.Bool.{Bool, true, false, not, cond, _&&_, _||_, true≢false, false≢true}
-use mathlib.Core.Path.{_≡_, refl, sym, ap, _∙_}
-use mathlib.Core.List.{List, [], _∷_}
-use lib.Dec.{eqb, leb}
-use borrow.Author.Tests.{eqb-true, eqb-false, leb-true}
-use Rattle.prelude.proofs.Cases.{both}
+use Rattle.prelude.proofs.Basics.{ℕ, _≤_, arith, Bool, true, false, not, _&&_, _||_, cond, true≢false, false≢true, _≡_}
+use Rattle.prelude.proofs.Basics.{refl, sym, ap, _∙_, List, [], _∷_, eqb, leb, eqb-false, eqb-true, leb-true, both}
 use Rattle.protocol.specs.Reason as Reason
-use Rattle.message.specs.Frame.{usedOf}
-use Rattle.message.specs.declared.request.Request.{Request}
 use Rattle.message.specs.declared.request.Request.the-variants.{Reset, SessionClose, Prepare, Execute, Deallocate, Open}
 use Rattle.message.specs.declared.request.Request.the-variants.{Close, Fetch}
-use Rattle.message.specs.declared.request.Frame.{Frame}
 use Rattle.message.specs.declared.request.Frame.the-variants.{NotAllThere, BadLength, UnknownType, BadPayload, Good}
-use Rattle.session.specs.Session.{Session, isClosed}
-use Rattle.session.specs.Sound.{maxNumber}
-use Rattle.session.proofs.SumLaws.{and-true}
-use Rattle.reply.specs.Frames.{among}
-use Rattle.rules.specs.declared.Report.{Report}
-use Rattle.rules.specs.Report.{noWork, workOf, failed, works, suits, fails}
-use Rattle.rules.specs.Refusal.{Test, refusal, firstOf, isRefused, stmtNotLive, unsupported, fewArguments}
-use Rattle.rules.specs.Refusal.{cursorNotLive, allSent, otherCursor, stmtsFull, cursorsFull, requestTests}
-use Rattle.rules.specs.Refusal.{lookReason, reportTests, reportReason, stepReason}
+use Rattle.rules.proofs.Names.{usedOf, Frame, Request, Session, isClosed, maxNumber, and-true, among, noWork}
+use Rattle.rules.proofs.Names.{workOf, suits, Test, firstOf, requestTests, lookReason, reportTests, reportReason}
+use Rattle.rules.proofs.Names.{stepReason, Report}
+use Rattle.rules.specs.Report.{failed, works, fails}
+use Rattle.rules.specs.Refusal.{refusal, isRefused, stmtNotLive, unsupported, fewArguments, cursorNotLive}
+use Rattle.rules.specs.Refusal.{allSent, otherCursor, stmtsFull, cursorsFull}
 use Rattle.rules.proofs.TestLaws.{allOf, first-passes, accepted-none}
 
 -- ---- the look

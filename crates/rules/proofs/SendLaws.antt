@@ -1,37 +1,21 @@
 -- The rules of specs/SendRules.antt hold. Assumes nothing.
-use Prim.Native.Nat.{ℕ, _+_, _-_, _≤_}
-use native.Mathlib.Nat.{le-trans}
-use native.Mathlib.Omega.{arith}
-use mathlib.Core.Bool.{not}
-use mathlib.Core.Path.{_≡_, refl, sym, ap, _∙_}
-use mathlib.Core.List.{List, _++_}
-use lib.ListN.{length, take, drop, length-take}
-use lib.Dec.{eqb, leb, ltb}
-use borrow.Author.Tests.{eqb-false, eq-eqb, ne-eqb, le-ltb, ltb-false, not-true}
-use Rattle.prelude.proofs.Cases.{both}
+use Rattle.prelude.proofs.Basics.{ℕ, _+_, _≤_, arith, le-trans, not, _≡_, refl, sym, ap, _∙_, List, _++_, length, take}
+use Rattle.prelude.proofs.Basics.{drop, length-take, eqb, leb, ltb, eq-eqb, eqb-false, le-ltb, ltb-false, ne-eqb}
+use Rattle.prelude.proofs.Basics.{not-true, both}
 use Rattle.protocol.specs.Reason as Reason
-use Rattle.message.specs.Head.{lengthBytes, lengthOf, maxLength, headOf}
-use Rattle.message.specs.Frame.{reasonOf, usedOf, frameOf, refusedHead, ofHead, frameIn}
-use Rattle.message.specs.Padded.{paddedOf}
-use Rattle.message.specs.declared.head.Head.{Head}
-use Rattle.message.specs.declared.request.Request.{Request}
+use Rattle.message.specs.Frame.{reasonOf, refusedHead}
 use Rattle.message.specs.declared.request.Request.the-variants.{Reset, SessionClose, Prepare, Execute, Deallocate, Open}
 use Rattle.message.specs.declared.request.Request.the-variants.{Close, Fetch}
-use Rattle.message.specs.declared.request.Frame.{Frame}
 use Rattle.message.specs.declared.request.Frame.the-variants.{NotAllThere, BadLength, Good}
 use Rattle.message.proofs.UsedLaws.{uses-all}
-use Rattle.session.specs.Session.{Session}
-use Rattle.reply.specs.Reply.{replyBytes}
-use Rattle.reply.specs.ReplyRules.{minBuffer}
-use Rattle.rules.specs.declared.Report.{Report}
+use Rattle.rules.proofs.Names.{lengthBytes, maxLength, lengthOf, headOf, ofHead, usedOf, frameIn, frameOf}
+use Rattle.rules.proofs.Names.{paddedOf, Head, Frame, Request, Session, replyBytes, minBuffer, noWork, workOf}
+use Rattle.rules.proofs.Names.{lookReason, reportReason, stepReason, rowCount, sendsColumns, accepted}
+use Rattle.rules.proofs.Names.{decisionOf, looked, lookOf, stepBy, stepOn, answerSays, lookAt, stepOf, Report}
 use Rattle.rules.specs.declared.Answer.{Answer}
-use Rattle.rules.specs.Report.{noWork, toFetch, workOf}
-use Rattle.rules.specs.Refusal.{lookReason, reportReason, stepReason}
-use Rattle.rules.specs.Rows.{firstRow, rowCount, sendsColumns}
-use Rattle.rules.specs.Decision.{accepted, decisionOf, looked, lookOf}
-use Rattle.rules.specs.Step.{stepBy, stepOn, lookAt, answerSays, stepOf}
-use Rattle.rules.specs.SendRules.{AcceptsIdle, SendsAsLooked, AsAsked, SendsAsAsked, Uses}
-use Rattle.rules.specs.SendRules.{UsesFrame, WritesWhole}
+use Rattle.rules.specs.Report.{toFetch}
+use Rattle.rules.specs.Rows.{firstRow}
+use Rattle.rules.specs.SendRules.{AcceptsIdle, SendsAsLooked, AsAsked, SendsAsAsked, Uses, UsesFrame, WritesWhole}
 use Rattle.rules.specs.SendRules.{WithAny, AsReported, SendsColumns}
 use Rattle.rules.proofs.ReadLaws.{frames-are-read}
 use Rattle.rules.proofs.RefusalLaws.{Took, took-look, idle}

@@ -1,26 +1,15 @@
 -- Every step keeps a session sound. Assumes nothing.
-use Prim.Native.Nat.{ℕ, _≤_}
-use native.Mathlib.Omega.{arith}
-use mathlib.Core.Bool.{Bool, true, false, not, _&&_, _||_, true≢false}
-use mathlib.Core.Path.{_≡_, refl, sym, subst}
-use lib.Dec.{eqb, leb}
-use borrow.Author.Tests.{eqb-true, not-false, leb-true}
-use Rattle.message.specs.Frame.{frameOf}
-use Rattle.message.specs.declared.request.Request.{Request}
+use Rattle.prelude.proofs.Basics.{ℕ, _≤_, arith, Bool, true, false, not, _&&_, _||_, true≢false, _≡_, refl, sym, subst}
+use Rattle.prelude.proofs.Basics.{eqb, leb, eqb-true, leb-true, not-false}
 use Rattle.message.specs.declared.request.Request.the-variants.{Reset, SessionClose, Prepare, Execute, Deallocate, Open}
 use Rattle.message.specs.declared.request.Request.the-variants.{Close, Fetch}
-use Rattle.session.specs.Session.{Session}
-use Rattle.session.specs.Entry.{isLiveStmt, isLiveCursor}
 use Rattle.session.specs.Tables.{liveStmt, carried}
-use Rattle.session.specs.Sound.{maxNumber, maxPlaceholders, Sound, Openable}
-use Rattle.session.proofs.SumLaws.{and-true}
+use Rattle.session.specs.Sound.{maxPlaceholders, Openable}
 use Rattle.session.proofs.TableLaws.{prepared-sound, endedOn-sound, freed-sound, opened-sound, fetched-sound}
 use Rattle.session.proofs.TableLaws.{ended-sound, reset-sound, closedNow-sound}
-use Rattle.rules.specs.declared.Report.{Report}
-use Rattle.rules.specs.Report.{prepared, result, maxColumns, isPrepared, isResult, suits}
-use Rattle.rules.specs.Rows.{openCount, rowCount}
-use Rattle.rules.specs.Decision.{sessionAfter}
-use Rattle.rules.specs.Read.{Read, ReadIn}
+use Rattle.rules.proofs.Names.{frameOf, Request, Session, isLiveStmt, isLiveCursor, maxNumber, Sound, and-true}
+use Rattle.rules.proofs.Names.{suits, openCount, rowCount, sessionAfter, Read, ReadIn, Report}
+use Rattle.rules.specs.Report.{prepared, result, maxColumns, isPrepared, isResult}
 use Rattle.rules.specs.StepRules.{KeepsSound}
 use Rattle.rules.proofs.ReadLaws.{frames-are-read}
 use Rattle.rules.proofs.RefusalLaws.{Looked}

@@ -1,38 +1,21 @@
 -- The rules of specs/StepRules.antt hold: a refused step changes nothing and writes its Error or nothing. Assumes
 -- nothing.
-use Prim.Native.Nat.{ℕ, zero, suc, _+_, _^_, _≤_, _<_}
-use native.Mathlib.Nat.{le-trans, zero-add}
-use native.Mathlib.Omega.{arith}
-use mathlib.Core.Bool.{Bool, true, false, cond, _&&_, _||_}
-use mathlib.Core.Path.{_≡_, refl, sym, ap, subst, _∙_}
-use mathlib.Core.List.{List, [], _∷_, _++_}
-use lib.ListN.{length, getD, take, drop}
-use lib.Seq.{take-at}
-use lib.Dec.{eqb, leb}
-use borrow.Author.Tests.{eqb-true, eqb-false, ltb-false, le-leb, lt-leb, leb-true}
-use Rattle.prelude.proofs.Cases.{both}
-use Rattle.encode.specs.Put.{written}
+use Rattle.prelude.proofs.Basics.{ℕ, zero, suc, _+_, _^_, _≤_, _<_, arith, le-trans, zero-add, Bool, true, false, _&&_}
+use Rattle.prelude.proofs.Basics.{_||_, cond, _≡_, refl, sym, ap, subst, _∙_, List, [], _∷_, _++_, length, getD, take}
+use Rattle.prelude.proofs.Basics.{drop, take-at, eqb, leb, eqb-false, eqb-true, le-leb, leb-true, lt-leb, ltb-false}
+use Rattle.prelude.proofs.Basics.{both}
 use Rattle.protocol.specs.Reason as Reason
-use Rattle.message.specs.Request.{stmtOf, cursorOf, argsOf}
-use Rattle.message.specs.Frame.{frameOf}
-use Rattle.message.specs.Padded.{paddedOf}
-use Rattle.message.specs.declared.request.Request.{Request}
-use Rattle.message.specs.declared.request.Frame.{Frame}
+use Rattle.message.specs.Request.{argsOf}
 use Rattle.message.specs.declared.request.Frame.the-variants.{NotAllThere, BadLength, UnknownType, BadPayload, Good}
-use Rattle.session.specs.Session.{Session}
-use Rattle.session.specs.Sound.{maxNumber}
-use Rattle.session.proofs.SumLaws.{and-true}
-use Rattle.reply.specs.declared.Reply.{Reply}
-use Rattle.reply.specs.Reply.{codes, codeOf, replyBytes}
-use Rattle.reply.specs.ReplyRules.{minBuffer}
-use Rattle.reply.proofs.ReplyLaws.{reply-error, fits-smallest}
-use Rattle.rules.specs.declared.Report.{Report}
-use Rattle.rules.specs.Kind.{onGood}
-use Rattle.rules.specs.Refusal.{stepReason}
-use Rattle.rules.specs.Decision.{named, wireCode, refusalOf, refusedReply, refused, accepted}
-use Rattle.rules.specs.Decision.{decisionOf}
-use Rattle.rules.specs.Step.{Step, short, tooShort, stepBy, stepOn, stepSays}
-use Rattle.rules.specs.Read.{Read, ReadIn}
+use Rattle.encode.specs.Put.{written}
+use Rattle.reply.specs.Reply.{codes, codeOf}
+use Rattle.reply.proofs.ReplyLaws.{reply-error}
+use Rattle.rules.proofs.Names.{stmtOf, cursorOf, frameOf, paddedOf, Frame, Request, Session, maxNumber, and-true}
+use Rattle.rules.proofs.Names.{replyBytes, minBuffer, Reply, fits-smallest, onGood, stepReason, accepted}
+use Rattle.rules.proofs.Names.{wireCode, refusalOf, refusedReply, refused, decisionOf, short, tooShort, stepBy}
+use Rattle.rules.proofs.Names.{stepOn, stepSays, Read, ReadIn, Report}
+use Rattle.rules.specs.Decision.{named}
+use Rattle.rules.specs.Step.{Step}
 use Rattle.rules.specs.StepRules.{Unchanged, Silent, Replies, errorBytes, Refused, RefusedChangesNothing}
 use Rattle.rules.proofs.ReadLaws.{frames-are-read}
 use Rattle.rules.proofs.RefusalLaws.{Took, took, code-small, low-used}

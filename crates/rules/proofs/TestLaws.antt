@@ -1,17 +1,9 @@
 -- Lists of tests: what holds of every reason in a list holds of the first one given, and where none is given no test
 -- holds.
 -- Assumes nothing.
-use Prim.Native.Nat.{ℕ}
-use native.Mathlib.Omega.{arith}
-use mathlib.Core.Bool.{Bool, true, false, cond, _&&_}
-use mathlib.Core.Path.{_≡_, refl}
-use mathlib.Core.List.{List, [], _∷_}
-use lib.Dec.{ltb}
-use borrow.Author.Tests.{ltb-true}
-use Rattle.prelude.proofs.Cases.{both}
-use Rattle.session.proofs.SumLaws.{and-true}
-use Rattle.rules.specs.Refusal.{Test, firstOf}
-use Rattle.rules.specs.RefusalRules.{NoneHolds}
+use Rattle.prelude.proofs.Basics.{ℕ, arith, Bool, true, false, _&&_, cond, _≡_, refl, List, [], _∷_, ltb, ltb-true}
+use Rattle.prelude.proofs.Basics.{both}
+use Rattle.rules.proofs.Names.{and-true, Test, firstOf, NoneHolds}
 
 -- every reason in the list passes; reasons are numerals, so that this computes
 abbrev pub allOf : (ℕ → Bool) → List Test → Bool

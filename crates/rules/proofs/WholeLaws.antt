@@ -1,19 +1,8 @@
 -- A step on one whole frame is not refused 1 or 2 and uses the frame, since its message does. Assumes nothing.
-use Prim.Native.Nat.{ℕ, _≤_}
-use native.Mathlib.Omega.{arith}
-use mathlib.Core.Path.{_≡_, refl, ap, _∙_}
-use mathlib.Core.List.{List}
-use lib.ListN.{length}
+use Rattle.prelude.proofs.Basics.{ℕ, _≤_, arith, _≡_, refl, ap, _∙_, List, length}
 use Rattle.protocol.specs.Reason as Reason
-use Rattle.message.specs.Head.{headOf}
-use Rattle.message.specs.Frame.{frameOf}
-use Rattle.message.specs.declared.head.Head.{Head}
 use Rattle.message.proofs.UsedLaws.{whole-used, whole-read}
-use Rattle.session.specs.Session.{Session}
-use Rattle.reply.specs.ReplyRules.{minBuffer}
-use Rattle.rules.specs.declared.Report.{Report}
-use Rattle.rules.specs.Refusal.{stepReason}
-use Rattle.rules.specs.Step.{stepOf}
+use Rattle.rules.proofs.Names.{headOf, frameOf, Head, Session, minBuffer, stepReason, stepOf, Report}
 use Rattle.rules.proofs.ReadLaws.{frames-are-read}
 use Rattle.rules.proofs.RefusalLaws.{late-read}
 use Rattle.rules.proofs.StepLaws.{step-has}

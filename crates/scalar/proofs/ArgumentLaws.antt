@@ -1,12 +1,8 @@
 -- Doubles and floats are carried with every bit kept, NaNs too (W6): one law over the format, and its two cases.
-use Prim.Native.Nat.{ℕ, _*_, _%_, _≤_, _<_}
-use mathlib.Core.Path.{_≡_, refl, sym, ap, _∙_}
-use mathlib.Core.Bool.{Bool, true, false, not, cond}
-use mathlib.Core.List.{[], _∷_}
-use lib.Dec.{T}
+use Rattle.prelude.proofs.Basics.{ℕ, _*_, _%_, _≤_, _<_, Bool, true, false, not, cond, _≡_, refl, sym, ap, _∙_, [], _∷_}
+use Rattle.prelude.proofs.Basics.{T, le-ltb, lt-ltb}
 use lib.Ieee.{Float, Format, binary32, binary64, ofBits, toBits, nanBits, isNan, top, ones, hid}
 use lib.Ieee.Bits.{toBits-ofBits, nanBits-is, nanBits-above}
-use borrow.Author.Tests.{lt-ltb, le-ltb}
 use Rattle.scalar.specs.declared.argument.Argument.{Argument}
 use Rattle.scalar.specs.declared.argument.Argument.the-variants as Va
 use Rattle.scalar.specs.Argument.{carried, typeOf, valuesOf}

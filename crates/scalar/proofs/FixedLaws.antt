@@ -1,12 +1,8 @@
 -- Laws of `little`: a number's parts and its bound; and the two answers at a place.
-use Prim.Native.Nat.{ℕ, zero, suc, _+_, _*_, _^_, _≤_, _<_}
-use mathlib.Core.Path.{_≡_}
-use mathlib.Core.List.{List}
-use lib.ListN.{length, getD}
-use native.Mathlib.Nat.{zero-add, suc-add, add-zero, add-assoc, mul-assoc, one-mul, pow-succ'}
+use Rattle.prelude.proofs.Basics.{ℕ, zero, suc, _+_, _*_, _^_, _≤_, _<_, arith, add-zero, mul-assoc, zero-add, _≡_}
+use Rattle.prelude.proofs.Basics.{List, length, getD, le-leb, lt-leb}
+use native.Mathlib.Nat.{suc-add, add-assoc, one-mul, pow-succ'}
 use native.Mathlib.Numerals.{one-add}
-use native.Mathlib.Omega.{arith}
-use borrow.Author.Tests.{le-leb, lt-leb}
 use Rattle.scalar.specs.declared.fixed.Fixed.the-variants.{Number, Bad}
 use Rattle.scalar.specs.Fixed.{little, fixedAt}
 

@@ -1,15 +1,11 @@
 -- Bits in two's complement and the signed number that they are: -1 - y, by which code goes from one to the other.
-use Prim.Native.Nat.{ℕ, zero, suc, _-_, _^_, _≤_, _<_}
-use mathlib.Core.Path.{_≡_, refl, ap, sym, _∙_}
-use mathlib.Core.Bool.{true, false}
-use native.Mathlib.Omega.{arith}
-use lib.Dec.{T}
+use Rattle.prelude.proofs.Basics.{ℕ, zero, suc, _-_, _^_, _≤_, _<_, arith, true, false, _≡_, refl, sym, ap, _∙_, T}
+use Rattle.prelude.proofs.Basics.{le-ltb, leb-false}
 use lib.IntN.{ℤ, pos, negsuc, natAbs, _-ℤ_}
 use lib.Signed.{leZ, nonNeg}
 use mir.Syntax.{w64}
 use mir.Val.{Fits, SFits, ofZ, toZ}
 use mir.ValLaws.{toZ-pos, toZ-neg, ofZ-fits, ofZ-toZ}
-use borrow.Author.Tests.{le-ltb, leb-false}
 
 flip-pos : (k : ℕ) → negsuc 0 -ℤ pos k ≡ negsuc k
 flip-pos zero = refl

@@ -1,14 +1,11 @@
 -- Zigzag loses nothing, either way; and how wrapping sums on bits in two's complement compute it.
-use Prim.Native.Nat.{ℕ, suc, _+_, _*_, _-_, _/_, _%_, _^_, _≤_, _<_}
-use mathlib.Core.Path.{_≡_, refl, ap, sym, _∙_}
-use mathlib.Core.Logic.{_⊎_, inl, inr}
+use Rattle.prelude.proofs.Basics.{ℕ, suc, _+_, _-_, _*_, _/_, _%_, _^_, _≤_, _<_, arith, _≡_, refl, sym, ap, _∙_, _⊎_}
+use Rattle.prelude.proofs.Basics.{inl, inr, eq-eqb, ne-eqb}
 use native.Mathlib.Nat.{eq-zero-or-pos}
-use native.Mathlib.Omega.{arith}
 use lib.IntN.{ℤ, pos, negsuc}
 use mir.Syntax.{w64}
 use mir.Val.{SFits, ofZ, toZ}
 use mir.ValLaws.{toZ-pos, toZ-neg}
-use borrow.Author.Tests.{eq-eqb, ne-eqb}
 use Rattle.scalar.specs.Zigzag.{zigzag, unzigzag}
 use Rattle.scalar.specs.ScalarRules.{ZigzagBothWays}
 

@@ -1,14 +1,7 @@
 -- A search of the ids by blocks. Assumes nothing.
-use Prim.Native.Nat.{ℕ, zero, suc, _+_, _-_, _*_, _≤_, _<_}
-use native.Mathlib.Omega.{arith}
-use mathlib.Core.Bool.{Bool, true, false, _&&_, _||_}
-use mathlib.Core.Path.{_≡_, refl, sym, ap, subst, _∙_}
-use mathlib.Core.List.{List}
-use lib.Dec.{eqb}
-use borrow.Author.Tests.{ne-eqb, eq-eqb}
-use Rattle.session.specs.Entry.{isStmt, isLiveStmt}
-use Rattle.session.specs.Tables.{maxStmts}
-use Rattle.session.specs.Words.{stmtIn}
+use Rattle.prelude.proofs.Basics.{ℕ, zero, suc, _+_, _-_, _*_, _≤_, _<_, arith, Bool, true, false, _&&_, _||_, _≡_}
+use Rattle.prelude.proofs.Basics.{refl, sym, ap, subst, _∙_, List, eqb, eq-eqb, ne-eqb}
+use Rattle.session.proofs.Names.{isLiveStmt, isStmt, maxStmts, stmtIn}
 use Rattle.session.specs.private.Search.{blockIds, anyIn}
 use Rattle.session.proofs.LoopLaws.{Looking, looks, looks-on}
 

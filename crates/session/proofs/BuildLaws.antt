@@ -1,10 +1,7 @@
 -- Lists that are built entry by entry. Assumes nothing.
-use Prim.Native.Nat.{ℕ, zero, suc, _+_, _<_, _≤_}
-use native.Mathlib.Omega.{arith}
-use mathlib.Core.Path.{_≡_, refl, sym, ap, _∙_}
-use mathlib.Core.List.{List, [], _∷_, map}
-use lib.ListN.{length, getD, set, replicate, List·getD-eq-default}
-use Rattle.session.specs.Words.{build}
+use Rattle.prelude.proofs.Basics.{ℕ, zero, suc, _+_, _≤_, _<_, arith, _≡_, refl, sym, ap, _∙_, List, [], _∷_, map}
+use Rattle.prelude.proofs.Basics.{length, getD, set, replicate, List·getD-eq-default}
+use Rattle.session.proofs.Names.{build}
 
 module _ {A : Type 0} where
   pub length-build : (f : ℕ → A) (k n : ℕ) → length (build f k n) ≡ n

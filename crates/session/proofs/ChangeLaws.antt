@@ -1,18 +1,9 @@
 -- Cursors that end, one turn at a time. Assumes nothing.
-use Prim.Native.Nat.{ℕ, _+_, _-_, _≤_, _<_, min}
-use native.Mathlib.Numerals.{add-one}
-use native.Mathlib.Omega.{arith}
-use mathlib.Core.Bool.{Bool, true, false, cond}
-use mathlib.Core.Path.{_≡_, sym, ap, _∙_}
-use mathlib.Core.List.{List}
-use lib.ListN.{getD, set}
-use Rattle.session.specs.declared.Place.{Place}
-use Rattle.session.specs.declared.Cursor.{Cursor}
-use Rattle.session.specs.Session.{Session, withCursors}
-use Rattle.session.specs.Lists.{change, entryAt}
-use Rattle.session.specs.Entry.{noCursor, withSent}
-use Rattle.session.specs.Tables.{maxCursors, endedBy, storedCursor, fetchedAt}
-use Rattle.session.specs.Words.{cursorIn, cursorsIn, sessionOf}
+use Rattle.prelude.proofs.Basics.{ℕ, _+_, _-_, _≤_, _<_, min, arith, add-one, Bool, true, false, cond, _≡_, sym, ap}
+use Rattle.prelude.proofs.Basics.{_∙_, List, getD, set}
+use Rattle.session.proofs.Names.{entryAt, change, Session, withCursors, noCursor, withSent, maxCursors, endedBy}
+use Rattle.session.proofs.Names.{fetchedAt, cursorIn, cursorsIn, sessionOf, Cursor, Place}
+use Rattle.session.specs.Tables.{storedCursor}
 use Rattle.session.proofs.BuildLaws.{length-build, getD-build}
 use Rattle.session.proofs.LoopLaws.{upTo, upTo-none, upTo-at, upTo-set, upTo-left, upTo-all}
 

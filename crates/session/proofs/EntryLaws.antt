@@ -1,11 +1,6 @@
 -- Laws on one entry. Assumes nothing.
-use Prim.Native.Nat.{ℕ, _-_}
-use mathlib.Core.Bool.{Bool, true, false, cond, not, _&&_}
-use mathlib.Core.Path.{_≡_, refl, sym, ap, _∙_}
-use borrow.Author.Tests.{ne-eqb}
-use Rattle.session.specs.declared.Cursor.{Cursor}
-use Rattle.session.specs.Session.{flag}
-use Rattle.session.specs.Entry.{owes}
+use Rattle.prelude.proofs.Basics.{ℕ, _-_, Bool, true, false, not, _&&_, cond, _≡_, refl, sym, ap, _∙_, ne-eqb}
+use Rattle.session.proofs.Names.{flag, owes, Cursor}
 
 -- a flag that is 0, and one that is not
 pub flag-off : (live : ℕ) → live ≡ 0 → flag live ≡ false

@@ -1,3 +1,4 @@
+mod Names
 pub mod BuildLaws
 pub mod RowLaws
 pub mod WordLaws

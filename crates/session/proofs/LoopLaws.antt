@@ -1,15 +1,9 @@
 -- The loops over a table, one turn at a time: a search, a sum, the bits of places, a change in place. Assumes nothing.
-use Prim.Native.Nat.{ℕ, zero, suc, _+_, _-_, _*_, _^_, _≤_, _<_}
-use native.Mathlib.Numerals.{add-one}
-use native.Mathlib.Omega.{arith}
-use mathlib.Core.Bool.{Bool, true, false, cond}
-use mathlib.Core.Path.{_≡_, refl, sym, ap, _∙_}
-use mathlib.Core.List.{List, [], _∷_, map}
-use lib.ListN.{length, getD, set, drop, drop-of-length-le, length-drop}
-use lib.Seq.{drop-cons}
-use Rattle.session.specs.declared.Place.{Place}
-use Rattle.session.specs.Lists.{first, orPlace, sumBy, maskOf}
-use Rattle.session.specs.Words.{build}
+use Rattle.prelude.proofs.Basics.{ℕ, zero, suc, _+_, _-_, _*_, _^_, _≤_, _<_, arith, add-one, Bool, true, false, cond}
+use Rattle.prelude.proofs.Basics.{_≡_, refl, sym, ap, _∙_, List, [], _∷_, map, length, getD, set, drop}
+use Rattle.prelude.proofs.Basics.{drop-of-length-le, length-drop, drop-cons}
+use Rattle.session.proofs.Names.{orPlace, first, sumBy, build, Place}
+use Rattle.session.specs.Lists.{maskOf}
 use Rattle.session.proofs.BuildLaws.{length-build, getD-build}
 
 -- what is left of a table past its end, and before it

@@ -1,13 +1,8 @@
 -- Where at most one entry passes a test, a change of the first that passes is a change of all that pass. Assumes
 -- nothing.
-use Prim.Native.Nat.{ℕ, zero, suc, _≤_}
-use native.Mathlib.Omega.{arith}
-use mathlib.Core.Bool.{Bool, true, false, cond}
-use mathlib.Core.Path.{_≡_, refl, sym, ap}
-use mathlib.Core.List.{List, [], _∷_}
-use lib.ListN.{getD, set}
-use Rattle.session.specs.declared.Place.{Place}
-use Rattle.session.specs.Lists.{first, put, entryAt, changed, sumBy, howMany}
+use Rattle.prelude.proofs.Basics.{ℕ, zero, suc, _≤_, arith, Bool, true, false, cond, _≡_, refl, sym, ap, List, [], _∷_}
+use Rattle.prelude.proofs.Basics.{getD, set}
+use Rattle.session.proofs.Names.{first, put, entryAt, changed, sumBy, howMany, Place}
 use Rattle.session.proofs.PlaceLaws.{Passes, found, none-from}
 use Rattle.session.proofs.SumLaws.{one, counted}
 

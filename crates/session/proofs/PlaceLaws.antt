@@ -1,12 +1,7 @@
 -- What a search found, and that it found nothing. Assumes nothing.
-use Prim.Native.Nat.{ℕ, suc, _+_, _<_}
-use native.Mathlib.Omega.{arith}
-use mathlib.Core.Bool.{Bool, true, false, cond}
-use mathlib.Core.Path.{_≡_, refl, sym, ap, subst, _∙_}
-use mathlib.Core.List.{List, [], _∷_}
-use lib.ListN.{length, getD}
-use Rattle.session.specs.declared.Place.{Place}
-use Rattle.session.specs.Lists.{first, howMany, sumBy, orPlace}
+use Rattle.prelude.proofs.Basics.{ℕ, suc, _+_, _<_, arith, Bool, true, false, cond, _≡_, refl, sym, ap, subst, _∙_}
+use Rattle.prelude.proofs.Basics.{List, [], _∷_, length, getD}
+use Rattle.session.proofs.Names.{orPlace, first, sumBy, howMany, Place}
 
 -- the entry at a place inside the list passes
 pub record Passes {A : Type 0} (p : A → Bool) (d : A) (xs : List A) (i : ℕ) : Type 0 where

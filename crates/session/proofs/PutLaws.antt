@@ -1,15 +1,8 @@
 -- An entry read and put at a place, inside the table and past it. Assumes nothing.
-use Prim.Native.Nat.{ℕ, _<_, _≤_}
+use Rattle.prelude.proofs.Basics.{ℕ, _≤_, _<_, arith, _≡_, refl, sym, ap, _∙_, List, getD, set}
 use native.Mathlib.Nat.{le-refl}
-use native.Mathlib.Omega.{arith}
-use mathlib.Core.Path.{_≡_, refl, sym, ap, _∙_}
-use mathlib.Core.List.{List}
-use lib.ListN.{getD, set}
-use Rattle.session.specs.declared.Place.{Place}
-use Rattle.session.specs.Lists.{indexOf, put, entryAt}
-use Rattle.session.specs.Entry.{noCursor, withSent}
-use Rattle.session.specs.Tables.{maxCursors}
-use Rattle.session.specs.Words.{build, cursorIn, cursorsIn}
+use Rattle.session.proofs.Names.{put, entryAt, noCursor, withSent, maxCursors, build, cursorIn, cursorsIn, Place}
+use Rattle.session.specs.Lists.{indexOf}
 use Rattle.session.proofs.BuildLaws.{length-build, getD-build, getD-past, set-past}
 
 module _ {A : Type 0} (f : ℕ → A) (n : ℕ) where

@@ -1,13 +1,10 @@
 -- Words written one after the other, and what becomes of rows of any width. Assumes nothing.
-use Prim.Native.Nat.{ℕ, zero, suc, _+_, _-_, _*_, _/_, _%_, _<_, _≤_}
-use native.Mathlib.Omega.{arith}
-use native.Mathlib.Nat.{mul-le-mul-left, mul-suc, mul-comm, div-add-mod', mod-lt}
-use mathlib.Core.Path.{_≡_, refl, sym, ap, _∙_}
-use mathlib.Core.List.{List, [], _∷_}
-use lib.ListN.{length, set, length-set}
-use lib.Seq.{sets, length-sets, getD-set-same, getD-set-other, ext-getD}
-use Rattle.prelude.proofs.Cases.{less-or-not}
-use Rattle.session.specs.Words.{build, word}
+use Rattle.prelude.proofs.Basics.{ℕ, zero, suc, _+_, _-_, _*_, _/_, _%_, _≤_, _<_, arith, mod-lt, _≡_, refl, sym, ap}
+use Rattle.prelude.proofs.Basics.{_∙_, List, [], _∷_, length, set, length-set, getD-set-other, getD-set-same}
+use Rattle.prelude.proofs.Basics.{length-sets, sets, less-or-not}
+use native.Mathlib.Nat.{mul-le-mul-left, mul-suc, mul-comm, div-add-mod'}
+use lib.Seq.{ext-getD}
+use Rattle.session.proofs.Names.{build, word}
 use Rattle.session.proofs.BuildLaws.{length-build, getD-build, same-build}
 
 -- the words vs stand from a on; all others stay

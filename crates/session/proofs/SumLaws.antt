@@ -1,17 +1,11 @@
 -- Sums, counts and properties over the entries of a table, after an entry is put and after entries are changed.
 -- Assumes nothing.
-use Prim.Native.Nat.{ℕ, zero, suc, _+_, _≤_, _<_}
-use native.Mathlib.Omega.{arith}
+use Rattle.prelude.proofs.Basics.{ℕ, zero, suc, _+_, _≤_, _<_, arith, Bool, true, false, not, _&&_, cond, false≢true}
+use Rattle.prelude.proofs.Basics.{_≡_, refl, sym, ap, subst, _∙_, List, [], _∷_, map, length, getD, set, replicate}
+use Rattle.prelude.proofs.Basics.{length-set, eqb, eqb-true, not-true, both}
 use native.Mathlib.Nat.{le-refl, le-of-eq}
-use mathlib.Core.Bool.{Bool, true, false, cond, _&&_, not, false≢true}
-use mathlib.Core.Path.{_≡_, refl, sym, ap, subst, _∙_}
-use mathlib.Core.List.{List, [], _∷_, map}
-use lib.ListN.{length, getD, set, replicate, length-set}
-use lib.Dec.{eqb}
-use borrow.Author.Tests.{eqb-true, not-true}
-use Rattle.prelude.proofs.Cases.{both}
-use Rattle.session.specs.declared.Place.{Place}
-use Rattle.session.specs.Lists.{first, put, change, changed, sumBy, howMany, All, orPlace}
+use Rattle.session.proofs.Names.{orPlace, first, put, change, changed, sumBy, howMany, Place}
+use Rattle.session.specs.Lists.{All}
 use Rattle.session.proofs.PlaceLaws.{Passes, Taken, taken, At-nothing, none-from, none-back}
 use Rattle.session.proofs.PlaceLaws.Taken.{own, new}
 

@@ -1,24 +1,16 @@
 -- Every operation keeps a session sound. Assumes nothing.
-use Prim.Native.Nat.{ℕ, _+_, _-_, _≤_}
-use native.Mathlib.Nat.{le-trans}
-use native.Mathlib.Omega.{arith}
-use mathlib.Core.Bool.{Bool, true, false, _&&_, not, true≢false, false≢true}
-use mathlib.Core.Path.{_≡_, refl, sym, ap, subst, _∙_}
-use mathlib.Core.List.{List}
-use lib.ListN.{length, getD, set, length-map, length-replicate}
-use lib.Dec.{eqb}
-use borrow.Author.Tests.{eqb-true, eq-eqb}
-use Rattle.session.specs.declared.Place.{Place}
-use Rattle.session.specs.declared.Stmt.{Stmt}
-use Rattle.session.specs.declared.Cursor.{Cursor}
-use Rattle.session.specs.Session.{Session, withStmts, withCursors, withClosed, isClosed}
-use Rattle.session.specs.Lists.{put, entryAt, changed, always, howMany}
-use Rattle.session.specs.Entry.{noStmt, noCursor, newStmt, newCursor, isLiveStmt, isLiveCursor, isStmt, isCursor}
-use Rattle.session.specs.Entry.{onStmt, raise}
-use Rattle.session.specs.Tables.{maxStmts, maxCursors, fresh, stmtAt, cursorOn, stmtPlace, cursorPlace, stmtCount}
-use Rattle.session.specs.Tables.{cursorCount, liveStmt, carried, ends, endedBy, ended, endedOn, prepared, freed}
-use Rattle.session.specs.Tables.{opened, fetched, reset, closedNow}
-use Rattle.session.specs.Sound.{maxNumber, maxPlaceholders, ProperStmt, ProperCursor, Sound, Openable}
+use Rattle.prelude.proofs.Basics.{ℕ, _+_, _≤_, arith, le-trans, Bool, true, false, not, _&&_, true≢false, false≢true}
+use Rattle.prelude.proofs.Basics.{_≡_, refl, sym, ap, subst, _∙_, List, length, getD, set, eqb, eq-eqb, eqb-true}
+use lib.ListN.{length-map, length-replicate}
+use Rattle.session.proofs.Names.{put, entryAt, changed, howMany, Session, withStmts, withCursors, withClosed}
+use Rattle.session.proofs.Names.{noStmt, noCursor, newStmt, isLiveStmt, isLiveCursor, isStmt, maxStmts}
+use Rattle.session.proofs.Names.{maxCursors, fresh, endedBy, reset, maxNumber, Cursor, Place, Stmt}
+use Rattle.session.specs.Session.{isClosed}
+use Rattle.session.specs.Lists.{always}
+use Rattle.session.specs.Entry.{newCursor, isCursor, onStmt, raise}
+use Rattle.session.specs.Tables.{stmtAt, cursorOn, stmtPlace, cursorPlace, stmtCount, cursorCount, liveStmt}
+use Rattle.session.specs.Tables.{carried, ends, ended, endedOn, prepared, freed, opened, fetched, closedNow}
+use Rattle.session.specs.Sound.{maxPlaceholders, ProperStmt, ProperCursor, Sound, Openable}
 use Rattle.session.proofs.OnceLaws.{first-changed}
 use Rattle.session.proofs.PlaceLaws.{found, none-from}
 use Rattle.session.proofs.SumLaws.{one, sum-le, sum-add, sum-set, sum-put-le, length-put, sum-replicate}

@@ -1,22 +1,17 @@
 -- The session that words hold: read at a place, after a store, and lost by none. Assumes nothing.
-use Prim.Native.Nat.{ℕ, _+_, _*_, _<_, _≤_}
-use native.Mathlib.Omega.{arith}
-use mathlib.Core.Path.{_≡_, refl, sym, ap, _∙_}
-use mathlib.Core.List.{List, [], _∷_, map}
-use lib.ListN.{length, set, replicate, length-set, length-replicate, getD-replicate, List·getD-eq-default}
-use lib.Seq.{sets, getD-set-same, getD-set-other, ext-getD}
-use Rattle.session.specs.declared.Stmt.{Stmt}
-use Rattle.session.specs.declared.Cursor.{Cursor}
-use Rattle.session.specs.Session.{Session, withStmts, withCursors, withClosed}
-use Rattle.session.specs.Entry.{noStmt, noCursor, withSent}
-use Rattle.session.specs.Tables.{maxStmts, maxCursors, cursorWords, cursorFields, spareWords, noSpare}
-use Rattle.session.specs.Tables.{fresh, reset}
-use Rattle.session.specs.Words.{build, word, stmtWords, stmtRows, cursorRows, closedAt, wordCount}
-use Rattle.session.specs.Words.{stmtIn, cursorIn, spareIn, stmtsIn, cursorsIn, sparesIn, sessionOf, NothingLost}
+use Rattle.prelude.proofs.Basics.{ℕ, _+_, _*_, _≤_, _<_, arith, _≡_, refl, sym, ap, _∙_, List, [], _∷_, map, length}
+use Rattle.prelude.proofs.Basics.{set, replicate, List·getD-eq-default, length-set, getD-set-other, getD-set-same, sets}
+use Rattle.prelude.proofs.Basics.{less-or-not}
+use lib.ListN.{length-replicate, getD-replicate}
+use lib.Seq.{ext-getD}
+use Rattle.session.proofs.Names.{Session, withStmts, withCursors, withClosed, noStmt, noCursor, withSent}
+use Rattle.session.proofs.Names.{maxStmts, maxCursors, fresh, reset, closedAt, wordCount, build, word, stmtIn}
+use Rattle.session.proofs.Names.{cursorIn, cursorsIn, sessionOf, Cursor, Stmt}
+use Rattle.session.specs.Tables.{cursorWords, cursorFields, spareWords, noSpare}
+use Rattle.session.specs.Words.{stmtWords, stmtRows, cursorRows, spareIn, stmtsIn, sparesIn, NothingLost}
 use Rattle.session.proofs.BuildLaws.{length-build, same-build, set-build, all-build, all-map, build-at}
-use Rattle.prelude.proofs.Cases.{less-or-not}
-use Rattle.session.proofs.RowLaws.{stored, stored-sets, sets-before, sets-after}
-use Rattle.session.proofs.RowLaws.{row, same-row, row-words, row-here, row-there, rows-same}
+use Rattle.session.proofs.RowLaws.{stored, stored-sets, sets-before, sets-after, row, same-row, row-words}
+use Rattle.session.proofs.RowLaws.{row-here, row-there, rows-same}
 
 -- an entry by its row
 abbrev stmtOf : ℕ → List ℕ → Stmt

@@ -1,26 +1,20 @@
 -- The demands over the frames handed out follow from the demands over any frames. Assumes nothing.
-use Prim.Native.Nat.{ℕ}
-use native.Mathlib.Omega.{arith}
-use mathlib.Core.Path.{_≡_, refl, sym, ap, subst, _∙_}
-use mathlib.Core.List.{List, [], _∷_, map, append-nil}
-use lib.ListN.{length, getD, take}
-use lib.Seq.{length-take-le}
-use lib.Dec.{eqb}
-use Rattle.prelude.proofs.Cases.{both}
+use Rattle.prelude.proofs.Basics.{ℕ, arith, _≡_, refl, sym, ap, subst, _∙_, List, [], _∷_, map, append-nil, length}
+use Rattle.prelude.proofs.Basics.{getD, take, length-take-le, eqb, both}
 use Rattle.protocol.specs.Reason as Reason
-use Rattle.session.specs.Lists.{All}
 use Rattle.message.specs.declared.head.Head.{Head}
 use Rattle.message.specs.Head.{lengthBytes, headOf}
 use Rattle.message.specs.Frame.{frameOf, ofHead, refusedHead, reasonOf, usedOf}
 use Rattle.message.proofs.UsedLaws.{uses-all}
 use Rattle.message.proofs.WithinLaws.{frame-within}
+use Rattle.session.specs.Lists.{All}
 use Rattle.rules.proofs.WholeLaws.{step-whole}
 use Rattle.history.proofs.HistoryLaws.{demand-3}
 use Rattle.writer.specs.RoundTrip.{ReadsAs}
 use Rattle.writer.proofs.RoundTripLaws.{round-trip}
 use Rattle.streams.specs.ReaderRules.{Whole}
-use Rattle.streams.proofs.FrontLaws.{frame-told}
 use Rattle.streams.specs.Demands.{StepsUseAll, Demand3Arrivals, Written, bytesOf, WrittenComeBack}
+use Rattle.streams.proofs.FrontLaws.{frame-told}
 use Rattle.streams.proofs.ReadingLaws.{frames-arrive}
 
 pub steps-use-all : StepsUseAll

@@ -1,9 +1,5 @@
 -- Equal frames and reports give equal steps: a step's outcome does not depend on its buffer. Assumes nothing.
-use Prim.Native.Nat.{ℕ}
-use native.Mathlib.Omega.{arith}
-use mathlib.Core.Path.{_≡_, refl, sym, ap, _∙_}
-use mathlib.Core.List.{List, [], _∷_, map}
-use lib.ListN.{length, getD, drop}
+use Rattle.prelude.proofs.Basics.{ℕ, arith, _≡_, refl, sym, ap, _∙_, List, [], _∷_, map, length, getD, drop}
 use Rattle.session.specs.Session.{Session}
 use Rattle.session.specs.Lists.{All}
 use Rattle.rules.specs.declared.Report.{Report}

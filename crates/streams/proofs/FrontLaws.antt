@@ -1,16 +1,11 @@
 -- What stands first in some bytes is told by the first of them: more bytes behind change neither a whole frame nor a
 -- bad length. Assumes nothing.
-use Prim.Native.Nat.{ℕ, zero, suc, _+_, _*_, _≤_}
-use native.Mathlib.Omega.{arith}
-use mathlib.Core.Bool.{Bool, true, false, cond}
-use mathlib.Core.Path.{_≡_, refl, sym, ap, ap₂, _∙_}
-use mathlib.Core.List.{List, [], _++_, append-nil}
-use mathlib.Core.Logic.{_⊎_, inl, inr, ⊎-elim}
-use lib.ListN.{length, getD, take, drop, length-append, length-take, take-append-drop, List·getD-append}
-use lib.Seq.{getD-take, take-take, take-append-seam, length-take-le}
-use lib.Dec.{leb, ltb, eqb}
-use borrow.Author.Tests.{lt-ltb, le-ltb, le-leb, eq-eqb, ne-eqb, leb-true, ltb-true, ltb-false, eqb-true, eqb-false}
-use Rattle.prelude.proofs.Cases.{both}
+use Rattle.prelude.proofs.Basics.{ℕ, zero, suc, _+_, _*_, _≤_, arith, Bool, true, false, cond, _≡_, refl, sym, ap, ap₂}
+use Rattle.prelude.proofs.Basics.{_∙_, _⊎_, inl, inr, ⊎-elim, List, [], _++_, append-nil, length, getD, take, drop}
+use Rattle.prelude.proofs.Basics.{List·getD-append, length-append, length-take, take-append-drop, getD-take}
+use Rattle.prelude.proofs.Basics.{length-take-le, take-take, eqb, leb, ltb, eq-eqb, eqb-false, eqb-true, le-leb, le-ltb}
+use Rattle.prelude.proofs.Basics.{leb-true, lt-ltb, ltb-false, ltb-true, ne-eqb, both}
+use lib.Seq.{take-append-seam}
 use Rattle.protocol.specs.Reason as Reason
 use Rattle.scalar.specs.Fixed.{little}
 use Rattle.message.specs.declared.head.Head.{Head}

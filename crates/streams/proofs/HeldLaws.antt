@@ -1,32 +1,24 @@
 -- One push and one next_frame, told by the bytes held alone: the held bytes are always a part of the store, and what
 -- is written behind them, or moved to the front with them, leaves them as they were. Assumes nothing.
-use Prim.Native.Nat.{ℕ, _+_, _-_, _≤_, _<_}
-use native.Mathlib.Omega.{arith}
-use mathlib.Core.Bool.{Bool, true, false, cond, _&&_, true≢false}
-use mathlib.Core.Path.{_≡_, refl, sym, ap, subst, _∙_}
-use mathlib.Core.List.{List, _++_}
-use mathlib.Core.Logic.{_⊎_, inl, inr, ⊎-elim}
-use lib.ListN.{length, take, drop, length-append, length-drop}
-use lib.Seq.{length-take-le, take-take, take-add, drop-drop, drop-append-le, take-at, drop-at}
-use lib.Dec.{leb, eqb}
-use borrow.Author.Tests.{le-leb, lt-leb, leb-true, leb-false, eq-eqb, ne-eqb, eqb-true, eqb-false}
-use Rattle.prelude.proofs.Cases.{both, yes, no, less-or-not}
+use Rattle.prelude.proofs.Basics.{ℕ, _+_, _-_, _≤_, _<_, arith, Bool, true, false, _&&_, cond, true≢false, _≡_, refl}
+use Rattle.prelude.proofs.Basics.{sym, ap, subst, _∙_, _⊎_, inl, inr, ⊎-elim, List, _++_, length, take, drop}
+use Rattle.prelude.proofs.Basics.{length-append, length-drop, drop-append-le, drop-at, drop-drop, length-take-le}
+use Rattle.prelude.proofs.Basics.{take-add, take-at, take-take, eqb, leb, eq-eqb, eqb-false, eqb-true, le-leb}
+use Rattle.prelude.proofs.Basics.{leb-false, leb-true, lt-leb, ne-eqb, both, yes, no, less-or-not}
 use Rattle.protocol.specs.Reason as Reason
-use Rattle.encode.specs.Put.{written}
-use Rattle.encode.proofs.PutLaws.{length-written}
 use Rattle.message.specs.declared.head.Head.{Head}
 use Rattle.message.specs.Head.{lengthBytes, headOf, lengthOf, maxLength}
+use Rattle.encode.specs.Put.{written}
+use Rattle.encode.proofs.PutLaws.{length-written}
 use Rattle.streams.specs.declared.Reader.{Reader}
 use Rattle.streams.specs.declared.NextFrame.{NextFrame}
-use Rattle.streams.specs.Reader.{Push, storeSize, standsFirst, badFirst}
-use Rattle.streams.specs.Reader.{reader, startOver, between, part, isPart, usable, held, settled, takenCount}
-use Rattle.streams.specs.Reader.{fitsBehind, readerFor, storeFor, behind, pushOn, pushAt, pushOf}
-use Rattle.streams.specs.Reader.{nextBy, nextOf}
-use Rattle.streams.specs.ReaderRules.{kept, PushesBehind, Hands}
-use Rattle.streams.specs.ReaderRules.{HandsFirst, Alike, PushesAlike, HandsAlike, HeldDecides, WholeFirst}
-use Rattle.streams.specs.ReaderRules.{BadFirst, WaitsExactly, TakesAll, WaitHasRoom}
-use Rattle.streams.proofs.FrontLaws.{first-is, frame-told, frame-known, bad-known, refused-told}
-use Rattle.streams.proofs.FrontLaws.{whole-told, bad-told, bad-four, kept-bad, kept-good, kept-both}
+use Rattle.streams.specs.Reader.{Push, storeSize, standsFirst, badFirst, reader, startOver, between, part, isPart}
+use Rattle.streams.specs.Reader.{usable, held, settled, takenCount, fitsBehind, readerFor, storeFor, behind}
+use Rattle.streams.specs.Reader.{pushOn, pushAt, pushOf, nextBy, nextOf}
+use Rattle.streams.specs.ReaderRules.{kept, PushesBehind, Hands, HandsFirst, Alike, PushesAlike, HandsAlike}
+use Rattle.streams.specs.ReaderRules.{HeldDecides, WholeFirst, BadFirst, WaitsExactly, TakesAll, WaitHasRoom}
+use Rattle.streams.proofs.FrontLaws.{first-is, frame-told, frame-known, bad-known, refused-told, whole-told}
+use Rattle.streams.proofs.FrontLaws.{bad-told, bad-four, kept-bad, kept-good, kept-both}
 
 -- ---- the bytes from one place up to another
 

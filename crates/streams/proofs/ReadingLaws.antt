@@ -1,36 +1,27 @@
 -- Every list of operations keeps one invariant: frames handed out, then bytes left, then bytes dropped behind a bad
 -- length are the bytes taken. Assumes nothing.
-use Prim.Native.Nat.{ℕ, zero, suc, _≤_}
-use native.Mathlib.Omega.{arith}
-use mathlib.Core.Bool.{Bool, true, false, cond}
-use mathlib.Core.Path.{_≡_, refl, sym, ap, _∙_}
-use mathlib.Core.List.{List, [], _∷_, _++_, append-nil}
-use mathlib.Core.Logic.{inl, ⊎-elim}
-use lib.ListN.{length, take, drop, replicate, length-take, length-drop}
-use lib.Seq.{take-all, take-length}
-use borrow.Author.Tests.{eq-eqb, ne-eqb, eqb-true}
+use Rattle.prelude.proofs.Basics.{ℕ, zero, suc, _≤_, arith, Bool, true, false, cond, _≡_, refl, sym, ap, _∙_, inl}
+use Rattle.prelude.proofs.Basics.{⊎-elim, List, [], _∷_, _++_, append-nil, length, take, drop, replicate, length-drop}
+use Rattle.prelude.proofs.Basics.{length-take, take-all, take-length, eq-eqb, eqb-true, ne-eqb}
 use Rattle.protocol.specs.Reason as Reason
-use Rattle.session.specs.Lists.{All}
 use Rattle.message.specs.declared.head.Head.{Head}
 use Rattle.message.specs.Head.{lengthBytes, headOf}
+use Rattle.session.specs.Lists.{All}
+use Rattle.history.proofs.ListLaws.{all-append}
 use Rattle.streams.specs.declared.Reader.{Reader}
 use Rattle.streams.specs.declared.NextFrame.{NextFrame}
-use Rattle.streams.specs.Reader.{Push, standsFirst, badFirst, startOver, isPart, part}
-use Rattle.streams.specs.Reader.{held}
-use Rattle.streams.specs.Reader.{pushOf, nextOf}
+use Rattle.streams.specs.Reader.{Push, standsFirst, badFirst, startOver, isPart, part, held, pushOf, nextOf}
 use Rattle.streams.specs.ReaderRules.{kept, frameAt, Pushes, Hands, HandsNone, Whole}
-use Rattle.streams.proofs.HeldLaws.{stands-kept, pushes-behind, hands-first}
-use Rattle.streams.specs.Reading.{Operation, push, nextFrame, restart, Reading, left, pushedBy, handedBy}
-use Rattle.streams.specs.Reading.{operate, operated, fromStart, reading}
+use Rattle.streams.specs.Reading.{Operation, push, nextFrame, restart, Reading, left, pushedBy, handedBy, operate}
+use Rattle.streams.specs.Reading.{operated, fromStart, reading}
 use Rattle.streams.specs.Stream.{joined, Stream, stream, lessDropped}
 use Rattle.streams.specs.Divided.{Offered}
 use Rattle.streams.specs.Demands.{FramesArrive}
 use Rattle.streams.specs.Arrivals.{Always, Conserved, HandsOutFrames, Drained, ReadInOrder, goesOn, Refuses}
 use Rattle.streams.specs.Arrivals.{Stays, StaysBad, StartsEmpty, Drains}
+use Rattle.streams.proofs.HeldLaws.{stands-kept, pushes-behind, hands-first}
 use Rattle.streams.proofs.FrontLaws.{frame-told, refused-some, refused-none, bad-told, bad-known, refusal}
-use Rattle.streams.proofs.FrontLaws.{whole-told}
-use Rattle.streams.proofs.FrontLaws.{kept-both, nothing-kept}
-use Rattle.history.proofs.ListLaws.{all-append}
+use Rattle.streams.proofs.FrontLaws.{whole-told, kept-both, nothing-kept}
 use Rattle.streams.proofs.StreamLaws.{Holds, holds-as, joined-holds, more-comes, one-out, four-left, stream-is}
 use Rattle.streams.proofs.StreamLaws.{whole-stream, dropped-alike, behind-alike}
 

@@ -1,5 +1,5 @@
 -- The worked examples compute. Assumes nothing.
-use mathlib.Core.Path.{refl}
+use Rattle.prelude.proofs.Basics.{refl}
 use Rattle.scalar.specs.Fixed.{little}
 use Rattle.streams.specs.Reader.{standsFirst, held, pushAt, pushOf, nextOf}
 use Rattle.streams.specs.Reading.{operate, operated}

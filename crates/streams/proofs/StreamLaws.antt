@@ -1,25 +1,21 @@
 -- Bytes come to one list of whole frames and one rest: frames that stand one behind the other are found again, each by
 -- its own length. Assumes nothing.
-use Prim.Native.Nat.{ℕ, zero, suc, _≤_}
-use native.Mathlib.Omega.{arith}
-use mathlib.Core.Bool.{Bool, true, false}
-use mathlib.Core.Path.{_≡_, refl, sym, ap, ap₂, subst₃, _∙_}
-use mathlib.Core.List.{List, [], _∷_, _++_, append-nil, append-assoc}
-use lib.ListN.{length, take, drop, length-append, length-take, length-drop, take-append-drop}
-use lib.Seq.{take-append-le, take-append-seam, drop-append-seam}
-use borrow.Author.Tests.{eqb-true}
+use Rattle.prelude.proofs.Basics.{ℕ, zero, suc, _≤_, arith, Bool, true, false, _≡_, refl, sym, ap, ap₂, _∙_, List, []}
+use Rattle.prelude.proofs.Basics.{_∷_, _++_, append-nil, append-assoc, length, take, drop, length-append, length-drop}
+use Rattle.prelude.proofs.Basics.{length-take, take-append-drop, take-append-le, eqb-true}
+use mathlib.Core.Path.{subst₃}
+use lib.Seq.{take-append-seam, drop-append-seam}
 use Rattle.protocol.specs.Reason as Reason
-use Rattle.session.specs.Lists.{All}
-use Rattle.history.proofs.ListLaws.{all-append}
 use Rattle.message.specs.declared.head.Head.{Head}
 use Rattle.message.specs.Head.{lengthBytes, headOf}
+use Rattle.session.specs.Lists.{All}
+use Rattle.history.proofs.ListLaws.{all-append}
 use Rattle.streams.specs.Reader.{standsFirst, badFirst}
 use Rattle.streams.specs.ReaderRules.{kept, Whole}
 use Rattle.streams.specs.Stream.{joined, Stream, also, streamBy, streamFrom, stream, lessDropped}
 use Rattle.streams.proofs.FrontLaws.{frame-told, refusal, bad-told, whole-told, refused-none, frame-good}
-use Rattle.streams.proofs.FrontLaws.{frame-more}
-use Rattle.streams.proofs.FrontLaws.{frame-whole, bad-more, bad-four, kept-bad, unkept, unkept-good, kept-all}
-use Rattle.streams.proofs.FrontLaws.{kept-both, first-kept, kept-kept, nothing-first, nothing-kept}
+use Rattle.streams.proofs.FrontLaws.{frame-more, frame-whole, bad-more, bad-four, kept-bad, unkept, unkept-good}
+use Rattle.streams.proofs.FrontLaws.{kept-all, kept-both, first-kept, kept-kept, nothing-first, nothing-kept}
 
 -- ---- lists
 

@@ -1,25 +1,16 @@
 -- A record is read alike from any part of the input that holds it. Assumes nothing.
-use Prim.Native.Nat.{ℕ, zero, suc, _+_, _%_, _≤_, _<_}
-use native.Mathlib.Omega.{arith}
-use mathlib.Core.Bool.{Bool, true, false, cond}
-use mathlib.Core.Path.{_≡_, refl, sym, ap, _∙_}
-use mathlib.Core.List.{List, _++_, append-assoc}
-use lib.ListN.{length, getD, take, drop, length-append, length-drop, List·getD-append}
-use lib.Seq.{getD-append-add, drop-append-add, drop-append-le, take-append-le}
-use lib.Dec.{eqb, ltb}
-use borrow.Author.Tests.{lt-ltb, le-ltb, ltb-true, ltb-false}
-use Rattle.varint.specs.declared.Varint.{Varint}
-use Rattle.varint.specs.Varint.{onto, groups, low64, varintAt}
+use Rattle.prelude.proofs.Basics.{ℕ, zero, suc, _+_, _%_, _≤_, _<_, arith, Bool, true, false, cond, _≡_, refl, sym, ap}
+use Rattle.prelude.proofs.Basics.{_∙_, List, _++_, append-assoc, length, getD, take, drop, List·getD-append}
+use Rattle.prelude.proofs.Basics.{length-append, length-drop, drop-append-le, take-append-le, eqb, ltb, le-ltb, lt-ltb}
+use Rattle.prelude.proofs.Basics.{ltb-false, ltb-true}
+use lib.Seq.{getD-append-add, drop-append-add}
 use Rattle.varint.proofs.GroupLaws.{groups-none}
-use Rattle.rules.specs.declared.Report.{Report}
-use Rattle.rules.specs.Report.{prepared, result, failed}
-use Rattle.trace_line.specs.declared.record.Number.{Number}
-use Rattle.trace_line.specs.declared.record.Record.{Record}
-use Rattle.trace_line.specs.Record.{numberOf, numberAt, andThen, maxFrame, maxKind, bareReport, preparedReport}
-use Rattle.trace_line.specs.Record.{failedReport, resultReport, preparedAt, failedAt, rowsAt, resultAt, reportAt}
-use Rattle.trace_line.specs.Record.{kindAt, frameAt, recordAt}
+use Rattle.trace_line.proofs.Names.{onto, low64, varintAt, groups, Varint, prepared, result, failed, Report}
+use Rattle.trace_line.proofs.Names.{numberOf, numberAt, andThen, maxFrame, maxKind, bareReport, preparedReport}
+use Rattle.trace_line.proofs.Names.{resultReport, failedReport, preparedAt, failedAt, rowsAt, resultAt, reportAt}
+use Rattle.trace_line.proofs.Names.{kindAt, frameAt, recordAt, shifted, Number, Record}
+use Rattle.trace_line.specs.RecordRules.{ReadsAlike, FrameAlike}
 use Rattle.trace_line.proofs.RecordLaws.{unended-bad}
-use Rattle.trace_line.specs.RecordRules.{shifted, ReadsAlike, FrameAlike}
 
 -- s stands in t from the place k on
 pub record Holds (k : ℕ) (s t : List ℕ) : Type 0 where

@@ -1,33 +1,16 @@
 -- The bytes of an input come to the same lines however they are taken: what was printed, and what the rest comes to,
 -- is what all of it comes to. Assumes nothing.
-use Prim.Native.Nat.{ℕ, zero, suc, _+_, _-_, _≤_}
-use native.Mathlib.Omega.{arith}
-use native.Mathlib.Nat.{zero-add}
-use mathlib.Core.Bool.{Bool, true, false, cond}
-use mathlib.Core.Path.{_≡_, refl, sym, ap, _∙_}
-use mathlib.Core.List.{List, [], _∷_, _++_, append-assoc, append-nil}
-use mathlib.Core.Logic.{_⊎_, inl, inr, ⊎-elim}
-use lib.ListN.{length, take, drop, length-append, length-take, length-drop}
-use lib.Seq.{drop-append-le, take-at, length-take-le}
-use lib.Dec.{leb}
-use Rattle.varint.specs.Varint.{groups}
-use Rattle.encode.specs.Put.{written}
-use Rattle.encode.proofs.PutLaws.{length-written, drop-written}
-use Rattle.session.specs.Session.{Session}
-use Rattle.rules.specs.declared.Report.{Report}
-use Rattle.rules.specs.Step.{stepOf}
-use Rattle.trace_line.specs.declared.record.Record.{Record}
-use Rattle.trace_line.specs.declared.printer.First.{First}
-use Rattle.trace_line.specs.declared.printer.Printer.{Printer}
-use Rattle.trace_line.specs.Record.{numberAt, recordAt}
-use Rattle.trace_line.specs.RecordRules.{Within, shifted}
-use Rattle.trace_line.specs.Trace.{lineAfter, replyBuffer}
-use Rattle.trace_line.specs.Line.{lineOf}
-use Rattle.trace_line.specs.End.{endText}
-use Rattle.trace_line.specs.Output.{header, Lines, noLine, also, numberBehind, Behind, lineThen, onRecord}
-use Rattle.trace_line.specs.Output.{linesFrom, linesOf, outputOf}
-use Rattle.trace_line.specs.Printer.{firstOf, standsFirst, maxLine, linesWithin, heldBy, takenCount}
-use Rattle.trace_line.specs.Printer.{printOf}
+use Rattle.prelude.proofs.Basics.{ℕ, zero, suc, _+_, _-_, _≤_, arith, zero-add, Bool, true, false, cond, _≡_, refl, sym}
+use Rattle.prelude.proofs.Basics.{ap, _∙_, _⊎_, inl, inr, ⊎-elim, List, [], _∷_, _++_, append-nil, append-assoc, length}
+use Rattle.prelude.proofs.Basics.{take, drop, length-append, length-drop, length-take, drop-append-le, length-take-le}
+use Rattle.prelude.proofs.Basics.{take-at, leb}
+use Rattle.encode.proofs.PutLaws.{drop-written}
+use Rattle.trace_line.proofs.Names.{groups, Session, written, length-written, stepOf, Report, lineOf, endText}
+use Rattle.trace_line.proofs.Names.{Lines, header, noLine, also, numberBehind, Behind, onRecord, linesFrom}
+use Rattle.trace_line.proofs.Names.{firstOf, standsFirst, maxLine, linesWithin, printOf, numberAt, recordAt}
+use Rattle.trace_line.proofs.Names.{Within, shifted, lineAfter, replyBuffer, First, Printer, Record}
+use Rattle.trace_line.specs.Output.{lineThen, linesOf, outputOf}
+use Rattle.trace_line.specs.Printer.{heldBy, takenCount}
 use Rattle.trace_line.specs.Chunks.{Call, Printing, called, calls, begun, printing, writtenBy, heldThen, Ended}
 use Rattle.trace_line.specs.Chunks.{AnyChunks}
 use Rattle.trace_line.proofs.WithinLaws.{records-within}

@@ -1,12 +1,7 @@
 -- The end's text, by what is left. Assumes nothing.
-use Prim.Native.Nat.{ℕ, zero, suc}
-use native.Mathlib.Omega.{arith}
-use mathlib.Core.Path.{_≡_, refl}
-use mathlib.Core.List.{List, []}
-use Rattle.encode.specs.declared.put.Put.{Put}
-use Rattle.encode.specs.Put.{putAt, written}
+use Rattle.prelude.proofs.Basics.{ℕ, zero, suc, arith, _≡_, refl, List, []}
 use Rattle.reply.specs.Text.{ascii}
-use Rattle.trace_line.specs.End.{endText}
+use Rattle.trace_line.proofs.Names.{putAt, written, Put, endText}
 
 abbrev Wrote : List ℕ → ℕ → List ℕ → Put → List ℕ → Type 0
 Wrote out at text r after = (r ≡ putAt out at text) × (after ≡ written out at text)

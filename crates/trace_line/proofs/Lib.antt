@@ -1,3 +1,4 @@
+mod Names
 pub mod AlikeLaws
 pub mod ChunkLaws
 pub mod EndLaws

@@ -1,17 +1,12 @@
 -- Lines: marks and lengths. Assumes nothing.
-use Prim.Native.Nat.{ℕ, _≤_}
-use native.Mathlib.Omega.{arith}
+use Rattle.prelude.proofs.Basics.{ℕ, _≤_, arith, _≡_, List, length, getD, length-append, eq-eqb, ne-eqb, yes}
+use Rattle.prelude.proofs.Basics.{no as without}
 use Prim.Native.Char.{code}
-use mathlib.Core.Path.{_≡_}
-use mathlib.Core.List.{List}
-use lib.ListN.{length, getD, length-append}
-use borrow.Author.Tests.{eq-eqb, ne-eqb}
-use Rattle.prelude.proofs.Cases.{yes, no as without}
 use Rattle.protocol.specs.Server as Server
 use Rattle.message.specs.Head.{lengthBytes}
 use Rattle.reply.proofs.DecimalLaws.{decimal-within}
-use Rattle.trace_line.specs.declared.line.Line.{Line}
-use Rattle.trace_line.specs.Line.{letterOf, markOf, column, lineOf}
+use Rattle.trace_line.proofs.Names.{letterOf, markOf, lineOf, Line}
+use Rattle.trace_line.specs.Line.{column}
 
 -- ---- marks
 

@@ -1,25 +1,15 @@
 -- The mark of a line tells the reply: its first frame has the type that the letter stands for. Assumes nothing.
-use Prim.Native.Nat.{ℕ, _+_, _≤_}
+use Rattle.prelude.proofs.Basics.{ℕ, _+_, _≤_, arith, _≡_, refl, ap, _∙_, List, _++_, length, drop, le-leb, ne-eqb}
 use Prim.Native.Char.{code}
-use native.Mathlib.Omega.{arith}
-use mathlib.Core.Path.{_≡_, refl, ap, _∙_}
-use mathlib.Core.List.{List, _++_}
-use lib.ListN.{length, drop}
-use borrow.Author.Tests.{ne-eqb, le-leb}
-use Rattle.encode.specs.Put.{written}
-use Rattle.message.specs.Frame.{frameOf}
 use Rattle.reply.specs.declared.Reply.{Reply}
 use Rattle.reply.specs.declared.Reply.the-variants.{Nothing, Ok, Suspended, Done, Executed, Error}
 use Rattle.reply.specs.Frame.{errorFrame}
-use Rattle.reply.specs.Reply.{messageOf, replyBytes}
+use Rattle.reply.specs.Reply.{messageOf}
 use Rattle.reply.specs.ReplyRules.{minBuffer}
-use Rattle.rules.specs.Decision.{decisionOf}
-use Rattle.rules.specs.Step.{stepOn}
 use Rattle.rules.proofs.ReadLaws.{frames-are-read}
 use Rattle.rules.proofs.BufferLaws.{decision-fits}
-use Rattle.trace_line.specs.Line.{markOf}
+use Rattle.trace_line.proofs.Names.{frameOf, written, replyBytes, decisionOf, stepOn, markOf, replyBuffer}
 use Rattle.trace_line.specs.LineRules.{letterFor, MarksTell}
-use Rattle.trace_line.specs.Trace.{replyBuffer}
 
 -- the mark of a reply with any bytes behind it
 module _ (rest : List ℕ) where

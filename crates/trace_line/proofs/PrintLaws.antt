@@ -1,21 +1,12 @@
 -- One call of the printer, put together from its parts. Assumes nothing.
-use Prim.Native.Nat.{ℕ, _+_, _-_, _≤_, min}
-use native.Mathlib.Omega.{arith}
-use mathlib.Core.Path.{_≡_, refl, sym, ap, ap₂, subst, _∙_}
-use mathlib.Core.List.{List, _++_}
-use lib.ListN.{length, take, drop, length-append, length-take, length-drop, take-append-drop}
-use lib.Seq.{length-take-le, take-add, take-at, drop-at}
-use borrow.Author.Tests.{le-leb}
-use Rattle.encode.specs.Put.{written}
-use Rattle.encode.proofs.PutLaws.{length-written, put-fits}
-use Rattle.session.specs.Session.{Session}
-use Rattle.trace_line.specs.declared.printer.First.{First}
-use Rattle.trace_line.specs.declared.printer.Printer.{Printer}
+use Rattle.prelude.proofs.Basics.{ℕ, _+_, _-_, _≤_, min, arith, _≡_, refl, sym, ap, ap₂, subst, _∙_, List, _++_, length}
+use Rattle.prelude.proofs.Basics.{take, drop, length-append, length-drop, length-take, take-append-drop, drop-at}
+use Rattle.prelude.proofs.Basics.{length-take-le, take-add, take-at, le-leb}
+use Rattle.trace_line.proofs.Names.{Session, written, put-fits, length-written, Lines, standsFirst, linesWithin}
+use Rattle.trace_line.proofs.Names.{printOf, First, Printer, Walk}
 use Rattle.trace_line.specs.declared.printer.Printed.{Printed}
-use Rattle.trace_line.specs.declared.printer.Walk.{Walk}
 use Rattle.trace_line.specs.private.Walk.{Walks}
-use Rattle.trace_line.specs.Output.{Lines}
-use Rattle.trace_line.specs.Printer.{standsFirst, linesWithin, Print, printOf}
+use Rattle.trace_line.specs.Printer.{Print}
 use Rattle.trace_line.proofs.ChunkLaws.{have, came, came-length, came-fits}
 
 -- from one place up to another

@@ -1,31 +1,13 @@
 -- A record that is cut short is no longer than the longest record, and each call takes bytes or prints a line. Assumes
 -- nothing.
-use Prim.Native.Nat.{ℕ, zero, suc, _+_, _-_, _%_, _≤_, _<_}
-use native.Mathlib.Omega.{arith}
-use mathlib.Core.Path.{_≡_, sym, ap, _∙_}
-use mathlib.Core.List.{List, _++_}
-use lib.ListN.{length, getD, take, drop, length-append}
-use lib.Dec.{eqb, ltb}
-use borrow.Author.Tests.{le-leb, ltb-true, ltb-false}
-use Rattle.prelude.proofs.Cases.{both}
-use Rattle.varint.specs.declared.Varint.{Varint}
-use Rattle.varint.specs.Varint.{onto, groups, low64}
-use Rattle.session.specs.Session.{Session}
-use Rattle.rules.specs.declared.Report.{Report}
-use Rattle.rules.specs.Report.{prepared, result, failed}
-use Rattle.rules.specs.Step.{stepOf}
-use Rattle.trace_line.specs.declared.line.Line.{Line}
-use Rattle.trace_line.specs.declared.record.Number.{Number}
-use Rattle.trace_line.specs.declared.record.Record.{Record}
-use Rattle.trace_line.specs.declared.printer.First.{First}
-use Rattle.trace_line.specs.Line.{lineOf}
-use Rattle.trace_line.specs.Record.{numberOf, numberAt, andThen, maxFrame, maxKind, preparedReport}
-use Rattle.trace_line.specs.Record.{failedReport, resultReport, preparedAt, failedAt, rowsAt, resultAt, reportAt}
-use Rattle.trace_line.specs.Record.{kindAt, frameAt, recordAt}
-use Rattle.trace_line.specs.Trace.{lineAfter, replyBuffer}
-use Rattle.trace_line.specs.Output.{Behind, onRecord}
-use Rattle.trace_line.specs.Printer.{firstOf, standsFirst, maxLine, linesWithin, printOf}
-use Rattle.trace_line.specs.RecordRules.{Within}
+use Rattle.prelude.proofs.Basics.{ℕ, zero, suc, _+_, _-_, _%_, _≤_, _<_, arith, _≡_, sym, ap, _∙_, List, _++_, length}
+use Rattle.prelude.proofs.Basics.{getD, take, drop, length-append, eqb, ltb, le-leb, ltb-false, ltb-true, both}
+use Rattle.trace_line.proofs.Names.{onto, low64, groups, Varint, Session, prepared, result, failed, stepOf}
+use Rattle.trace_line.proofs.Names.{Report, lineOf, Behind, onRecord, firstOf, standsFirst, maxLine, linesWithin}
+use Rattle.trace_line.proofs.Names.{printOf, numberOf, numberAt, andThen, maxFrame, maxKind, preparedReport}
+use Rattle.trace_line.proofs.Names.{resultReport, failedReport, preparedAt, failedAt, rowsAt, resultAt, reportAt}
+use Rattle.trace_line.proofs.Names.{kindAt, frameAt, recordAt, Within, lineAfter, replyBuffer, Line, First}
+use Rattle.trace_line.proofs.Names.{Number, Record}
 use Rattle.trace_line.specs.Chunks.{maxRecord, GoesOn}
 use Rattle.trace_line.proofs.WithinLaws.{records-within}
 use Rattle.trace_line.proofs.ChunkLaws.{more-behind, first-short, have, came, have-within, came-length}

@@ -1,20 +1,10 @@
 -- Records, case by case. Assumes nothing.
-use Prim.Native.Nat.{ℕ, _+_, _≤_, _<_}
-use mathlib.Core.Bool.{cond}
-use mathlib.Core.Path.{_≡_, refl, sym, ap, _∙_}
-use mathlib.Core.List.{List}
-use lib.ListN.{length}
-use lib.Dec.{ltb}
-use borrow.Author.Tests.{lt-ltb, le-ltb, ne-eqb}
-use Rattle.prelude.proofs.Cases.{yes, no as without}
-use Rattle.varint.specs.declared.Varint.{Varint}
-use Rattle.varint.specs.Varint.{varintAt}
-use Rattle.rules.specs.declared.Report.{Report}
-use Rattle.rules.specs.Report.{prepared, result, failed}
-use Rattle.trace_line.specs.declared.record.Number.{Number}
-use Rattle.trace_line.specs.declared.record.Record.{Record}
-use Rattle.trace_line.specs.Record.{unended, numberOf, numberAt, andThen, maxFrame, maxKind, bareReport}
-use Rattle.trace_line.specs.Record.{preparedAt, failedAt, rowsAt, resultAt, reportAt, kindAt, frameAt}
+use Rattle.prelude.proofs.Basics.{ℕ, _+_, _≤_, _<_, cond, _≡_, refl, sym, ap, _∙_, List, length, ltb, le-ltb, lt-ltb}
+use Rattle.prelude.proofs.Basics.{ne-eqb, yes, no as without}
+use Rattle.trace_line.proofs.Names.{varintAt, Varint, prepared, result, failed, Report, numberOf, numberAt}
+use Rattle.trace_line.proofs.Names.{andThen, maxFrame, maxKind, bareReport, preparedAt, failedAt, rowsAt}
+use Rattle.trace_line.proofs.Names.{resultAt, reportAt, kindAt, frameAt, Number, Record}
+use Rattle.trace_line.specs.Record.{unended}
 use Rattle.trace_line.specs.private.Last.{lastAt}
 
 -- ---- numbers

@@ -1,24 +1,11 @@
 -- A record traced, case by case. Assumes nothing.
-use Prim.Native.Nat.{ℕ, _+_, _-_}
-use native.Mathlib.Omega.{arith}
-use mathlib.Core.Path.{_≡_, refl, sym, ap, _∙_}
-use mathlib.Core.List.{List}
-use lib.ListN.{take, drop}
-use Rattle.encode.specs.declared.put.Put.{Put}
-use Rattle.encode.specs.Put.{putAt, written}
-use Rattle.session.specs.Session.{Session}
+use Rattle.prelude.proofs.Basics.{ℕ, _+_, _-_, arith, _≡_, refl, sym, ap, _∙_, List, take, drop}
 use Rattle.session.specs.Tables.{owed, stmtCount, cursorCount}
-use Rattle.rules.specs.declared.Report.{Report}
 use Rattle.rules.specs.declared.Answer.{Answer}
-use Rattle.rules.specs.Step.{Step, stepOf}
-use Rattle.trace_line.specs.declared.RecordEnd.{RecordEnd}
-use Rattle.trace_line.specs.declared.Traced.{Traced}
-use Rattle.trace_line.specs.declared.line.Line.{Line}
-use Rattle.trace_line.specs.declared.record.Record.{Record}
-use Rattle.trace_line.specs.Line.{markOf, lineOf}
-use Rattle.trace_line.specs.Record.{recordAt}
-use Rattle.trace_line.specs.RecordRules.{Within}
-use Rattle.trace_line.specs.Trace.{Trace, lineAfter, lineTo, replyBuffer, traceOf, traceAt}
+use Rattle.trace_line.proofs.Names.{Session, putAt, written, Put, Step, stepOf, Report, markOf, lineOf, recordAt}
+use Rattle.trace_line.proofs.Names.{Within, lineAfter, replyBuffer, traceOf, traceAt, RecordEnd, Traced, Line}
+use Rattle.trace_line.proofs.Names.{Record}
+use Rattle.trace_line.specs.Trace.{Trace, lineTo}
 use Rattle.trace_line.proofs.WithinLaws.{records-within}
 
 -- what a contract says of a Trace: what is handed back, the session and the output buffer

@@ -1,32 +1,14 @@
 -- Lines put one behind the other: where the loop stands. Assumes nothing.
-use Prim.Native.Nat.{ℕ, zero, suc, _+_, _-_, _≤_, _<_}
-use native.Mathlib.Omega.{arith}
-use mathlib.Core.Bool.{Bool, true, false, cond}
-use mathlib.Core.Path.{_≡_, refl, sym, ap, subst, _∙_}
-use mathlib.Core.List.{List, [], _++_, append-nil}
-use mathlib.Core.Logic.{_⊎_, ⊎-elim}
-use lib.ListN.{length, take, drop, length-append, length-drop}
-use lib.Seq.{drop-drop, take-all}
-use lib.Dec.{leb}
-use borrow.Author.Tests.{le-leb, lt-leb}
-use Rattle.encode.specs.declared.put.Put.{Put}
-use Rattle.encode.specs.Put.{placeBehind, putAt, written}
-use Rattle.encode.proofs.PutLaws.{length-written, put-fits}
-use Rattle.session.specs.Session.{Session}
+use Rattle.prelude.proofs.Basics.{ℕ, zero, suc, _+_, _-_, _≤_, _<_, arith, Bool, true, false, cond, _≡_, refl, sym, ap}
+use Rattle.prelude.proofs.Basics.{subst, _∙_, _⊎_, ⊎-elim, List, [], _++_, append-nil, length, take, drop}
+use Rattle.prelude.proofs.Basics.{length-append, length-drop, drop-drop, take-all, leb, le-leb, lt-leb}
+use Rattle.encode.specs.Put.{placeBehind}
 use Rattle.encode.specs.Puts.{Puts}
-use Rattle.encode.proofs.PutsLaws.{puts-then, puts-nothing}
-use Rattle.rules.specs.declared.Report.{Report}
-use Rattle.rules.specs.Step.{Step, stepOf}
-use Rattle.trace_line.specs.declared.RecordEnd.{RecordEnd}
-use Rattle.trace_line.specs.declared.Traced.{Traced}
-use Rattle.trace_line.specs.declared.record.Record.{Record}
-use Rattle.trace_line.specs.declared.printer.Walk.{Walk}
-use Rattle.trace_line.specs.Line.{lineOf}
-use Rattle.trace_line.specs.Record.{recordAt}
-use Rattle.trace_line.specs.RecordRules.{Within}
-use Rattle.trace_line.specs.Trace.{lineAfter, replyBuffer, traceOf, traceAt}
-use Rattle.trace_line.specs.Output.{Lines, noLine, also, numberBehind, Behind, onRecord}
-use Rattle.trace_line.specs.Printer.{maxLine, linesWithin}
+use Rattle.encode.proofs.PutsLaws.{puts-nothing}
+use Rattle.trace_line.proofs.Names.{Session, putAt, written, Put, put-fits, length-written, puts-then, Step}
+use Rattle.trace_line.proofs.Names.{stepOf, Report, lineOf, Lines, noLine, also, numberBehind, Behind, onRecord}
+use Rattle.trace_line.proofs.Names.{maxLine, linesWithin, recordAt, Within, lineAfter, replyBuffer, traceOf}
+use Rattle.trace_line.proofs.Names.{traceAt, RecordEnd, Traced, Walk, Record}
 use Rattle.trace_line.specs.private.Walk.{Walks}
 use Rattle.trace_line.proofs.LineLaws.{line-within}
 use Rattle.trace_line.proofs.TraceLaws.{Gives}

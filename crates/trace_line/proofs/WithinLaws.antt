@@ -1,23 +1,12 @@
 -- A record lies within the bytes. Assumes nothing.
-use Prim.Native.Nat.{ℕ, _+_, _≤_, _<_}
-use native.Mathlib.Omega.{arith}
-use mathlib.Core.Bool.{cond}
-use mathlib.Core.List.{List}
-use lib.ListN.{length}
-use lib.Dec.{eqb, ltb}
-use Rattle.prelude.proofs.Cases.{both}
-use Rattle.varint.specs.declared.Varint.{Varint}
-use Rattle.varint.specs.Varint.{varintAt}
+use Rattle.prelude.proofs.Basics.{ℕ, _+_, _≤_, _<_, arith, cond, List, length, eqb, ltb, both}
 use Rattle.varint.specs.Past.{Past}
 use Rattle.varint.proofs.PastLaws.{varint-past}
-use Rattle.rules.specs.declared.Report.{Report}
-use Rattle.rules.specs.Report.{prepared, result, failed}
-use Rattle.trace_line.specs.declared.record.Number.{Number}
-use Rattle.trace_line.specs.declared.record.Record.{Record}
-use Rattle.trace_line.specs.Record.{numberOf, numberAt, andThen, maxFrame, maxKind, bareReport, preparedReport}
-use Rattle.trace_line.specs.Record.{failedReport, resultReport, preparedAt, failedAt, rowsAt, resultAt, reportAt}
-use Rattle.trace_line.specs.Record.{kindAt, frameAt, recordAt}
-use Rattle.trace_line.specs.RecordRules.{Within, RecordsWithin}
+use Rattle.trace_line.proofs.Names.{varintAt, Varint, prepared, result, failed, Report, numberOf, numberAt}
+use Rattle.trace_line.proofs.Names.{andThen, maxFrame, maxKind, bareReport, preparedReport, resultReport}
+use Rattle.trace_line.proofs.Names.{failedReport, preparedAt, failedAt, rowsAt, resultAt, reportAt, kindAt}
+use Rattle.trace_line.proofs.Names.{frameAt, recordAt, Within, Number, Record}
+use Rattle.trace_line.specs.RecordRules.{RecordsWithin}
 
 -- a number ends past its first byte and within the bytes
 abbrev PastNumber : ℕ → ℕ → Number → Type 0

@@ -1,10 +1,6 @@
 -- A number that is read in some bytes is read alike in others that have the same bytes there. Assumes nothing.
-use Prim.Native.Nat.{ℕ, zero, suc, _+_, _%_, _≤_, _<_}
-use native.Mathlib.Omega.{arith}
-use mathlib.Core.Path.{_≡_, refl, ap}
-use mathlib.Core.List.{List}
-use lib.ListN.{length, getD}
-use Rattle.prelude.proofs.Cases.{less-or-not}
+use Rattle.prelude.proofs.Basics.{ℕ, zero, suc, _+_, _%_, _≤_, _<_, arith, _≡_, refl, ap, List, length, getD}
+use Rattle.prelude.proofs.Basics.{less-or-not}
 use Rattle.varint.specs.Varint.{onto, groups, low64, varintAt}
 use Rattle.varint.specs.Past.{Past}
 use Rattle.varint.specs.declared.Varint.{Varint}

@@ -1,15 +1,7 @@
 -- Whether the varint at a place is padded, by its first bytes; and what is written, read again. Assumes nothing.
-use Prim.Native.Nat.{ℕ, zero, suc, _+_, _-_, _*_, _%_, _^_, _≤_, _<_}
-use native.Mathlib.Numerals.{add-one}
-use native.Mathlib.Omega.{arith}
-use mathlib.Core.Path.{_≡_, refl, sym, ap, _∙_}
-use mathlib.Core.Bool.{Bool, true, false}
-use mathlib.Core.List.{List, [], _∷_, _++_, append-assoc}
-use lib.ListN.{length, getD, take, drop}
-use lib.Seq.{drop-cons, drop-at, take-at}
-use lib.Dec.{ltb, eqb}
-use borrow.Author.Tests.{lt-ltb, le-ltb, eq-eqb, ne-eqb}
-use Rattle.prelude.proofs.Cases.{less-or-not}
+use Rattle.prelude.proofs.Basics.{ℕ, zero, suc, _+_, _-_, _*_, _%_, _^_, _≤_, _<_, arith, add-one, false, _≡_, refl}
+use Rattle.prelude.proofs.Basics.{sym, ap, _∙_, List, _∷_, _++_, append-assoc, length, getD, take, drop, drop-at}
+use Rattle.prelude.proofs.Basics.{drop-cons, take-at, eqb, ltb, le-ltb, lt-ltb, ne-eqb}
 use Rattle.varint.specs.Varint.{varintAt, low64}
 use Rattle.varint.specs.Shortest.{varintBytes}
 use Rattle.varint.specs.Padded.{isPadded, paddedBy, paddedAt}

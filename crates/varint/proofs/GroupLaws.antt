@@ -1,16 +1,10 @@
 -- What the groups of a varint hold, one turn of the reading loop at a time. Assumes nothing.
-use Prim.Native.Nat.{ℕ, zero, suc, _+_, _-_, _*_, _%_, _^_, _≤_, _<_}
-use native.Mathlib.Nat.{mul-add, mul-assoc, mul-comm, mul-le-mul-right, pow-le-pow-right, pow-suc, mod-eq-of-lt}
-use native.Mathlib.Numerals.{add-one}
-use native.Mathlib.Omega.{arith}
-use mathlib.Core.Path.{_≡_, refl, sym, ap, ap₂, _∙_}
-use mathlib.Core.Bool.{Bool, true, false, not}
-use mathlib.Core.List.{List, [], _∷_, _++_}
-use lib.ListN.{length, getD, take, drop, length-drop}
-use lib.Seq.{take-suc, getD-drop}
-use lib.Dec.{ltb, eqb}
-use borrow.Author.Tests.{lt-ltb, le-ltb, eqb-true, eqb-false}
-use Rattle.prelude.proofs.Cases.{less-or-not}
+use Rattle.prelude.proofs.Basics.{ℕ, zero, suc, _+_, _-_, _*_, _%_, _^_, _≤_, _<_, arith, mod-eq-of-lt, mul-assoc}
+use Rattle.prelude.proofs.Basics.{add-one, Bool, true, false, not, _≡_, refl, sym, ap, ap₂, _∙_, List, [], _∷_, _++_}
+use Rattle.prelude.proofs.Basics.{length, getD, take, drop, length-drop, getD-drop, eqb, ltb, eqb-false, eqb-true}
+use Rattle.prelude.proofs.Basics.{le-ltb, lt-ltb, less-or-not}
+use native.Mathlib.Nat.{mul-add, mul-comm, mul-le-mul-right, pow-le-pow-right, pow-suc}
+use lib.Seq.{take-suc}
 use Rattle.varint.specs.Varint.{onto, groups, low64, varintAt}
 use Rattle.varint.specs.Padded.{isPadded}
 use Rattle.varint.specs.private.Behind.{behindFirst, paddedFirst, paddedBehind, paddedTenth}

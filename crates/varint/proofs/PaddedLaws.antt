@@ -1,15 +1,8 @@
 -- Which bytes are written for a number, group by group, and so which bytes of a varint are padded. Assumes nothing.
-use Prim.Native.Nat.{ℕ, zero, suc, _+_, _-_, _*_, _/_, _%_, _^_, _≤_, _<_}
-use native.Mathlib.Nat.{pow-suc, mul-assoc, mul-le-mul-right, one-le-pow}
-use native.Mathlib.Numerals.{add-one}
-use native.Mathlib.Omega.{arith}
-use mathlib.Core.Path.{_≡_, refl, sym, ap, ap₂, _∙_}
-use mathlib.Core.Bool.{Bool, true, false, not, _&&_}
-use mathlib.Core.List.{List, [], _∷_, _++_}
-use lib.ListN.{length, drop, length-append}
-use lib.Seq.{drop-at}
-use lib.Dec.{eqb}
-use borrow.Author.Tests.{eqb-true, eq-eqb}
+use Rattle.prelude.proofs.Basics.{ℕ, zero, suc, _+_, _-_, _*_, _/_, _%_, _^_, _≤_, _<_, arith, mul-assoc, Bool, true}
+use Rattle.prelude.proofs.Basics.{false, not, _&&_, _≡_, refl, sym, ap, ap₂, _∙_, List, [], _∷_, _++_, length, drop}
+use Rattle.prelude.proofs.Basics.{length-append, drop-at, eqb, eq-eqb, eqb-true}
+use native.Mathlib.Nat.{pow-suc, mul-le-mul-right, one-le-pow}
 use Rattle.varint.specs.Shortest.{shortest, varintBytes}
 use Rattle.varint.specs.Padded.{sameBytes, isPadded}
 use Rattle.varint.proofs.ShortestLaws.{shortest-last, shortest-more, shortest-at-most}

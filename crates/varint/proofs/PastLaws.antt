@@ -1,11 +1,5 @@
 -- A varint ends past its first byte and within the bytes. Assumes nothing.
-use Prim.Native.Nat.{ℕ, zero, suc, _+_, _%_}
-use native.Mathlib.Omega.{arith}
-use mathlib.Core.List.{List}
-use lib.ListN.{length, getD}
-use lib.Dec.{ltb}
-use borrow.Author.Tests.{ltb-true}
-use Rattle.prelude.proofs.Cases.{both}
+use Rattle.prelude.proofs.Basics.{ℕ, zero, suc, _+_, _%_, arith, List, length, getD, ltb, ltb-true, both}
 use Rattle.varint.specs.Varint.{onto, groups, low64, varintAt}
 use Rattle.varint.specs.Past.{Past}
 use Rattle.varint.specs.declared.Varint.{Varint}

@@ -1,14 +1,10 @@
 -- Laws of the shortest form of a number: how it unfolds, how long it is, what its bytes are. Assumes nothing.
-use Prim.Native.Nat.{ℕ, zero, suc, pred, _+_, _-_, _*_, _/_, _%_, _^_, _≤_, _<_}
-use mathlib.Core.Path.{_≡_, refl, sym, ap, _∙_}
-use mathlib.Core.List.{List, [], _∷_}
-use native.Mathlib.Omega.{arith}
+use Rattle.prelude.proofs.Basics.{ℕ, zero, suc, _+_, _-_, _*_, _/_, _%_, _^_, _≤_, _<_, arith, _≡_, refl, sym, ap, _∙_}
+use Rattle.prelude.proofs.Basics.{List, [], _∷_, length, getD, le-ltb, lt-ltb, less-or-not}
+use Prim.Native.Nat.{pred}
 use native.Mathlib.Nat.{one-le-pow, mul-suc}
-use borrow.Author.Tests.{lt-ltb, le-ltb}
-use lib.ListN.{length, getD}
 use lib.Count.{leadingZeros, leading-top}
 use lib.Pow.{pow-add, pow-mono}
-use Rattle.prelude.proofs.Cases.{less-or-not}
 use Rattle.varint.specs.Shortest.{shortest, varintBytes}
 use Rattle.varint.specs.VarintRules.{TenEnough}
 

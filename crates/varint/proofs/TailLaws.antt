@@ -1,13 +1,8 @@
 -- Bytes that stand somewhere in a byte string. Assumes nothing.
-use Prim.Native.Nat.{ℕ, _+_, _-_, _≤_}
-use native.Mathlib.Omega.{arith}
-use mathlib.Core.Bool.{Bool, true, false, cond}
-use mathlib.Core.Path.{_≡_, refl, sym, ap, _∙_}
-use mathlib.Core.List.{List, [], _++_, append-assoc, append-nil}
-use lib.ListN.{length, getD, take, drop, length-append, length-drop, length-take}
-use lib.Seq.{getD-drop, drop-drop, drop-at, take-at, take-add, length-take-le, take-append-le, drop-append-le}
-use lib.Dec.{leb}
-use borrow.Author.Tests.{le-leb, lt-leb, leb-true, leb-false}
+use Rattle.prelude.proofs.Basics.{ℕ, _+_, _≤_, arith, Bool, true, false, cond, _≡_, refl, sym, ap, _∙_, List, [], _++_}
+use Rattle.prelude.proofs.Basics.{append-nil, append-assoc, length, getD, take, drop, length-append, length-drop}
+use Rattle.prelude.proofs.Basics.{length-take, drop-append-le, drop-at, drop-drop, getD-drop, length-take-le, take-add}
+use Rattle.prelude.proofs.Basics.{take-append-le, take-at, leb, le-leb, leb-false, leb-true, lt-leb}
 
 -- ---- tests
 

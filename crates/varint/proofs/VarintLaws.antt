@@ -1,16 +1,9 @@
 -- Reading and writing a varint together: what is written reads back, and no varint of the number is shorter. Assumes
 -- nothing.
-use Prim.Native.Nat.{ℕ, zero, suc, _+_, _*_, _/_, _%_, _^_, _≤_, _<_}
-use mathlib.Core.Path.{_≡_, refl, sym, ap, _∙_}
-use mathlib.Core.Bool.{cond}
-use mathlib.Core.List.{List, _∷_, _++_, append-assoc}
-use native.Mathlib.Omega.{arith}
-use native.Mathlib.Nat.{mod-eq-of-lt, mod-le, add-zero}
-use borrow.Author.Tests.{ltb-true}
-use lib.ListN.{length, drop, getD, length-drop}
-use lib.Seq.{getD-drop, drop-drop, drop-at}
-use lib.Dec.{ltb}
-use Rattle.prelude.proofs.Cases.{both}
+use Rattle.prelude.proofs.Basics.{ℕ, zero, suc, _+_, _*_, _/_, _%_, _^_, _≤_, _<_, arith, add-zero, mod-eq-of-lt, cond}
+use Rattle.prelude.proofs.Basics.{_≡_, refl, sym, ap, _∙_, List, _∷_, _++_, append-assoc, length, getD, drop}
+use Rattle.prelude.proofs.Basics.{length-drop, drop-at, drop-drop, getD-drop, ltb, ltb-true, both}
+use native.Mathlib.Nat.{mod-le}
 use Rattle.varint.specs.declared.Varint.{Varint}
 use Rattle.varint.specs.declared.Varint.the-variants.{Number, Bad}
 use Rattle.varint.specs.Varint.{groups, onto, low64, varintAt}

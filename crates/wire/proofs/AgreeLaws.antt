@@ -1,28 +1,14 @@
 -- A field that is read in some bytes is read alike in others that have the same bytes there; those of a field with
 -- bytes may be others. Assumes nothing.
-use Prim.Native.Nat.{ℕ, zero, suc, _+_, _-_, _%_, _^_, _≤_, _<_}
-use native.Mathlib.Omega.{arith}
-use mathlib.Core.Bool.{Bool, true, false, cond}
-use mathlib.Core.Path.{_≡_, refl, sym, ap, subst, _∙_}
-use mathlib.Core.List.{List, _++_}
-use lib.ListN.{length, getD, length-append, List·getD-append}
-use lib.Dec.{ltb, leb, eqb}
-use borrow.Author.Tests.{le-leb, eqb-true, ne-eqb}
-use Rattle.prelude.proofs.Cases.{both}
-use Rattle.varint.specs.Varint.{varintAt}
-use Rattle.varint.specs.declared.Varint.{Varint}
+use Rattle.prelude.proofs.Basics.{ℕ, zero, suc, _+_, _-_, _%_, _^_, _≤_, _<_, arith, Bool, true, false, cond, _≡_, refl}
+use Rattle.prelude.proofs.Basics.{sym, ap, subst, _∙_, List, _++_, length, getD, List·getD-append, length-append, eqb}
+use Rattle.prelude.proofs.Basics.{leb, ltb, eqb-true, le-leb, ne-eqb, both}
 pub use Rattle.varint.proofs.AgreeLaws.{Agree}
-use Rattle.varint.proofs.AgreeLaws.{agree-later, KeepsVarint, varint-keeps}
-use Rattle.scalar.specs.Fixed.{little}
-use Rattle.wire.specs.Tag.{tagOf, tagAt}
-use Rattle.wire.specs.Value.{ofVarint, ofLength, asFixed, valueAt}
-use Rattle.wire.specs.Group.{behind, skipValue, andThen, groupField, groupFields, groupEnd}
-use Rattle.wire.specs.Field.{maxDepth, ofValue, ofGroup, fieldOf, ofTag, fieldAt}
-use Rattle.wire.specs.Past.{PastTag, PastValue, PastSkip, PastField}
-use Rattle.wire.specs.declared.tag.Tag.{Tag}
-use Rattle.wire.specs.declared.value.Value.{Value}
-use Rattle.wire.specs.declared.group.Skip.{Skip}
-use Rattle.wire.specs.declared.field.Field.{Field}
+use Rattle.varint.proofs.AgreeLaws.{agree-later}
+use Rattle.wire.proofs.Names.{varintAt, Varint, KeepsVarint, varint-keeps, little, tagOf, tagAt, ofVarint}
+use Rattle.wire.proofs.Names.{asFixed, ofLength, valueAt, behind, skipValue, andThen, groupField, groupFields}
+use Rattle.wire.proofs.Names.{groupEnd, maxDepth, ofValue, ofGroup, fieldOf, ofTag, fieldAt, PastTag, PastValue}
+use Rattle.wire.proofs.Names.{PastSkip, PastField, Field, Skip, Tag, Value}
 use Rattle.wire.proofs.ValueLaws.{length-good}
 use Rattle.wire.proofs.GroupLaws.{shut}
 use Rattle.wire.proofs.PastLaws.{tag-past, value-past, skip-past, tagged-past, groupFields-past, group-past}

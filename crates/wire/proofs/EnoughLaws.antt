@@ -1,17 +1,8 @@
 -- Fuel that is enough for the bytes left makes no difference to a group. Assumes nothing.
-use Prim.Native.Nat.{ℕ, zero, suc, _+_, _≤_, _<_}
-use native.Mathlib.Omega.{arith}
-use mathlib.Core.Bool.{cond}
-use mathlib.Core.Path.{_≡_, refl, sym, ap, _∙_}
-use mathlib.Core.List.{List}
-use lib.ListN.{length}
-use lib.Dec.{eqb}
-use Rattle.wire.specs.Tag.{tagAt}
-use Rattle.wire.specs.Group.{skipValue, andThen, groupField, groupFields, groupEnd}
+use Rattle.prelude.proofs.Basics.{ℕ, zero, suc, _+_, _≤_, _<_, arith, cond, _≡_, refl, sym, ap, _∙_, List, length, eqb}
+use Rattle.wire.proofs.Names.{tagAt, skipValue, andThen, groupField, groupFields, groupEnd, PastTag, PastSkip}
+use Rattle.wire.proofs.Names.{Skip, Tag}
 use Rattle.wire.specs.GroupRules.{EnoughFields}
-use Rattle.wire.specs.Past.{PastTag, PastSkip}
-use Rattle.wire.specs.declared.tag.Tag.{Tag}
-use Rattle.wire.specs.declared.group.Skip.{Skip}
 use Rattle.wire.proofs.PastLaws.{tag-past, skip-past, group-past}
 use Rattle.wire.proofs.GroupLaws.{fields-end}
 

@@ -1,21 +1,9 @@
 -- Fields, case by case. Assumes nothing.
-use Prim.Native.Nat.{ℕ, _+_, _/_, _%_, _≤_, _<_}
-use native.Mathlib.Omega.{arith}
-use mathlib.Core.Path.{_≡_, sym, ap, _∙_}
-use mathlib.Core.List.{List}
-use lib.ListN.{length, getD}
-use borrow.Author.Tests.{eq-eqb, ne-eqb}
-use Rattle.varint.specs.Varint.{varintAt}
-use Rattle.varint.specs.declared.Varint.{Varint}
-use Rattle.varint.proofs.GroupLaws.{varint-one, varint-none}
-use Rattle.wire.specs.Tag.{tagOf, tagAt}
-use Rattle.wire.specs.Value.{valueAt}
-use Rattle.wire.specs.Group.{groupEnd}
-use Rattle.wire.specs.Field.{maxDepth, ofValue, ofGroup, fieldOf, ofTag, fieldAt}
-use Rattle.wire.specs.Past.{PastSkip}
-use Rattle.wire.specs.declared.tag.Tag.{Tag}
-use Rattle.wire.specs.declared.group.Skip.{Skip}
-use Rattle.wire.specs.declared.field.Field.{Field}
+use Rattle.prelude.proofs.Basics.{ℕ, _+_, _/_, _%_, _≤_, _<_, arith, _≡_, sym, ap, _∙_, List, length, getD, eq-eqb}
+use Rattle.prelude.proofs.Basics.{ne-eqb}
+use Rattle.varint.proofs.GroupLaws.{varint-one}
+use Rattle.wire.proofs.Names.{varintAt, Varint, varint-none, tagOf, tagAt, valueAt, groupEnd, maxDepth, ofValue}
+use Rattle.wire.proofs.Names.{ofGroup, fieldOf, ofTag, fieldAt, PastSkip, Field, Skip, Tag}
 use Rattle.wire.proofs.TagLaws.{tag-low, tag-unlisted, tag-good}
 use Rattle.wire.proofs.PastLaws.{group-past}
 

@@ -1,19 +1,8 @@
 -- Skipping a group, one turn of the loop at a time. Assumes nothing.
-use Prim.Native.Nat.{ℕ, zero, suc, _+_, _-_, _≤_, _<_}
-use native.Mathlib.Omega.{arith}
-use mathlib.Core.Path.{_≡_, refl, sym, ap, subst, _∙_}
-use mathlib.Core.List.{List}
-use lib.ListN.{length, take}
-use lib.Seq.{take-length}
-use borrow.Author.Tests.{eq-eqb, ne-eqb}
-use Rattle.prelude.proofs.Cases.{before-suc}
-use Rattle.varint.specs.Varint.{low64}
-use Rattle.varint.proofs.GroupLaws.{groups-end}
-use Rattle.wire.specs.Tag.{tagOf, tagAt}
-use Rattle.wire.specs.Group.{andThen, skipValue, groupField, groupFields, groupEnd}
-use Rattle.wire.specs.Past.{PastTag, PastSkip}
-use Rattle.wire.specs.declared.tag.Tag.{Tag}
-use Rattle.wire.specs.declared.group.Skip.{Skip}
+use Rattle.prelude.proofs.Basics.{ℕ, zero, suc, _+_, _-_, _≤_, _<_, arith, _≡_, refl, sym, ap, subst, _∙_, List, length}
+use Rattle.prelude.proofs.Basics.{take, take-length, eq-eqb, ne-eqb, before-suc}
+use Rattle.wire.proofs.Names.{low64, groups-end, tagOf, tagAt, skipValue, andThen, groupField, groupFields}
+use Rattle.wire.proofs.Names.{groupEnd, PastTag, PastSkip, Skip, Tag}
 use Rattle.wire.proofs.PastLaws.{tag-past, skip-past, group-past}
 
 -- at the end of the bytes there is no tag

@@ -1,3 +1,4 @@
+mod Names
 pub mod TagLaws
 pub mod ValueLaws
 pub mod PastLaws

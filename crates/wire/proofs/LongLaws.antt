@@ -1,21 +1,7 @@
 -- The value of a field with bytes is their length. Assumes nothing.
-use Prim.Native.Nat.{ℕ, _-_}
-use native.Mathlib.Omega.{arith}
-use mathlib.Core.Path.{_≡_, refl}
-use mathlib.Core.List.{List}
-use lib.ListN.{length}
-use lib.Dec.{ltb, eqb}
-use Rattle.varint.specs.Varint.{varintAt}
-use Rattle.varint.specs.declared.Varint.{Varint}
-use Rattle.prelude.proofs.Cases.{both}
-use Rattle.wire.specs.Tag.{tagAt}
-use Rattle.wire.specs.Value.{ofLength, valueAt}
-use Rattle.wire.specs.Group.{groupEnd}
-use Rattle.wire.specs.Field.{maxDepth, ofValue, ofGroup, ofTag, fieldAt}
-use Rattle.wire.specs.declared.tag.Tag.{Tag}
-use Rattle.wire.specs.declared.value.Value.{Value}
-use Rattle.wire.specs.declared.group.Skip.{Skip}
-use Rattle.wire.specs.declared.field.Field.{Field}
+use Rattle.prelude.proofs.Basics.{ℕ, _-_, arith, _≡_, refl, List, length, eqb, ltb, both}
+use Rattle.wire.proofs.Names.{varintAt, Varint, tagAt, ofLength, valueAt, groupEnd, maxDepth, ofValue, ofGroup}
+use Rattle.wire.proofs.Names.{ofTag, fieldAt, Field, Skip, Tag, Value}
 
 abbrev Long : Value → Type 0
 Long (Value.Good v start len next) = v ≡ len

@@ -1,26 +1,11 @@
 -- Whether a field is padded does not depend on where its bytes stand, nor on what stands behind them. Assumes nothing.
-use Prim.Native.Nat.{ℕ, _+_, _-_, _≤_, _<_}
-use native.Mathlib.Omega.{arith}
-use mathlib.Core.Bool.{Bool, true, false, cond, _||_}
-use mathlib.Core.Path.{_≡_, refl, sym, ap, ap₂, _∙_}
-use mathlib.Core.List.{List, _++_}
-use lib.ListN.{length, take, drop, length-append, length-drop, List·getD-append}
-use lib.Seq.{drop-drop, take-append-le, drop-append-le}
-use lib.Dec.{eqb}
-use borrow.Author.Tests.{eqb-true}
-use Rattle.varint.specs.Varint.{varintAt}
-use Rattle.varint.specs.Padded.{isPadded, paddedBy, paddedAt}
-use Rattle.varint.specs.Past.{Past}
-use Rattle.varint.specs.declared.Varint.{Varint}
-use Rattle.varint.proofs.AgreeLaws.{KeepsVarint, varint-keeps}
-use Rattle.varint.proofs.PastLaws.{varint-past}
-use Rattle.wire.specs.Tag.{tagOf, tagAt}
-use Rattle.wire.specs.Value.{ofVarint, ofLength}
-use Rattle.wire.specs.Field.{ofValue, fieldOf, fieldAt}
-use Rattle.wire.specs.Padded.{valuePadded, behindTag, fieldPadded}
-use Rattle.wire.specs.declared.tag.Tag.{Tag}
-use Rattle.wire.specs.declared.value.Value.{Value}
-use Rattle.wire.specs.declared.field.Field.{Field}
+use Rattle.prelude.proofs.Basics.{ℕ, _+_, _-_, _≤_, _<_, arith, Bool, true, false, _||_, cond, _≡_, refl, sym, ap, ap₂}
+use Rattle.prelude.proofs.Basics.{_∙_, List, _++_, length, take, drop, List·getD-append, length-append, length-drop}
+use Rattle.prelude.proofs.Basics.{drop-append-le, drop-drop, take-append-le, eqb, eqb-true}
+use Rattle.varint.specs.Padded.{isPadded, paddedBy}
+use Rattle.wire.proofs.Names.{Past, varintAt, paddedAt, Varint, varint-past, KeepsVarint, varint-keeps, tagOf}
+use Rattle.wire.proofs.Names.{tagAt, ofVarint, ofLength, ofValue, fieldOf, fieldAt, valuePadded, behindTag}
+use Rattle.wire.proofs.Names.{fieldPadded, Field, Tag, Value}
 use Rattle.wire.proofs.FieldLaws.{field-tagged}
 use Rattle.wire.proofs.PaddedLaws.{field-flag}
 use Rattle.wire.proofs.MovedLaws.{movedVarint, movedTag, varint-moved, tag-moved, Tail, Stands}

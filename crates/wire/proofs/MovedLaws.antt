@@ -1,33 +1,19 @@
 -- Reading does not depend on where the bytes stand: what is read from a place of a byte string on is what is read of
 -- the bytes from there to its end, with every place moved. Assumes nothing.
-use Prim.Native.Nat.{ℕ, zero, suc, _+_, _-_, _%_, _≤_, _<_}
-use native.Mathlib.Omega.{arith}
-use mathlib.Core.Bool.{Bool, true, false, cond}
-use mathlib.Core.Path.{_≡_, refl, sym, ap, subst, _∙_}
-use mathlib.Core.List.{List}
-use lib.ListN.{length, getD}
-use lib.Dec.{ltb, leb, eqb}
-use borrow.Author.Tests.{eqb-true, eqb-false}
-use Rattle.varint.specs.Varint.{onto, groups, low64, varintAt}
-use Rattle.varint.specs.declared.Varint.{Varint}
-use Rattle.varint.proofs.GroupLaws.{groups-none, groups-end, groups-last, groups-more}
+use Rattle.prelude.proofs.Basics.{ℕ, zero, suc, _+_, _-_, _%_, _≤_, _<_, arith, Bool, true, false, cond, _≡_, refl, sym}
+use Rattle.prelude.proofs.Basics.{ap, subst, _∙_, List, length, getD, eqb, leb, ltb, eqb-false, eqb-true, less-or-not}
+use Rattle.varint.specs.Varint.{onto, groups}
+use Rattle.varint.proofs.GroupLaws.{groups-none, groups-last, groups-more}
 use Rattle.varint.proofs.ShortestLaws.{below-or-not}
-use Rattle.scalar.specs.Fixed.{little}
-use Rattle.scalar.specs.declared.fixed.Fixed.{Fixed}
-use Rattle.wire.specs.Tag.{tagOf, tagAt}
-use Rattle.wire.specs.Value.{ofVarint, ofLength, ofFixed, asFixed, valueAt}
-use Rattle.wire.specs.Group.{behind, skipValue, groupEnd}
-use Rattle.wire.specs.Field.{maxDepth, ofValue, ofGroup, ofTag, fieldAt}
-use Rattle.wire.specs.declared.tag.Tag.{Tag}
-use Rattle.wire.specs.declared.value.Value.{Value}
-use Rattle.wire.specs.declared.group.Skip.{Skip}
-use Rattle.wire.specs.declared.field.Field.{Field}
-use Rattle.wire.proofs.FieldLaws.{field-tagged}
-use Rattle.wire.proofs.GroupLaws.{Skipping, Turn, Skipped, starts, shut, unended, no-tag, ended, misended}
-use Rattle.wire.proofs.GroupLaws.{into, over, stops, advances, goes-on}
-use Rattle.prelude.proofs.Cases.{less-or-not}
 pub use Rattle.varint.proofs.TailLaws.{Tail, tail-length, Stands, stands-length, stands-take}
 use Rattle.varint.proofs.TailLaws.{chosen-alike, leb-add, tail-byte}
+use Rattle.scalar.specs.declared.fixed.Fixed.{Fixed}
+use Rattle.wire.proofs.Names.{low64, varintAt, Varint, groups-end, little, tagOf, tagAt, ofVarint, ofFixed}
+use Rattle.wire.proofs.Names.{asFixed, ofLength, valueAt, behind, skipValue, groupEnd, maxDepth, ofValue}
+use Rattle.wire.proofs.Names.{ofGroup, ofTag, fieldAt, Field, Skip, Tag, Value}
+use Rattle.wire.proofs.FieldLaws.{field-tagged}
+use Rattle.wire.proofs.GroupLaws.{Skipping, Turn, Skipped, starts, shut, unended, no-tag, ended, misended, into}
+use Rattle.wire.proofs.GroupLaws.{over, stops, advances, goes-on}
 
 abbrev pub movedVarint : ℕ → Varint → Varint
 movedVarint d (Varint.Number v next) = Varint.Number v (d + next)

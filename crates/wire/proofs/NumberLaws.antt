@@ -1,21 +1,7 @@
 -- The number of a field is 1 or more. Assumes nothing.
-use Prim.Native.Nat.{ℕ, _%_, _^_, _<_}
-use native.Mathlib.Omega.{arith}
-use mathlib.Core.Path.{_≡_}
-use mathlib.Core.List.{List}
-use lib.Dec.{ltb, eqb}
-use borrow.Author.Tests.{ltb-false}
-use Rattle.prelude.proofs.Cases.{both}
-use Rattle.varint.specs.Varint.{varintAt}
-use Rattle.varint.specs.declared.Varint.{Varint}
-use Rattle.wire.specs.Tag.{tagOf, tagAt}
-use Rattle.wire.specs.Value.{valueAt}
-use Rattle.wire.specs.Group.{groupEnd}
-use Rattle.wire.specs.Field.{maxDepth, ofValue, ofGroup, ofTag, fieldAt}
-use Rattle.wire.specs.declared.tag.Tag.{Tag}
-use Rattle.wire.specs.declared.value.Value.{Value}
-use Rattle.wire.specs.declared.group.Skip.{Skip}
-use Rattle.wire.specs.declared.field.Field.{Field}
+use Rattle.prelude.proofs.Basics.{ℕ, _%_, _^_, _<_, arith, _≡_, List, eqb, ltb, ltb-false, both}
+use Rattle.wire.proofs.Names.{varintAt, Varint, tagOf, tagAt, valueAt, groupEnd, maxDepth, ofValue, ofGroup}
+use Rattle.wire.proofs.Names.{ofTag, fieldAt, Field, Skip, Tag, Value}
 
 abbrev TagNumber : Tag → Type 0
 TagNumber (Tag.Field n w next) = 0 < n

@@ -1,17 +1,8 @@
 -- Which varints of a field are its own. Assumes nothing.
-use Prim.Native.Nat.{ℕ, _+_, _/_, _%_, _≤_, _<_}
-use native.Mathlib.Omega.{arith}
-use mathlib.Core.Path.{_≡_, refl, sym, ap, _∙_}
-use mathlib.Core.Bool.{Bool, true, false, cond, _||_}
-use mathlib.Core.List.{List}
-use lib.ListN.{length, getD}
-use lib.Dec.{eqb}
-use borrow.Author.Tests.{eq-eqb, ne-eqb}
-use Rattle.varint.specs.Padded.{paddedAt}
-use Rattle.varint.proofs.FlagLaws.{padded-none, padded-one}
-use Rattle.wire.specs.Tag.{tagAt}
-use Rattle.wire.specs.Padded.{valuePadded, behindTag, fieldPadded}
-use Rattle.wire.specs.declared.tag.Tag.{Tag}
+use Rattle.prelude.proofs.Basics.{ℕ, _+_, _/_, _%_, _≤_, _<_, arith, Bool, false, _||_, _≡_, sym, ap, _∙_, List, length}
+use Rattle.prelude.proofs.Basics.{getD, eq-eqb, ne-eqb}
+use Rattle.varint.proofs.FlagLaws.{padded-one}
+use Rattle.wire.proofs.Names.{paddedAt, padded-none, tagAt, valuePadded, behindTag, fieldPadded, Tag}
 use Rattle.wire.proofs.FieldLaws.{short-low, short-good}
 use Rattle.wire.proofs.TagLaws.{tag-none}
 

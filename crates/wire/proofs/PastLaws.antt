@@ -1,26 +1,10 @@
 -- Tags, values, skips and fields end past their first byte and within the bytes. Assumes nothing.
-use Prim.Native.Nat.{ℕ, zero, suc, _+_, _-_, _%_, _^_, _≤_, _<_}
-use native.Mathlib.Omega.{arith}
-use mathlib.Core.Bool.{Bool, true, false}
-use mathlib.Core.Path.{_≡_, refl}
-use mathlib.Core.List.{List}
-use lib.ListN.{length}
-use lib.Dec.{ltb, leb, eqb}
-use borrow.Author.Tests.{ltb-false, leb-true}
-use Rattle.prelude.proofs.Cases.{both}
-use Rattle.varint.specs.Varint.{varintAt}
-use Rattle.varint.specs.Past.{Past}
-use Rattle.varint.specs.declared.Varint.{Varint}
-use Rattle.varint.proofs.PastLaws.{varint-past}
-use Rattle.wire.specs.Tag.{tagOf, tagAt}
-use Rattle.wire.specs.Value.{ofVarint, ofLength, asFixed, valueAt}
-use Rattle.wire.specs.Group.{behind, skipValue, andThen, groupField, groupFields, groupEnd}
-use Rattle.wire.specs.Field.{maxDepth, ofValue, ofGroup, ofTag, fieldAt}
-use Rattle.wire.specs.Past.{PastTag, PastValue, PastSkip, PastField}
-use Rattle.wire.specs.declared.tag.Tag.{Tag}
-use Rattle.wire.specs.declared.value.Value.{Value}
-use Rattle.wire.specs.declared.group.Skip.{Skip}
-use Rattle.wire.specs.declared.field.Field.{Field}
+use Rattle.prelude.proofs.Basics.{ℕ, zero, suc, _+_, _-_, _%_, _^_, _≤_, _<_, arith, Bool, true, false, _≡_, refl, List}
+use Rattle.prelude.proofs.Basics.{length, eqb, leb, ltb, leb-true, ltb-false, both}
+use Rattle.wire.proofs.Names.{Past, varintAt, Varint, varint-past, tagOf, tagAt, ofVarint, asFixed, ofLength}
+use Rattle.wire.proofs.Names.{valueAt, behind, skipValue, andThen, groupField, groupFields, groupEnd, maxDepth}
+use Rattle.wire.proofs.Names.{ofValue, ofGroup, ofTag, fieldAt, PastTag, PastValue, PastSkip, PastField, Field}
+use Rattle.wire.proofs.Names.{Skip, Tag, Value}
 
 tagOf-past : (at end : ℕ) (x : Varint) → Past at end x → PastTag at end (tagOf x)
 tagOf-past at end (Varint.Number v next) h =

@@ -1,13 +1,6 @@
 -- Which varints are tags, case by case. Assumes nothing.
-use Prim.Native.Nat.{ℕ, _/_, _%_, _^_, _≤_, _<_}
-use mathlib.Core.Path.{_≡_, ap}
-use mathlib.Core.List.{List}
-use lib.ListN.{length}
-use borrow.Author.Tests.{lt-ltb, le-ltb}
-use Rattle.varint.specs.declared.Varint.{Varint}
-use Rattle.varint.proofs.GroupLaws.{varint-none}
-use Rattle.wire.specs.Tag.{tagOf, tagAt}
-use Rattle.wire.specs.declared.tag.Tag.{Tag}
+use Rattle.prelude.proofs.Basics.{ℕ, _/_, _%_, _^_, _≤_, _<_, _≡_, ap, List, length, le-ltb, lt-ltb}
+use Rattle.wire.proofs.Names.{Varint, varint-none, tagOf, tagAt, Tag}
 
 module _ (v next : ℕ) where
   pub tag-high : 2 ^ 32 ≤ v → Tag.Bad ≡ tagOf (Varint.Number v next)

@@ -1,15 +1,7 @@
 -- Values by wire type, case by case. Assumes nothing.
-use Prim.Native.Nat.{ℕ, _+_, _-_, _≤_, _<_}
-use mathlib.Core.Path.{_≡_}
-use mathlib.Core.List.{List}
-use lib.ListN.{length}
-use borrow.Author.Tests.{lt-ltb, le-ltb, eq-eqb, ne-eqb}
-use Rattle.varint.specs.Varint.{varintAt}
-use Rattle.varint.specs.Past.{Past}
-use Rattle.varint.specs.declared.Varint.{Varint}
-use Rattle.varint.proofs.PastLaws.{varint-past}
-use Rattle.wire.specs.Value.{ofLength, asNumber, asLength, asFixed, valueAt}
-use Rattle.wire.specs.declared.value.Value.{Value}
+use Rattle.prelude.proofs.Basics.{ℕ, _+_, _-_, _≤_, _<_, _≡_, List, length, eq-eqb, le-ltb, lt-ltb, ne-eqb}
+use Rattle.wire.proofs.Names.{Past, varintAt, Varint, varint-past, asFixed, ofLength, valueAt, Value}
+use Rattle.wire.specs.Value.{asNumber, asLength}
 
 -- a varint that was read ends past its first byte and within the bytes
 pub varint-ends : (s : List ℕ) (at : ℕ) {v next : ℕ} → Varint.Number v next ≡ varintAt s at →

@@ -1,20 +1,12 @@
 -- The arguments of a message by their index, moved; and what they say together. Assumes nothing.
-use Prim.Native.Nat.{ℕ, _+_}
-use mathlib.Core.Bool.{Bool, true, false, cond}
-use mathlib.Core.Path.{_≡_, refl, sym, ap, _∙_}
-use mathlib.Core.List.{List, [], _∷_, map}
-use lib.ListN.{getD, List·getD-map}
-use lib.Dec.{ltb, eqb}
-use borrow.Author.Tests.{eqb-false}
-use Rattle.scalar.specs.declared.argument.Argument.{Argument}
+use Rattle.prelude.proofs.Basics.{ℕ, _+_, Bool, true, false, cond, _≡_, refl, sym, ap, _∙_, List, [], _∷_, map, getD}
+use Rattle.prelude.proofs.Basics.{eqb, ltb, eqb-false}
+use lib.ListN.{List·getD-map}
 use Rattle.scalar.specs.declared.argument.Argument.the-variants as Va
-use Rattle.args.specs.Arguments.{argumentsAt, anyTypeOf, badArguments, counted, withType, together, handedOut}
-use Rattle.args.specs.Arguments.{nthArgument}
-use Rattle.args.specs.declared.arguments.Arguments.{Arguments}
-use Rattle.args.proofs.ArgumentsLaws.{type-good}
+use Rattle.args.specs.Arguments.{counted, handedOut, nthArgument}
 pub use Rattle.args.proofs.ArgumentsLaws.{together-kept}
-use Rattle.args.specs.Moved.{moved}
-use Rattle.writer.specs.RoundTrip.{TellAlike}
+use Rattle.writer.proofs.Names.{Argument, argumentsAt, anyTypeOf, badArguments, withType, together, moved}
+use Rattle.writer.proofs.Names.{Arguments, type-good, TellAlike}
 
 -- ---- one by its index
 

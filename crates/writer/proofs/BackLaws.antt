@@ -1,36 +1,20 @@
 -- From a written frame to the request that it holds. Assumes nothing.
-use Prim.Native.Nat.{ℕ, _+_, _-_, _^_, _≤_, _<_}
-use native.Mathlib.Omega.{arith}
-use native.Mathlib.Nat.{mod-eq-of-lt}
-use mathlib.Core.Bool.{Bool, true, false, cond}
-use mathlib.Core.Path.{_≡_, refl, sym, ap, _∙_}
-use mathlib.Core.List.{List, [], _∷_, _++_}
-use lib.ListN.{length, length-append}
-use lib.Seq.{take-at}
+use Rattle.prelude.proofs.Basics.{ℕ, _+_, _^_, _≤_, _<_, arith, mod-eq-of-lt, Bool, true, false, cond, _≡_, refl, sym}
+use Rattle.prelude.proofs.Basics.{ap, _∙_, List, [], _∷_, _++_, length, length-append, take-at}
+use Rattle.protocol.specs.Client as Client
 use Rattle.scalar.specs.Fixed.{little}
 use Rattle.scalar.proofs.FixedLaws.{fixed-whole}
-use Rattle.encode.specs.Frame.{fourBytes, frame}
-use Rattle.encode.specs.Field.{numberField}
-use Rattle.protocol.specs.Client as Client
-use Rattle.message.specs.Head.{maxLength, headOf}
-use Rattle.message.specs.Frame.{frameIn, ofHead, frameOf}
-use Rattle.message.specs.declared.head.Head.{Head}
-use Rattle.message.specs.declared.request.Request.{Request}
-use Rattle.message.specs.declared.request.Frame.{Frame}
-use Rattle.message.proofs.HeadLaws.{head-whole}
 use Rattle.layout.specs.Table.{rowsOf}
-use Rattle.layout.specs.Row.{rowFor}
-use Rattle.layout.specs.Slots.{noSlots}
-use Rattle.layout.specs.Fields.{useOf, fieldsFrom, fieldsAt, hasRequired}
-use Rattle.layout.specs.declared.slots.Slots.{Slots}
-use Rattle.layout.specs.declared.fields.Use.{Use}
-use Rattle.layout.specs.Part.{valueOf, low32}
-use Rattle.message.specs.Payload.{payload, ifGood}
+use Rattle.layout.specs.Part.{valueOf}
+use Rattle.message.specs.Frame.{ofHead}
+use Rattle.message.specs.declared.head.Head.{Head}
+use Rattle.message.specs.Payload.{ifGood}
 use Rattle.message.specs.Simple.{resetFrame, sessionCloseFrame, deallocateFrame, closeFrame, fetchIn, fetchFrame}
-use Rattle.encode.specs.Field.{optionalField}
-use Rattle.writer.specs.RoundTrip.{given}
+use Rattle.message.proofs.HeadLaws.{head-whole}
+use Rattle.writer.proofs.Names.{Tail, rowFor, noSlots, useOf, fieldsAt, fieldsFrom, hasRequired, low32, Use}
+use Rattle.writer.proofs.Names.{Slots, maxLength, headOf, payload, frameIn, frameOf, Frame, Request, numberField}
+use Rattle.writer.proofs.Names.{optionalField, fourBytes, frame, given}
 use Rattle.writer.proofs.FieldLaws.{withNumber, reads-number, reads-optional, reads-then, whole-good}
-use Rattle.varint.proofs.TailLaws.{Tail}
 use Rattle.writer.proofs.WriteLaws.{frame-length}
 
 -- ---- the head

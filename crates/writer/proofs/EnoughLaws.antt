@@ -1,19 +1,8 @@
 -- Fuel that is enough for the bytes left makes no difference to a stretch. Assumes nothing.
-use Prim.Native.Nat.{ℕ, zero, suc, _+_, _≤_, _<_}
-use native.Mathlib.Omega.{arith}
-use mathlib.Core.Bool.{Bool, true, false, cond}
-use mathlib.Core.Path.{_≡_, refl, sym, ap}
-use mathlib.Core.List.{List}
-use lib.ListN.{length}
-use lib.Dec.{ltb}
-use borrow.Author.Tests.{le-ltb}
-use Rattle.wire.specs.Field.{fieldAt}
-use Rattle.wire.specs.Past.{PastField}
-use Rattle.wire.specs.declared.field.Field.{Field}
-use Rattle.wire.proofs.PastLaws.{field-past}
+use Rattle.prelude.proofs.Basics.{ℕ, zero, suc, _+_, _≤_, _<_, arith, Bool, true, false, cond, _≡_, refl, sym, ap, List}
+use Rattle.prelude.proofs.Basics.{length, ltb, le-ltb}
 use Rattle.args.specs.Value.{argumentIn}
-use Rattle.args.specs.Arguments.{isArgs}
-use Rattle.writer.specs.Judge.{isGood, onArg, argsFrom}
+use Rattle.writer.proofs.Names.{fieldAt, PastField, Field, field-past, isArgs, isGood, onArg, argsFrom}
 use Rattle.writer.specs.JudgeRules.{EnoughFields}
 
 module _ (s : List ℕ) where

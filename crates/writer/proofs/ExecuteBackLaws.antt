@@ -1,38 +1,18 @@
 -- A written Execute reads back, wherever it stands; so does an Open. Assumes nothing.
-use Prim.Native.Nat.{ℕ, _+_, _-_, _*_, _^_, _<_}
-use native.Mathlib.Omega.{arith}
-use native.Mathlib.Nat.{mod-eq-of-lt}
-use mathlib.Core.Bool.{Bool, true, false, cond}
-use mathlib.Core.Path.{_≡_, refl, sym, ap, _∙_}
-use mathlib.Core.List.{List, [], _∷_, _++_, map, append-nil}
-use lib.ListN.{length, take}
-use lib.Seq.{length-take-le}
-use Rattle.scalar.specs.declared.argument.Argument.{Argument}
-use Rattle.encode.specs.Frame.{frame}
-use Rattle.encode.specs.Field.{numberField, bytesField}
+use Rattle.prelude.proofs.Basics.{ℕ, _+_, _-_, _*_, _^_, _<_, arith, mod-eq-of-lt, Bool, true, false, cond, _≡_, refl}
+use Rattle.prelude.proofs.Basics.{sym, ap, _∙_, List, [], _∷_, _++_, map, append-nil, length, take, length-take-le}
 use Rattle.protocol.specs.Client as Client
 use Rattle.layout.specs.Table.{rowsOf, openStmt}
-use Rattle.layout.specs.Row.{rowFor}
-use Rattle.layout.specs.Slots.{noSlots}
-use Rattle.layout.specs.Fields.{useOf, hasRequired, fieldsAt}
-use Rattle.layout.specs.declared.slots.Slots.{Slots}
-use Rattle.layout.specs.declared.fields.Use.{Use}
-use Rattle.layout.specs.Part.{embedded, low32}
-use Rattle.args.specs.Arguments.{noArguments, together, argumentsAt}
-use Rattle.args.specs.declared.arguments.Arguments.{Arguments}
-use Rattle.message.specs.Payload.{payload}
-use Rattle.message.specs.Execute.{argumentsWithin, executeOf, executeIn, executeFrom, executeFrame, openFrom}
-use Rattle.message.specs.Execute.{openChosen, openInside, openOf, openFrame}
+use Rattle.message.specs.Execute.{executeOf, executeIn, executeFrom, executeFrame, openFrom, openChosen, openInside}
+use Rattle.message.specs.Execute.{openOf, openFrame}
 use Rattle.message.specs.declared.request.Optional.{Optional}
 use Rattle.message.specs.declared.request.Execute.{Execute}
-use Rattle.message.specs.declared.request.Request.{Request}
-use Rattle.message.specs.declared.request.Frame.{Frame}
-use Rattle.message.proofs.MessageLaws.{payload-good, within-there, execute-good}
-use Rattle.args.specs.Moved.{moved}
-use Rattle.encode.specs.Field.{optionalField}
-use Rattle.writer.specs.RoundTrip.{given}
-use Rattle.varint.proofs.TailLaws.{tail-length, tail-stands, Stands, stands-length, stands-first, stands-next}
-use Rattle.varint.proofs.TailLaws.{stands-cut}
+use Rattle.message.proofs.MessageLaws.{execute-good}
+use Rattle.writer.proofs.Names.{tail-length, Stands, stands-length, stands-cut, tail-stands, stands-first}
+use Rattle.writer.proofs.Names.{stands-next, Argument, rowFor, noSlots, useOf, fieldsAt, hasRequired, embedded}
+use Rattle.writer.proofs.Names.{low32, Use, Slots, argumentsAt, noArguments, together, moved, Arguments, payload}
+use Rattle.writer.proofs.Names.{argumentsWithin, Frame, Request, payload-good, within-there, numberField}
+use Rattle.writer.proofs.Names.{optionalField, bytesField, frame, given}
 use Rattle.writer.proofs.FieldLaws.{withNumber, withBytes, behindTag, reads-number, reads-bytes, reads-optional}
 use Rattle.writer.proofs.FieldLaws.{reads-then, whole-good, embedded-good, stands-inside}
 use Rattle.writer.proofs.ArgListLaws.{together-kept, together-moved}

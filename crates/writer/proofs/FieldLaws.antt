@@ -1,33 +1,22 @@
 -- A field that is written reads back, wherever it stands; and field lists part by part. Assumes nothing.
-use Prim.Native.Nat.{ℕ, _+_, _-_, _*_, _/_, _%_, _^_, _<_}
-use native.Mathlib.Omega.{arith}
-use mathlib.Core.Bool.{Bool, true, false, cond}
-use mathlib.Core.Path.{_≡_, refl, sym, ap, subst, _∙_}
-use mathlib.Core.List.{List, [], _++_}
-use lib.ListN.{length, length-append}
-use Rattle.varint.specs.Shortest.{varintBytes}
+use Rattle.prelude.proofs.Basics.{ℕ, _+_, _-_, _*_, _/_, _%_, _^_, _<_, arith, Bool, true, false, cond, _≡_, refl, sym}
+use Rattle.prelude.proofs.Basics.{ap, subst, _∙_, List, [], _++_, length, length-append}
 use Rattle.varint.specs.declared.Varint.{Varint}
 use Rattle.varint.proofs.VarintLaws.{reads-there, varint-length}
 use Rattle.wire.specs.Tag.{tagOf, tagAt}
 use Rattle.wire.specs.Value.{ofVarint, ofLength}
-use Rattle.wire.specs.Field.{ofValue, fieldAt}
-use Rattle.wire.specs.declared.tag.Tag.{Tag}
-use Rattle.wire.specs.declared.field.Field.{Field}
+use Rattle.wire.specs.Field.{ofValue}
 use Rattle.wire.proofs.TagLaws.{tag-good}
 use Rattle.wire.proofs.ValueLaws.{length-good}
 use Rattle.wire.proofs.FieldLaws.{field-tagged}
-use Rattle.encode.specs.Field.{numberField, bytesField}
-use Rattle.encode.proofs.FieldLaws.{number-parts, prefix-parts, bytes-sum}
-use Rattle.layout.specs.Slots.{noSlots}
-use Rattle.layout.specs.Fields.{useOf, noted, hasRequired, checked, fieldsAt}
-use Rattle.layout.specs.declared.slots.Slots.{Slots}
-use Rattle.layout.specs.declared.fields.Use.{Use}
-use Rattle.layout.proofs.FieldsLaws.{Listing, starts, ends, goes-on, checked-good}
-use Rattle.layout.specs.Part.{embedded}
+use Rattle.layout.specs.Fields.{checked}
+use Rattle.layout.proofs.FieldsLaws.{starts, ends, checked-good}
 use Rattle.layout.proofs.PartLaws.{part-within}
-use Rattle.encode.specs.Field.{optionalField}
-use Rattle.varint.proofs.TailLaws.{Stands, stands-length, stands-first, stands-next, stands-cut, Tail}
-use Rattle.varint.proofs.TailLaws.{tail-length, tail-stands}
+use Rattle.encode.proofs.FieldLaws.{number-parts, prefix-parts}
+use Rattle.writer.proofs.Names.{varintBytes, Tail, tail-length, Stands, stands-length, stands-cut, tail-stands}
+use Rattle.writer.proofs.Names.{stands-first, stands-next, fieldAt, Field, Tag, noSlots, useOf, noted, fieldsAt}
+use Rattle.writer.proofs.Names.{hasRequired, embedded, Use, Slots, Listing, goes-on, numberField, optionalField}
+use Rattle.writer.proofs.Names.{bytesField, bytes-sum}
 
 -- ---- one field
 

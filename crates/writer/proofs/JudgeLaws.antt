@@ -1,22 +1,12 @@
 -- Judging a stretch of args fields, one turn of the loop at a time; the types. Assumes nothing.
-use Prim.Native.Nat.{ℕ, zero, suc, _+_, _-_, _≤_, _<_}
-use native.Mathlib.Omega.{arith}
-use mathlib.Core.Bool.{Bool, true, false, not, cond}
-use mathlib.Core.Path.{_≡_, refl, sym, ap, _∙_}
-use mathlib.Core.List.{List}
-use lib.ListN.{length}
-use borrow.Author.Tests.{lt-ltb, le-ltb, eq-eqb, ne-eqb}
-use Rattle.prelude.proofs.Cases.{yes, no as without, before-suc}
+use Rattle.prelude.proofs.Basics.{ℕ, zero, suc, _+_, _-_, _≤_, _<_, arith, Bool, true, false, not, cond, _≡_, refl, sym}
+use Rattle.prelude.proofs.Basics.{ap, _∙_, List, length, eq-eqb, le-ltb, lt-ltb, ne-eqb, yes, no as without, before-suc}
 use Rattle.protocol.specs.Client as Client
-use Rattle.wire.specs.Field.{fieldAt}
-use Rattle.wire.specs.Past.{PastField}
-use Rattle.wire.specs.declared.field.Field.{Field}
-use Rattle.wire.proofs.PastLaws.{field-past}
 use Rattle.args.specs.Value.{argumentIn}
-use Rattle.args.specs.Arguments.{isArgs, anyTypeOf}
-use Rattle.args.proofs.ArgsFieldLaws.{is-args, no-wire, no-number}
+use Rattle.args.proofs.ArgsFieldLaws.{no-wire}
 use Rattle.message.specs.Operation as Operation
-use Rattle.writer.specs.Judge.{isGood, onArg, argsFrom, goodStretch, isType, goodPrepare, acceptedAs}
+use Rattle.writer.proofs.Names.{fieldAt, PastField, Field, field-past, isArgs, anyTypeOf, is-args, no-number}
+use Rattle.writer.proofs.Names.{isGood, onArg, argsFrom, goodStretch, isType, goodPrepare, acceptedAs}
 
 -- where the loop stands: what is left at p answers for the whole stretch
 pub record Judging (s : List ℕ) (p : ℕ) : Type 0 where

@@ -1,3 +1,4 @@
+mod Names
 pub mod SizeLaws
 pub mod JudgeLaws
 pub mod PayloadLaws

@@ -1,32 +1,19 @@
 -- The arguments in written bytes, part by part. Assumes nothing.
-use Prim.Native.Nat.{ℕ, zero, suc, _+_, _-_, _≤_, _<_, _^_}
-use native.Mathlib.Omega.{arith}
-use mathlib.Core.Bool.{Bool, true, false, cond}
-use mathlib.Core.Path.{_≡_, refl, sym, ap, _∙_}
-use mathlib.Core.List.{List, [], _∷_, _++_, map, append-assoc, append-nil}
-use lib.ListN.{length, length-append}
-use borrow.Author.Tests.{ne-eqb}
-use Rattle.wire.specs.Field.{fieldAt}
-use Rattle.wire.specs.declared.field.Field.{Field}
-use Rattle.scalar.specs.declared.argument.Argument.{Argument}
+use Rattle.prelude.proofs.Basics.{ℕ, zero, suc, _+_, _^_, _≤_, _<_, arith, Bool, true, false, cond, _≡_, refl, sym, ap}
+use Rattle.prelude.proofs.Basics.{_∙_, List, [], _∷_, _++_, map, append-nil, append-assoc, length, length-append}
+use Rattle.prelude.proofs.Basics.{ne-eqb}
 use Rattle.args.specs.Value.{argumentIn}
-use Rattle.args.specs.Arguments.{argPlace, nextArgument, argumentsFrom, argumentsAt, anyTypeOf, badArguments, withType}
-use Rattle.args.specs.Arguments.{together}
+use Rattle.args.specs.Arguments.{argPlace, nextArgument}
 use Rattle.args.specs.declared.arguments.ArgPlace.{ArgPlace}
 use Rattle.args.specs.declared.arguments.NextArgument.{NextArgument}
-use Rattle.args.specs.declared.arguments.Arguments.{Arguments}
-use Rattle.args.proofs.PlaceLaws.{starts, found, other-number, next-end}
-use Rattle.args.proofs.PlaceLaws.{next-placed}
-use Rattle.args.proofs.ArgumentsLaws.{type-good}
-use Rattle.encode.specs.Field.{numberField}
-use Rattle.args.specs.Moved.{moved}
-use Rattle.encode.specs.Field.{optionalField}
-use Rattle.varint.proofs.TailLaws.{Tail, tail-length, tail-stands, Stands, stands-length}
-use Rattle.varint.proofs.TailLaws.{stands-first, stands-next}
-use Rattle.args.proofs.MovedArgLaws.{argument-moved}
-use Rattle.args.proofs.EnoughLaws.{enough-fields}
-use Rattle.args.proofs.MovedArgLaws.{field-inside, args-found}
+use Rattle.args.proofs.PlaceLaws.{starts, found, other-number, next-end, next-placed}
 use Rattle.args.proofs.ArgumentsLaws.{from-none as args-none}
+use Rattle.args.proofs.MovedArgLaws.{argument-moved, args-found}
+use Rattle.args.proofs.EnoughLaws.{enough-fields}
+use Rattle.writer.proofs.Names.{Tail, tail-length, Stands, stands-length, tail-stands, stands-first, stands-next}
+use Rattle.writer.proofs.Names.{Argument, fieldAt, Field, argumentsAt, anyTypeOf, badArguments, withType}
+use Rattle.writer.proofs.Names.{argumentsFrom, together, moved, Arguments, type-good, field-inside, numberField}
+use Rattle.writer.proofs.Names.{optionalField}
 use Rattle.writer.proofs.FieldLaws.{number-reads}
 use Rattle.writer.proofs.StretchLaws.{Stretch, done, more, there}
 

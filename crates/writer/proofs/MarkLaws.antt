@@ -1,32 +1,19 @@
 -- Whether bytes are padded, part by part: those of a written field are not. Assumes nothing.
-use Prim.Native.Nat.{ℕ, _+_, _-_, _*_, _^_, _≤_, _<_}
-use native.Mathlib.Omega.{arith}
-use mathlib.Core.Bool.{Bool, true, false, cond, _||_}
-use mathlib.Core.Path.{_≡_, refl, sym, ap, ap₂, subst, _∙_}
-use mathlib.Core.List.{List, [], _++_}
-use lib.ListN.{length, take, length-append}
-use borrow.Author.Tests.{le-leb}
-use Rattle.prelude.proofs.Cases.{yes, no as without}
-use Rattle.prelude.proofs.OrLaws.{or-false, or-assoc, or-same}
-use Rattle.varint.specs.Shortest.{varintBytes}
+use Rattle.prelude.proofs.Basics.{ℕ, _+_, _-_, _*_, _^_, _≤_, _<_, arith, Bool, true, false, _||_, cond, _≡_, refl, sym}
+use Rattle.prelude.proofs.Basics.{ap, ap₂, subst, _∙_, List, [], _++_, length, take, length-append, le-leb, yes}
+use Rattle.prelude.proofs.Basics.{no as without, or-assoc, or-false, or-same}
 use Rattle.varint.proofs.FlagLaws.{plain-there}
-use Rattle.varint.proofs.TailLaws.{Tail, tail-length, tail-stands, Stands, stands-length, stands-first, stands-next}
-use Rattle.varint.proofs.TailLaws.{stands-cut}
-use Rattle.wire.specs.Field.{fieldAt}
-use Rattle.wire.specs.Padded.{valuePadded, fieldPadded}
-use Rattle.wire.specs.declared.tag.Tag.{Tag}
-use Rattle.wire.specs.declared.field.Field.{Field}
+use Rattle.wire.specs.Padded.{valuePadded}
 use Rattle.wire.proofs.PaddedLaws.{field-flag}
 use Rattle.wire.proofs.MovedFlagLaws.{field-flag-stands}
-use Rattle.encode.specs.Field.{numberField, optionalField, bytesField}
-use Rattle.layout.specs.Padded.{paddedFrom, paddedList, nothingInside, partPadded}
+use Rattle.layout.specs.Padded.{paddedList, nothingInside, partPadded}
 use Rattle.layout.proofs.PaddedLaws.{flag-end, flag-turn, padded-inside}
-use Rattle.args.specs.Padded.{argumentPadded, insideArgs, boundPadded, executePadded}
-use Rattle.args.specs.Arguments.{isArgs}
-use Rattle.args.proofs.ArgsFieldLaws.{is-args, no-number}
-use Rattle.args.proofs.MovedArgLaws.{field-inside}
+use Rattle.args.specs.Padded.{boundPadded}
 use Rattle.args.proofs.MovedFlagLaws.{argument-flag-moved}
-use Rattle.writer.specs.Padded.{stretchPadded}
+use Rattle.writer.proofs.Names.{varintBytes, Tail, tail-length, Stands, stands-length, stands-cut, tail-stands}
+use Rattle.writer.proofs.Names.{stands-first, stands-next, fieldAt, fieldPadded, Field, Tag, paddedFrom, isArgs}
+use Rattle.writer.proofs.Names.{insideArgs, argumentPadded, executePadded, is-args, no-number, field-inside}
+use Rattle.writer.proofs.Names.{numberField, optionalField, bytesField, stretchPadded}
 use Rattle.writer.proofs.FieldLaws.{tag-reads, behindTag, number-reads, bytes-reads, stands-inside}
 use Rattle.writer.proofs.StretchLaws.{Stretch, done, more, there}
 

@@ -1,44 +1,24 @@
 -- A written frame is padded exactly where the stretch of its arguments is. Assumes nothing.
-use Prim.Native.Nat.{ℕ, _+_, _-_, _^_, _≤_, _<_}
-use native.Mathlib.Omega.{arith}
-use mathlib.Core.Bool.{Bool, true, false, cond, _||_}
-use mathlib.Core.Path.{_≡_, refl, sym, ap, ap₂, _∙_}
-use mathlib.Core.List.{List, _++_}
-use lib.ListN.{length, drop}
-use lib.Seq.{take-at}
-use Rattle.prelude.proofs.OrLaws.{or-false}
+use Rattle.prelude.proofs.Basics.{ℕ, _+_, _-_, _^_, _≤_, _<_, arith, Bool, true, false, _||_, cond, _≡_, refl, sym, ap}
+use Rattle.prelude.proofs.Basics.{ap₂, _∙_, List, _++_, length, drop, take-at, or-false}
+use Rattle.protocol.specs.Client as Client
 use Rattle.varint.specs.Varint.{groups}
 use Rattle.varint.specs.Shortest.{shortest}
 use Rattle.varint.specs.Padded.{sameBytes, paddedAt}
-use Rattle.varint.proofs.TailLaws.{tail-length, tail-stands, stands-length}
-use Rattle.wire.specs.Field.{fieldAt}
-use Rattle.wire.specs.Padded.{fieldPadded}
-use Rattle.encode.specs.Frame.{frame}
-use Rattle.encode.specs.Field.{optionalField}
-use Rattle.protocol.specs.Client as Client
 use Rattle.layout.specs.Table.{rowsOf}
-use Rattle.layout.specs.Row.{rowFor}
-use Rattle.layout.specs.Fields.{fieldsFrom, hasRequired}
-use Rattle.layout.specs.Padded.{paddedFrom, slotPadded}
-use Rattle.layout.specs.declared.slots.Slots.{Slots}
+use Rattle.layout.specs.Padded.{slotPadded}
 use Rattle.layout.specs.Part.{startOf, lenOf}
 use Rattle.args.specs.Value.{ofAnyType, anyOf}
-use Rattle.args.specs.Padded.{insideAny, argumentPadded, insideArgs, executePadded}
-use Rattle.message.specs.Head.{maxLength, headOf}
-use Rattle.message.specs.Operation.{fieldOf}
-use Rattle.message.specs.Payload.{payload}
-use Rattle.message.specs.Frame.{frameOf}
+use Rattle.args.specs.Padded.{insideAny}
 use Rattle.message.specs.Padded.{ownPadded, openExecutePadded, openStmtPadded, kindPadded, whereGood, headPadded}
 use Rattle.message.specs.Padded.{paddedOf}
-use Rattle.message.specs.declared.request.Request.{Request}
-use Rattle.message.specs.declared.request.Frame.{Frame}
-use Rattle.writer.specs.declared.Draft.{Draft}
-use Rattle.writer.specs.Judge.{argsFrom, goodStretch, goodPrepare}
-use Rattle.writer.specs.Payload.{payloadAs, payloadOf, executePayload, prepareStmtPayload, preparePayload}
-use Rattle.writer.specs.Payload.{openStmtPayload, openPayload, fetchPayload}
-use Rattle.writer.specs.RoundTrip.{Sized, hasArgs}
-use Rattle.writer.specs.Write.{frameBytes}
-use Rattle.writer.specs.Padded.{stretchPadded, SomePadded, WrittenPadded, LeftPadded}
+use Rattle.writer.proofs.Names.{tail-length, stands-length, tail-stands, fieldAt, fieldPadded, rowFor}
+use Rattle.writer.proofs.Names.{fieldsFrom, hasRequired, paddedFrom, Slots, insideArgs, argumentPadded}
+use Rattle.writer.proofs.Names.{executePadded, maxLength, headOf, fieldOf, payload, frameOf, Frame, Request}
+use Rattle.writer.proofs.Names.{optionalField, frame, argsFrom, goodStretch, goodPrepare, executePayload}
+use Rattle.writer.proofs.Names.{prepareStmtPayload, preparePayload, openStmtPayload, openPayload, fetchPayload}
+use Rattle.writer.proofs.Names.{payloadAs, payloadOf, frameBytes, Sized, hasArgs, stretchPadded, Draft}
+use Rattle.writer.specs.Padded.{SomePadded, WrittenPadded, LeftPadded}
 use Rattle.writer.proofs.WriteLaws.{frame-length}
 use Rattle.writer.proofs.StretchLaws.{Stretch, stretch-of}
 use Rattle.writer.proofs.MarkLaws.{ownOnly, Says, says-as, says-none, says-then, says-whole, says-part}

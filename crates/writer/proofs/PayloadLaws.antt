@@ -1,13 +1,8 @@
 -- Payloads by the message type, and fields with bytes put in two parts. Assumes nothing.
-use Prim.Native.Nat.{ℕ}
-use mathlib.Core.Path.{_≡_, sym, ap, _∙_}
-use mathlib.Core.List.{List, []}
-use borrow.Author.Tests.{ne-eqb}
-use Rattle.prelude.proofs.Cases.{no as without}
+use Rattle.prelude.proofs.Basics.{ℕ, _≡_, sym, ap, _∙_, List, [], ne-eqb, no as without}
 use Rattle.protocol.specs.Client as Client
-use Rattle.encode.specs.Field.{numberField}
-use Rattle.writer.specs.declared.Draft.{Draft}
-use Rattle.writer.specs.Payload.{executePayload, preparePayload, openPayload, fetchPayload, payloadAs}
+use Rattle.writer.proofs.Names.{numberField, executePayload, preparePayload, openPayload, fetchPayload}
+use Rattle.writer.proofs.Names.{payloadAs, Draft}
 
 module _ (d : Draft) (body args : List ℕ) {kind : ℕ} where
   pub as-prepare : kind ≡ Client.prepare → payloadAs kind d body args ≡ preparePayload d body

@@ -1,41 +1,21 @@
 -- A written Prepare reads back, with its body. Assumes nothing.
-use Prim.Native.Nat.{ℕ, _+_, _-_, _^_, _<_}
-use native.Mathlib.Omega.{arith}
-use native.Mathlib.Nat.{mod-eq-of-lt, add-zero}
-use mathlib.Core.Bool.{Bool, true, false, cond}
-use mathlib.Core.Path.{_≡_, refl, sym, ap, subst, _∙_}
-use mathlib.Core.List.{List, [], _++_, map}
-use lib.ListN.{length, take}
-use lib.Seq.{length-take-le, take-all}
-use lib.Dec.{eqb}
-use Rattle.scalar.specs.declared.argument.Argument.{Argument}
-use Rattle.encode.specs.Frame.{frame}
-use Rattle.encode.specs.Field.{numberField, bytesField}
+use Rattle.prelude.proofs.Basics.{ℕ, _+_, _^_, _<_, arith, add-zero, mod-eq-of-lt, Bool, true, false, cond, _≡_, refl}
+use Rattle.prelude.proofs.Basics.{sym, ap, subst, _∙_, List, [], _++_, map, length, take, length-take-le, take-all, eqb}
 use Rattle.protocol.specs.Client as Client
 use Rattle.layout.specs.Table.{rowsOf, prepareStmt, stmtExecute}
-use Rattle.layout.specs.Row.{rowFor}
-use Rattle.layout.specs.Slots.{noSlots}
-use Rattle.layout.specs.Fields.{useOf, hasRequired, fieldsAt}
-use Rattle.layout.specs.declared.slots.Slots.{Slots}
-use Rattle.layout.specs.declared.fields.Use.{Use}
-use Rattle.layout.specs.Part.{embedded, low32}
-use Rattle.args.specs.Arguments.{noArguments, badArguments, together, argumentsAt, argumentsFrom, argumentsIn}
-use Rattle.args.specs.declared.arguments.Arguments.{Arguments}
+use Rattle.args.proofs.MovedArgLaws.{embedded-alike, args-moved}
 use Rattle.message.specs.Operation as Operation
-use Rattle.message.specs.Payload.{payload}
-use Rattle.message.specs.Execute.{argumentsWithin}
 use Rattle.message.specs.Prepare.{bodyIn, prepareFrom, prepareRead, prepareOf, prepareFrame}
-use Rattle.message.specs.declared.request.Request.{Request}
-use Rattle.message.specs.declared.request.Frame.{Frame}
-use Rattle.message.proofs.MessageLaws.{payload-good, within-there, body-list, body-list-bad}
-use Rattle.args.specs.Moved.{moved}
-use Rattle.writer.specs.Judge.{isType, goodBody}
-use Rattle.varint.proofs.TailLaws.{tail-length, tail-stands, Stands, stands-length, stands-next, stands-cut}
+use Rattle.message.proofs.MessageLaws.{body-list, body-list-bad}
+use Rattle.writer.proofs.Names.{tail-length, Stands, stands-length, stands-cut, tail-stands, stands-next}
+use Rattle.writer.proofs.Names.{Argument, rowFor, noSlots, useOf, fieldsAt, hasRequired, embedded, low32, Use}
+use Rattle.writer.proofs.Names.{Slots, same-or-not, argumentsAt, noArguments, badArguments, argumentsIn}
+use Rattle.writer.proofs.Names.{argumentsFrom, together, moved, Arguments, payload, argumentsWithin, Frame}
+use Rattle.writer.proofs.Names.{Request, payload-good, within-there, numberField, bytesField, frame, isType}
+use Rattle.writer.proofs.Names.{goodBody}
 use Rattle.writer.proofs.FieldLaws.{withNumber, withBytes, reads-number, reads-bytes, reads-then, whole-good}
 use Rattle.writer.proofs.FieldLaws.{embedded-good, stands-inside}
 use Rattle.writer.proofs.JudgeLaws.{type-none}
-use Rattle.layout.proofs.KeptLaws.{same-or-not}
-use Rattle.args.proofs.MovedArgLaws.{embedded-alike, args-moved}
 use Rattle.writer.proofs.ArgListLaws.{together-kept, together-moved}
 use Rattle.writer.proofs.BackLaws.{payload-tail}
 use Rattle.writer.proofs.ExecuteBackLaws.{Held, partStart}

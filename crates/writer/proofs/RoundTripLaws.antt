@@ -1,43 +1,28 @@
 -- A written message reads back as itself. Assumes nothing.
-use Prim.Native.Nat.{ℕ, _+_, _≤_}
-use native.Mathlib.Omega.{arith}
-use mathlib.Core.Bool.{Bool, true, false, cond}
-use mathlib.Core.Path.{_≡_, refl, sym, ap, subst, _∙_}
-use mathlib.Core.List.{List, [], _++_, map}
-use lib.ListN.{length, take, drop}
-use lib.Seq.{take-append-le}
-use lib.Dec.{leb, eqb}
-use borrow.Author.Tests.{le-leb, leb-true, eq-eqb, eqb-true, eqb-false}
-use Rattle.prelude.proofs.Cases.{yes}
-use Rattle.encode.specs.Put.{written}
-use Rattle.encode.specs.Frame.{frame}
-use Rattle.encode.specs.Field.{numberField}
+use Rattle.prelude.proofs.Basics.{ℕ, _+_, _≤_, arith, Bool, true, false, cond, _≡_, refl, sym, ap, subst, _∙_, List, []}
+use Rattle.prelude.proofs.Basics.{_++_, map, length, take, drop, take-append-le, eqb, leb, eq-eqb, eqb-false, eqb-true}
+use Rattle.prelude.proofs.Basics.{le-leb, leb-true, yes}
 use Rattle.protocol.specs.Client as Client
 use Rattle.protocol.specs.Reason as Reason
-use Rattle.args.specs.Arguments.{noArguments, argumentsFrom, argumentsAt, together, argumentsIn}
-use Rattle.args.specs.declared.arguments.Arguments.{Arguments}
-use Rattle.message.specs.Head.{maxLength}
+use Rattle.varint.proofs.TailLaws.{stands-bytes, stands-more}
 use Rattle.message.specs.Operation as Operation
 use Rattle.message.specs.Request.{kindOf, stmtOf, cursorOf, rowsOf, compactOf, operationOf, bodyOf, argsOf, noOptional}
 use Rattle.message.specs.Request.{noPart}
-use Rattle.message.specs.Payload.{payload}
 use Rattle.message.specs.Prepare.{bodyIn as judged}
-use Rattle.message.specs.Frame.{frameIn, frameOf, partOf, bodyIn, argumentIn}
-use Rattle.message.specs.declared.request.Request.{Request}
-use Rattle.message.specs.declared.request.Frame.{Frame}
-use Rattle.writer.specs.declared.Draft.{Draft}
-use Rattle.args.specs.Moved.{moved}
-use Rattle.writer.specs.Judge.{accepted, acceptedAs, goodPrepare, goodStretch, isType, goodBody}
-use Rattle.writer.specs.Payload.{payloadAs, payloadOf, executePayload, prepareStmtPayload, preparePayload}
-use Rattle.writer.specs.Payload.{openStmtPayload, openPayload, fetchPayload}
-use Rattle.writer.specs.Write.{frameBytes, draftReason, writeReason, leftOf}
-use Rattle.writer.specs.RoundTrip.{Sized, hasStmt, hasCursor, hasRows, hasArgs, given, argsBytes, ReadsAs}
-use Rattle.writer.specs.RoundTrip.{argumentsOf, TellAlike, RoundTrip, WrittenReads}
+use Rattle.message.specs.Frame.{partOf, bodyIn, argumentIn}
+use Rattle.encode.specs.Put.{written}
+use Rattle.writer.proofs.Names.{Stands, stands-length, tail-stands, same-or-not, argumentsAt, noArguments}
+use Rattle.writer.proofs.Names.{argumentsIn, argumentsFrom, together, moved, Arguments, maxLength, payload}
+use Rattle.writer.proofs.Names.{frameIn, frameOf, Frame, Request, numberField, frame, goodStretch, isType}
+use Rattle.writer.proofs.Names.{goodBody, goodPrepare, acceptedAs, accepted, executePayload, prepareStmtPayload}
+use Rattle.writer.proofs.Names.{preparePayload, openStmtPayload, openPayload, fetchPayload, payloadAs, payloadOf}
+use Rattle.writer.proofs.Names.{frameBytes, draftReason, leftOf, Sized, hasArgs, given, TellAlike, Draft}
+use Rattle.writer.specs.Write.{writeReason}
+use Rattle.writer.specs.RoundTrip.{hasStmt, hasCursor, hasRows, argsBytes, ReadsAs, argumentsOf, RoundTrip}
+use Rattle.writer.specs.RoundTrip.{WrittenReads}
 use Rattle.writer.proofs.JudgeLaws.{kind-none}
 use Rattle.writer.proofs.WriteLaws.{frame-length}
-use Rattle.varint.proofs.TailLaws.{Stands, stands-length, stands-bytes, stands-more, tail-stands}
 use Rattle.writer.proofs.ArgListLaws.{nth-moved, together-tells}
-use Rattle.layout.proofs.KeptLaws.{same-or-not}
 use Rattle.writer.proofs.StretchLaws.{stretch-of}
 use Rattle.writer.proofs.BackLaws.{frame-is, payload-tail, reset-back, session-close-back, deallocate-back}
 use Rattle.writer.proofs.BackLaws.{close-back, fetch-back}

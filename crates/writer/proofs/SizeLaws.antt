@@ -1,17 +1,8 @@
 -- How long fields and payloads are, by their parts. Assumes nothing.
-use Prim.Native.Nat.{ℕ, _+_, _≤_}
-use native.Mathlib.Omega.{arith}
-use mathlib.Core.Path.{_≡_}
-use mathlib.Core.Bool.{cond}
-use mathlib.Core.List.{List, _++_}
-use lib.ListN.{length, length-append}
-use Rattle.encode.specs.Field.{numberField, bytesField}
-use Rattle.encode.proofs.FieldLaws.{number-short, optional-short, prefix-short, bytes-sum}
-use Rattle.message.specs.Operation.{fieldOf}
-use Rattle.writer.specs.declared.Draft.{Draft}
-use Rattle.encode.specs.Field.{optionalField, prefixOf}
-use Rattle.writer.specs.Payload.{executePayload, prepareStmtPayload, preparePayload}
-use Rattle.writer.specs.Payload.{openStmtPayload, openPayload, fetchPayload}
+use Rattle.prelude.proofs.Basics.{ℕ, _+_, _≤_, arith, cond, _≡_, List, _++_, length, length-append}
+use Rattle.writer.proofs.Names.{fieldOf, prefixOf, numberField, optionalField, bytesField, number-short}
+use Rattle.writer.proofs.Names.{optional-short, prefix-short, bytes-sum, executePayload, prepareStmtPayload}
+use Rattle.writer.proofs.Names.{preparePayload, openStmtPayload, openPayload, fetchPayload, Draft}
 
 module _ (d : Draft) (bs : List ℕ) where
   pub execute-parts :

@@ -1,28 +1,13 @@
 -- A good stretch of args fields, read where it stands in a message. Assumes nothing.
-use Prim.Native.Nat.{ℕ, zero, suc, _+_, _-_, _≤_, _<_}
-use native.Mathlib.Omega.{arith}
-use native.Mathlib.Nat.{add-zero}
-use mathlib.Core.Bool.{Bool, true, false, not, cond}
-use mathlib.Core.Path.{_≡_, refl, sym, ap, subst, _∙_}
-use mathlib.Core.List.{List, _∷_}
-use lib.ListN.{length, getD, set}
-use lib.Dec.{eqb}
-use borrow.Author.Tests.{lt-ltb, eqb-false}
-use Rattle.prelude.proofs.Cases.{less-or-not}
-use Rattle.wire.specs.Field.{fieldAt}
-use Rattle.wire.specs.declared.field.Field.{Field}
-use Rattle.layout.specs.Fields.{useOf, noted}
-use Rattle.layout.specs.declared.slots.Slots.{Slots}
-use Rattle.layout.specs.declared.fields.Use.{Use}
-use Rattle.layout.proofs.FieldsLaws.{Listing, goes-on}
-use Rattle.args.specs.Value.{argumentIn}
-use Rattle.args.specs.Arguments.{isArgs, anyTypeOf}
-use Rattle.args.proofs.ArgsFieldLaws.{args-number}
-use Rattle.writer.specs.Judge.{onArg, argsFrom, goodStretch}
-use Rattle.varint.proofs.TailLaws.{Stands, stands-length}
+use Rattle.prelude.proofs.Basics.{ℕ, zero, suc, _+_, _≤_, _<_, arith, add-zero, Bool, true, false, not, cond, _≡_, refl}
+use Rattle.prelude.proofs.Basics.{sym, ap, subst, _∙_, List, _∷_, length, getD, set, eqb, eqb-false, lt-ltb}
+use Rattle.prelude.proofs.Basics.{less-or-not}
 use Rattle.wire.proofs.MovedLaws.{movedField, field-moved}
 use Rattle.wire.proofs.AgreeLaws.{field-longer}
-use Rattle.args.proofs.MovedArgLaws.{field-inside}
+use Rattle.args.specs.Value.{argumentIn}
+use Rattle.args.proofs.ArgsFieldLaws.{args-number}
+use Rattle.writer.proofs.Names.{Stands, stands-length, fieldAt, Field, useOf, noted, Use, Slots, Listing}
+use Rattle.writer.proofs.Names.{goes-on, isArgs, anyTypeOf, field-inside, onArg, argsFrom, goodStretch}
 use Rattle.writer.proofs.FieldLaws.{Reads}
 
 -- good args fields from the place i to the end of a

@@ -1,26 +1,15 @@
 -- Writing a draft, by the ways out. Assumes nothing.
-use Prim.Native.Nat.{ℕ, _+_, _%_, _≤_, _<_}
-use native.Mathlib.Omega.{arith}
-use native.Mathlib.Nat.{mod-eq-of-lt}
-use mathlib.Core.Bool.{Bool, true, false, cond}
-use mathlib.Core.Path.{_≡_, refl, sym, ap, _∙_}
-use mathlib.Core.List.{List, [], _∷_, _++_}
-use lib.ListN.{length}
-use lib.Dec.{leb, eqb}
-use borrow.Author.Tests.{le-leb, lt-leb, eqb-true}
-use Rattle.prelude.proofs.Cases.{both, yes, no as without}
-use Rattle.encode.proofs.PutLaws.{put-fits}
-use Rattle.encode.specs.Puts.{Puts}
-use Rattle.encode.specs.Frame.{fourBytes, frame}
-use Rattle.encode.proofs.PutsLaws.{puts-then, puts-as}
+use Rattle.prelude.proofs.Basics.{ℕ, _+_, _%_, _≤_, _<_, arith, mod-eq-of-lt, Bool, true, false, cond, _≡_, refl, sym}
+use Rattle.prelude.proofs.Basics.{ap, _∙_, List, [], _∷_, _++_, length, eqb, leb, eqb-true, le-leb, lt-leb, both, yes}
+use Rattle.prelude.proofs.Basics.{no as without}
 use Rattle.protocol.specs.Client as Client
 use Rattle.protocol.specs.Reason as Reason
-use Rattle.message.specs.Head.{maxLength}
-use Rattle.writer.specs.declared.Draft.{Draft}
+use Rattle.encode.specs.Puts.{Puts}
+use Rattle.encode.proofs.PutLaws.{put-fits}
+use Rattle.writer.proofs.Names.{maxLength, fourBytes, frame, puts-then, puts-as, acceptedAs, accepted, payloadOf}
+use Rattle.writer.proofs.Names.{frameBytes, draftReason, leftOf, Draft}
 use Rattle.writer.specs.declared.Sent.{Sent}
-use Rattle.writer.specs.Judge.{accepted, acceptedAs}
-use Rattle.writer.specs.Payload.{payloadOf}
-use Rattle.writer.specs.Write.{frameBytes, draftReason, sent, sentOf, leftOf}
+use Rattle.writer.specs.Write.{sent, sentOf}
 
 -- a type that is accepted is one of the eight, and fits a byte
 pub accepted-kind : (kind operation : ℕ) (body args : List ℕ) → acceptedAs kind operation body args ≡ true → kind < 256

@@ -1,7 +1,7 @@
 -- The payload of each message as it is written (C2, L1): known fields in number order, shortest varints, absent
 -- optionals left out.
 use Prim.Native.Nat.{ℕ}
-use mathlib.Core.Bool.{Bool, cond}
+use mathlib.Core.Bool.{cond}
 use mathlib.Core.List.{List, [], _++_}
 use lib.Dec.{eqb}
 use Rattle.encode.specs.Field.{numberField, optionalField, bytesField}

@@ -1,10 +1,5 @@
 -- Each way out is one of appendReason; the form names the part of the source that the field holds. Assumes nothing.
-use borrow.Author.Needs.{needs}
-use native.Mathlib.Omega.{arith}
-use mathlib.Core.Path.{refl, sym, _∙_}
-use Prim.Native.Nat.{_+_}
-use lib.ListN.{length}
-use borrow.Author.Tests.{not-true, not-false, leb-true, leb-false}
+use Rattle.prelude.proofs.Basics.{_+_, arith, refl, sym, _∙_, length, needs, leb-false, leb-true, not-false, not-true}
 use Rattle.args_writer.proofs.AppendLaws.{part-within, did-bad, did-full, did-all}
 use Rattle.args_writer.proofs.append_argument.Statement.{statement}
 use Rattle.args_writer.proofs.append_argument.Tie as tie

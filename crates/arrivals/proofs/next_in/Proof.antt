@@ -1,10 +1,6 @@
 -- `arrivals::next_in` meets its contract: a reader that is no part of the store waits; else the head of the bytes held
 -- decides. Assumes nothing.
-use Prim.Native.Nat.{ℕ}
-use native.Mathlib.Omega.{arith}
-use mathlib.Core.Path.{sym, ap, _∙_}
-use lib.ListN.{length}
-use borrow.Author.Needs.{needs}
+use Rattle.prelude.proofs.Basics.{ℕ, arith, sym, ap, _∙_, length, needs}
 use Rattle.protocol.specs.Reason as Reason
 use Rattle.message.specs.declared.head.Head.{Head}
 use Rattle.streams.specs.Reader.{nextBy}

@@ -1,10 +1,6 @@
 -- `arrivals::push_at` meets its contract: a bad length takes nothing; else room is made, and what fits is put behind.
 -- Assumes nothing.
-use native.Mathlib.Omega.{arith}
-use mathlib.Core.Path.{_≡_, sym, ap, _∙_}
-use borrow.Author.Needs.{needs}
-use lib.Seq.{length-take-le}
-use Prim.Native.Nat.{ℕ}
+use Rattle.prelude.proofs.Basics.{ℕ, arith, _≡_, sym, ap, _∙_, length-take-le, needs}
 use Rattle.streams.specs.Reader.{Push, reader}
 use Rattle.streams.specs.declared.Reader.{Reader}
 use Rattle.streams.specs.declared.Pushed.{Pushed}

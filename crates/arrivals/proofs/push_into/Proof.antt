@@ -1,6 +1,5 @@
 -- `arrivals::push_into` meets its contract: what is usable of a reader is a part of the store. Assumes nothing.
-use mathlib.Core.Path.{ap, _∙_}
-use borrow.Author.Needs.{needs}
+use Rattle.prelude.proofs.Basics.{ap, _∙_, needs}
 use Rattle.streams.specs.Reader.{Push}
 use Rattle.streams.proofs.HeldLaws.{usable-is}
 use Rattle.arrivals.proofs.ReaderLaws.{push-usable}

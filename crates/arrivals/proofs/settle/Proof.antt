@@ -1,5 +1,5 @@
 -- `arrivals::settle` meets its contract: what stands first is a bad length, or not. Assumes nothing.
-use borrow.Author.Needs.{needs}
+use Rattle.prelude.proofs.Basics.{needs}
 use Rattle.arrivals.proofs.ReaderLaws.{settled-bad, settled-not}
 use Rattle.arrivals.proofs.settle.Statement.{statement}
 use Rattle.arrivals.proofs.settle.Tie as tie

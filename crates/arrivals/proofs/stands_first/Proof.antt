@@ -1,6 +1,5 @@
 -- `arrivals::stands_first` meets its contract: the number of the head, case by case. Assumes nothing.
-use mathlib.Core.Path.{sym, _∙_}
-use borrow.Author.Needs.{needs}
+use Rattle.prelude.proofs.Basics.{sym, _∙_, needs}
 use Rattle.arrivals.proofs.ReaderLaws.{stands-as}
 use Rattle.arrivals.proofs.stands_first.Statement.{statement}
 use Rattle.arrivals.proofs.stands_first.Tie as tie

@@ -1,6 +1,5 @@
 -- `arrivals::usable_reader` meets its contract: the reader is a part of the store, or not. Assumes nothing.
-use mathlib.Core.Path.{_∙_}
-use borrow.Author.Needs.{needs}
+use Rattle.prelude.proofs.Basics.{_∙_, needs}
 use Rattle.streams.proofs.HeldLaws.{is-part, is-reversed, is-past, usable-part, usable-none}
 use Rattle.arrivals.proofs.usable_reader.Statement.{statement}
 use Rattle.arrivals.proofs.usable_reader.Tie as tie

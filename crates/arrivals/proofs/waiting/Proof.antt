@@ -1,6 +1,5 @@
 -- `arrivals::waiting` meets its contract: of nothing, nothing is handed out. Assumes nothing.
-use mathlib.Core.Path.{ap}
-use borrow.Author.Needs.{needs}
+use Rattle.prelude.proofs.Basics.{ap, needs}
 use Rattle.protocol.specs.Reason as Reason
 use Rattle.streams.specs.Reader.{standsFirst}
 use Rattle.streams.specs.declared.Reader.{Reader}

@@ -1,8 +1,6 @@
 -- `karramotx::karramotx_append` meets its contract: what is appended is appended of the argument given.
 -- Assumes nothing.
-use mathlib.Core.Path.{ap, _∙_}
-use lib.ListN.{length}
-use borrow.Author.Needs.{needs}
+use Rattle.prelude.proofs.Basics.{ap, _∙_, length, needs}
 use Rattle.args_writer.specs.Append.{appendedOf, leftBy}
 use Rattle.karramotx.proofs.karramotx_append.Statement.{statement}
 use Rattle.karramotx.proofs.karramotx_append.Tie as tie

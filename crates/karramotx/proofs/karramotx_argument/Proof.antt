@@ -1,6 +1,5 @@
 -- `karramotx::karramotx_argument` meets its contract: the value told is that of the argument read. Assumes nothing.
-use mathlib.Core.Path.{ap, _∙_}
-use borrow.Author.Needs.{needs}
+use Rattle.prelude.proofs.Basics.{ap, _∙_, needs}
 use Rattle.karramotx.specs.Value.{valueOf}
 use Rattle.karramotx.proofs.karramotx_argument.Statement.{statement}
 use Rattle.karramotx.proofs.karramotx_argument.Tie as tie

@@ -1,7 +1,5 @@
 -- `karramotx::karramotx_counts` meets its contract: each count is the session's. Assumes nothing.
-use borrow.Author.Needs.{needs}
-use Prim.Native.Nat.{ℕ}
-use mathlib.Core.Path.{_≡_, ap, _∙_}
+use Rattle.prelude.proofs.Basics.{ℕ, _≡_, ap, _∙_, needs}
 use Rattle.karramotx.specs.declared.Counts.{Counts}
 use Rattle.karramotx.proofs.karramotx_counts.Statement.{statement}
 use Rattle.karramotx.proofs.karramotx_counts.Tie as tie

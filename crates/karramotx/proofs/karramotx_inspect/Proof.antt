@@ -1,6 +1,5 @@
 -- `karramotx::karramotx_inspect` meets its contract: what was read is inspected. Assumes nothing.
-use borrow.Author.Needs.{needs}
-use mathlib.Core.Path.{ap, _∙_}
+use Rattle.prelude.proofs.Basics.{ap, _∙_, needs}
 use Rattle.message.specs.Padded.{paddedOf}
 use Rattle.session.specs.Words.{sessionOf}
 use Rattle.rules.specs.Step.{lookAt}

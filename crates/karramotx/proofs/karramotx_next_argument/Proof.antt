@@ -1,7 +1,6 @@
 -- `karramotx::karramotx_next_argument` meets its contract: the value told is that of the next argument.
 -- Assumes nothing.
-use mathlib.Core.Path.{ap, _∙_}
-use borrow.Author.Needs.{needs}
+use Rattle.prelude.proofs.Basics.{ap, _∙_, needs}
 use Rattle.karramotx.specs.Value.{nextValueOf}
 use Rattle.karramotx.proofs.karramotx_next_argument.Statement.{statement}
 use Rattle.karramotx.proofs.karramotx_next_argument.Tie as tie

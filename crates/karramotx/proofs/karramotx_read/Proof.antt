@@ -1,5 +1,5 @@
 -- `karramotx::karramotx_read` meets its contract: what was read is told. Assumes nothing.
-use borrow.Author.Needs.{needs}
+use Rattle.prelude.proofs.Basics.{needs}
 use Rattle.karramotx.proofs.MessageLaws.{read-says, refused-says}
 use Rattle.karramotx.proofs.karramotx_read.Statement.{statement}
 use Rattle.karramotx.proofs.karramotx_read.Tie as tie

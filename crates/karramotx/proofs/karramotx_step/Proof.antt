@@ -1,5 +1,5 @@
 -- `karramotx::karramotx_step` meets its contract: it is that of the keeper's step, clause by clause. Assumes nothing.
-use borrow.Author.Needs.{needs}
+use Rattle.prelude.proofs.Basics.{needs}
 use Rattle.karramotx.proofs.karramotx_step.Statement.{statement}
 use Rattle.karramotx.proofs.karramotx_step.Tie as tie
 

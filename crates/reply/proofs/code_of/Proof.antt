@@ -1,8 +1,5 @@
 -- `reply::code_of` meets its contract: past the table the definition answers 0 too. Assumes nothing.
-use borrow.Author.Needs.{needs}
-use native.Mathlib.Omega.{arith}
-use mathlib.Core.Path.{sym}
-use lib.ListN.{List·getD-eq-default}
+use Rattle.prelude.proofs.Basics.{arith, sym, List·getD-eq-default, needs}
 use Rattle.reply.specs.Reply.{codes}
 use Rattle.reply.proofs.code_of.Statement.{statement}
 use Rattle.reply.proofs.code_of.Tie as tie

@@ -1,15 +1,10 @@
 -- `reply::write_refusal` meets its contract: the text stands at the front of the array, and what is lent of it is the
 -- text. Assumes nothing.
-use borrow.Author.Needs.{needs}
-use native.Mathlib.Omega.{arith}
-use Prim.Native.Nat.{ℕ, _≤_}
-use mathlib.Core.Path.{ap, sym}
-use lib.ListN.{length, replicate}
-use lib.Seq.{length-take-le}
+use Rattle.prelude.proofs.Basics.{ℕ, _≤_, arith, sym, ap, length, replicate, length-take-le, needs}
+use Rattle.encode.proofs.PutsLaws.{if-room-as, front, front-within}
 use Rattle.reply.specs.declared.Refusal.{Refusal}
 use Rattle.reply.specs.Reply.{messageOf}
 use Rattle.reply.specs.Frame.{errorFrame}
-use Rattle.encode.proofs.PutsLaws.{if-room-as, front, front-within}
 use Rattle.reply.proofs.TextLaws.{text-within}
 use Rattle.reply.proofs.write_refusal.Statement.{statement}
 use Rattle.reply.proofs.write_refusal.Tie as tie

@@ -1,6 +1,5 @@
 -- `reply::write_reply` meets its contract: one law of `ReplyLaws` for each reply. Assumes nothing.
-use borrow.Author.Needs.{needs}
-use native.Mathlib.Omega.{arith}
+use Rattle.prelude.proofs.Basics.{arith, needs}
 use Rattle.encode.proofs.PutsLaws.{equations, puts-room, puts-nothing}
 use Rattle.reply.proofs.ReplyLaws.{reply-nothing, reply-ok, reply-suspended, reply-done, reply-executed}
 use Rattle.reply.proofs.ReplyLaws.{reply-error}

@@ -1,5 +1,5 @@
 -- `trace::main` meets its contract. The loop's measure is the turns left. Assumes nothing.
-use borrow.Author.Needs.{needs}
+use Rattle.prelude.proofs.Basics.{needs}
 use Rattle.trace.proofs.main.Statement.{statement}
 use Rattle.trace.proofs.main.Tie as tie
 

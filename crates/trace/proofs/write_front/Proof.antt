@@ -1,7 +1,5 @@
 -- `trace::write_front` meets its contract: what is lent is as long as it says. Assumes nothing.
-use mathlib.Core.Path.{sym}
-use lib.Seq.{length-take-le}
-use borrow.Author.Needs.{needs}
+use Rattle.prelude.proofs.Basics.{sym, length-take-le, needs}
 use Rattle.trace.proofs.write_front.Statement.{statement}
 use Rattle.trace.proofs.write_front.Tie as tie
 

@@ -1,8 +1,6 @@
 -- `trace_line::trace_frame` meets its contract: its line is that of the step. Assumes nothing.
-use borrow.Author.Needs.{needs}
-use Rattle.session.specs.Words.{sessionOf}
-use Rattle.rules.specs.Step.{stepOf}
-use Rattle.trace_line.specs.Trace.{replyBuffer}
+use Rattle.prelude.proofs.Basics.{needs}
+use Rattle.trace_line.proofs.Names.{sessionOf, stepOf, replyBuffer}
 use Rattle.trace_line.proofs.TraceLaws.{line-traced}
 use Rattle.trace_line.proofs.trace_frame.Statement.{statement}
 use Rattle.trace_line.proofs.trace_frame.Tie as tie

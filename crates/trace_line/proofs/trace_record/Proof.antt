@@ -1,8 +1,7 @@
 -- `trace_line::trace_record` meets its contract: a whole record's frame lies within the bytes, and else nothing is
 -- done. Assumes nothing.
-use borrow.Author.Needs.{needs}
-use native.Mathlib.Omega.{arith}
-use Rattle.session.specs.Words.{sessionOf}
+use Rattle.prelude.proofs.Basics.{arith, needs}
+use Rattle.trace_line.proofs.Names.{sessionOf}
 use Rattle.trace_line.proofs.TraceLaws.{gives, gives-as, traced, whole-traced, whole-within}
 use Rattle.trace_line.proofs.trace_record.Statement.{statement}
 use Rattle.trace_line.proofs.trace_record.Tie as tie

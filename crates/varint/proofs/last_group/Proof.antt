@@ -1,10 +1,5 @@
 -- `varint::last_group` meets its contract: the tenth group has one bit, and must be the last. Assumes nothing.
-use borrow.Author.Needs.{needs}
-use Prim.Native.Nat.{_^_, _≤_, _<_}
-use native.Mathlib.Omega.{arith}
-use mathlib.Core.Path.{_≡_, sym, ap, _∙_}
-use lib.ListN.{getD}
-use Rattle.prelude.proofs.OrLaws.{or-none, or-same}
+use Rattle.prelude.proofs.Basics.{_^_, _≤_, _<_, arith, _≡_, sym, ap, _∙_, getD, needs, or-none, or-same}
 use Rattle.varint.specs.Varint.{onto, low64}
 use Rattle.varint.proofs.GroupLaws.{groups-end, tenth-last, tenth-more, tenth-none, tenth-over, tenth-told}
 use Rattle.varint.proofs.last_group.Statement.{statement}

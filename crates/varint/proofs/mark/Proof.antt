@@ -1,7 +1,5 @@
 -- `varint::mark` meets its contract: it is called with what is or is not so. Assumes nothing.
-use mathlib.Core.Path.{ap, sym, _∙_}
-use mathlib.Core.Bool.{Bool, _||_}
-use Rattle.prelude.proofs.OrLaws.{or-true, or-false}
+use Rattle.prelude.proofs.Basics.{Bool, _||_, sym, ap, _∙_, or-false, or-true}
 use Rattle.varint.proofs.mark.Statement.{statement}
 use Rattle.varint.proofs.mark.Tie as tie
 

@@ -1,10 +1,5 @@
 -- `varint::read_behind` meets its contract: what was read, and what is left to read, is the whole. Assumes nothing.
-use borrow.Author.Needs.{needs}
-use Prim.Native.Nat.{_-_, _%_}
-use native.Mathlib.Omega.{arith}
-use mathlib.Core.Path.{_≡_, refl, ap₂, _∙_}
-use mathlib.Core.Bool.{_||_}
-use Rattle.prelude.proofs.OrLaws.{or-none}
+use Rattle.prelude.proofs.Basics.{_-_, _%_, arith, _||_, _≡_, refl, ap₂, _∙_, needs, or-none}
 use Rattle.varint.proofs.GroupLaws.{Reading, starts, whole-end, room, light, whole-last, goes-on, below-top}
 use Rattle.varint.proofs.GroupLaws.{whole-tenth, flag-end, flag-last, flag-tenth}
 use Rattle.varint.proofs.read_behind.Statement.{statement}

@@ -1,12 +1,7 @@
 -- `varint::read_short` meets its contract: a byte below 128 is the last, and two such groups are the number; all else
 -- goes the long way. Assumes nothing.
-use borrow.Author.Needs.{needs}
-use Prim.Native.Nat.{_+_, _≤_}
-use native.Mathlib.Omega.{arith}
-use mathlib.Core.Path.{_≡_, sym, ap, _∙_}
-use lib.ListN.{length, getD}
-use lib.Seq.{take-length}
-use Rattle.prelude.proofs.OrLaws.{or-none, or-same}
+use Rattle.prelude.proofs.Basics.{_+_, _≤_, arith, _≡_, sym, ap, _∙_, length, getD, take-length, needs, or-none}
+use Rattle.prelude.proofs.Basics.{or-same}
 use Rattle.varint.proofs.GroupLaws.{varint-one, varint-none, varint-cut, varint-two}
 use Rattle.varint.proofs.FlagLaws.{padded-none, padded-one, padded-cut, padded-two, behind-answer, behind-flag}
 use Rattle.varint.proofs.read_short.Statement.{statement}

@@ -1,11 +1,6 @@
 -- `varint::read_varint` meets its contract: a byte below 128 is the number, all else goes the long way. Assumes
 -- nothing.
-use borrow.Author.Needs.{needs}
-use Prim.Native.Nat.{_≤_}
-use mathlib.Core.Path.{sym, ap, _∙_}
-use lib.ListN.{length, getD}
-use lib.Seq.{take-length}
-use Rattle.prelude.proofs.OrLaws.{or-none, or-same}
+use Rattle.prelude.proofs.Basics.{_≤_, sym, ap, _∙_, length, getD, take-length, needs, or-none, or-same}
 use Rattle.varint.proofs.GroupLaws.{varint-one, varint-none}
 use Rattle.varint.proofs.FlagLaws.{padded-none, padded-one, behind-answer, behind-flag}
 use Rattle.varint.proofs.read_varint.Statement.{statement}

@@ -1,13 +1,7 @@
 -- Each way out is one of draftReason or writeReason; what is put is the head, and behind it the payload.
-use Rattle.encode.specs.Frame.{fourBytes}
-use Rattle.encode.proofs.PutsLaws.{puts-as}
+use Rattle.prelude.proofs.Basics.{ℕ, _+_, _%_, arith, sym, ap, _∙_, [], _∷_, _++_, needs, not-false, not-true}
+use Rattle.writer.proofs.Names.{fourBytes, puts-as}
 use Rattle.writer.proofs.WriteLaws.{wrote-bad, wrote-long, wrote-short, wrote-all}
-use borrow.Author.Tests.{not-true, not-false}
-use mathlib.Core.List.{[], _∷_, _++_}
-use Prim.Native.Nat.{ℕ, _+_, _%_}
-use mathlib.Core.Path.{sym, ap, _∙_}
-use native.Mathlib.Omega.{arith}
-use borrow.Author.Needs.{needs}
 use Rattle.writer.proofs.write_message.Statement.{statement}
 use Rattle.writer.proofs.write_message.Tie as tie
 

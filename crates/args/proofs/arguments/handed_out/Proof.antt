@@ -1,8 +1,7 @@
 -- `args::arguments::handed_out` meets its contract: an object or array has an Any type above that of a scalar.
 -- Assumes nothing.
-use native.Mathlib.Omega.{arith}
+use Rattle.prelude.proofs.Basics.{arith, needs}
 use Rattle.args.proofs.ArgumentsLaws.{handed-out-composite, handed-out-plain}
-use borrow.Author.Needs.{needs}
 use Rattle.args.proofs.arguments.handed_out.Statement.{statement}
 use Rattle.args.proofs.arguments.handed_out.Tie as tie
 

@@ -1,9 +1,8 @@
 -- `args::arguments::next_argument` meets its contract: each arm is what the next place makes of the argument. Assumes
 -- nothing.
-use mathlib.Core.Path.{sym, ap, _∙_}
-use Rattle.args.specs.declared.arguments.NextArgument.{NextArgument}
+use Rattle.prelude.proofs.Basics.{sym, ap, _∙_, needs}
+use Rattle.args.proofs.Names.{NextArgument}
 use Rattle.args.proofs.PlaceLaws.{next-placed}
-use borrow.Author.Needs.{needs}
 use Rattle.args.proofs.arguments.next_argument.Statement.{statement}
 use Rattle.args.proofs.arguments.next_argument.Tie as tie
 

@@ -1,13 +1,8 @@
 -- `args::arguments::next_place` meets its contract: an args field is known by its tag; the rest is looked for. Assumes
 -- nothing.
-use Prim.Native.Nat.{ℕ}
-use mathlib.Core.Path.{sym, ap, _∙_}
-use mathlib.Core.List.{List}
-use lib.ListN.{length}
-use lib.Seq.{take-length}
-use Rattle.args.specs.Arguments.{placeOf, argPlace}
+use Rattle.prelude.proofs.Basics.{ℕ, sym, ap, _∙_, List, length, take-length, needs}
+use Rattle.args.proofs.Names.{argPlace, placeOf}
 use Rattle.args.proofs.PlaceLaws.{place-none, place-here}
-use borrow.Author.Needs.{needs}
 use Rattle.args.proofs.arguments.next_place.Statement.{statement}
 use Rattle.args.proofs.arguments.next_place.Tie as tie
 

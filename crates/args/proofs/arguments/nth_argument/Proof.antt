@@ -1,13 +1,9 @@
 -- `args::arguments::nth_argument` meets its contract: each turn of the loop is one law on `Counting`. Assumes nothing.
-use borrow.Author.Needs.{needs}
-use Prim.Native.Nat.{_-_}
+use Rattle.prelude.proofs.Basics.{_-_, arith, sym, ap, _∙_, length, needs}
 use native.Mathlib.Nat.{pos-of-ne-zero}
-use native.Mathlib.Omega.{arith}
-use lib.ListN.{length}
-use Rattle.args.specs.Arguments.{handedOut}
+use Rattle.args.proofs.Names.{handedOut}
 use Rattle.args.proofs.ArgumentsLaws.{Counting, count-starts, count-none, count-end, count-hit, count-on}
 use Rattle.args.proofs.ArgumentsLaws.{advances}
-use mathlib.Core.Path.{sym, ap, _∙_}
 use Rattle.args.proofs.arguments.nth_argument.Statement.{statement}
 use Rattle.args.proofs.arguments.nth_argument.Tie as tie
 

@@ -1,7 +1,6 @@
 -- `args::arguments::place_of` meets its contract: each arm is one clause of placeOf. Assumes nothing.
-use mathlib.Core.Path.{sym, ap}
-use Rattle.args.specs.Arguments.{placeOf}
-use borrow.Author.Needs.{needs}
+use Rattle.prelude.proofs.Basics.{sym, ap, needs}
+use Rattle.args.proofs.Names.{placeOf}
 use Rattle.args.proofs.arguments.place_of.Statement.{statement}
 use Rattle.args.proofs.arguments.place_of.Tie as tie
 

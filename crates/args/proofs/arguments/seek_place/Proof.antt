@@ -1,10 +1,6 @@
 -- `args::arguments::seek_place` meets its contract: each turn of the loop is one law on `Seeking`. Assumes nothing.
-use borrow.Author.Needs.{needs}
-use Prim.Native.Nat.{_-_}
-use native.Mathlib.Omega.{arith}
-use lib.ListN.{length}
+use Rattle.prelude.proofs.Basics.{_-_, arith, sym, _∙_, length, needs}
 use Rattle.args.proofs.PlaceLaws.{Seeking, starts, ends, no-field, advances, found, other-wire, other-number}
-use mathlib.Core.Path.{sym, _∙_}
 use Rattle.args.proofs.arguments.seek_place.Statement.{statement}
 use Rattle.args.proofs.arguments.seek_place.Tie as tie
 

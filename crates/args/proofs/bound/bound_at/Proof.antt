@@ -1,20 +1,10 @@
 -- Each turn of the loop is one law on `Binding` and one on `Marking`.
-use borrow.Author.Tests.{not-true, not-false}
-use Prim.Native.Nat.{ℕ, _-_, _<_}
-use native.Mathlib.Omega.{arith}
-use mathlib.Core.Path.{_≡_, sym, ap, _∙_}
-use mathlib.Core.Bool.{true, false}
-use lib.ListN.{length}
-use Rattle.prelude.proofs.OrLaws.{or-none, or-same}
-use Rattle.wire.specs.Field.{fieldAt}
-use Rattle.wire.specs.declared.field.Field.{Field}
-use Rattle.layout.proofs.PaddedLaws.{Marking, marks, marks-on, marked}
-use Rattle.args.specs.Padded.{insideArgs}
+use Rattle.prelude.proofs.Basics.{ℕ, _-_, _<_, arith, true, false, _≡_, sym, ap, _∙_, length, needs, not-false}
+use Rattle.prelude.proofs.Basics.{not-true, or-none, or-same}
+use Rattle.args.proofs.Names.{fieldAt, Field, Marking, marks, marked, marks-on, insideArgs, Bound}
 use Rattle.args.specs.private.Bound.{badBound}
-use Rattle.args.specs.declared.bound.Bound.{Bound}
-use Rattle.args.proofs.BoundLaws.{Binding, binds, done, no-field, ahead, passes, spoils, counts-one}
-use Rattle.args.proofs.BoundLaws.{inside-args, inside-other, typed}
-use borrow.Author.Needs.{needs}
+use Rattle.args.proofs.BoundLaws.{Binding, binds, done, no-field, ahead, passes, spoils, counts-one, inside-args}
+use Rattle.args.proofs.BoundLaws.{inside-other, typed}
 use Rattle.args.proofs.bound.bound_at.Statement.{statement}
 use Rattle.args.proofs.bound.bound_at.Tie as tie
 

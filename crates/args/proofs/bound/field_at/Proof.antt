@@ -1,16 +1,7 @@
 -- An args field is known by its tag; the rest goes the long way.
-use Prim.Native.Nat.{ℕ}
-use native.Mathlib.Omega.{arith}
-use mathlib.Core.Path.{refl, sym, ap, _∙_}
-use mathlib.Core.List.{List}
-use lib.ListN.{length}
-use lib.Seq.{take-length}
-use Rattle.prelude.proofs.OrLaws.{or-same}
-use Rattle.wire.specs.Field.{ofValue, fieldAt}
-use Rattle.wire.specs.Padded.{fieldPadded}
-use Rattle.wire.proofs.PaddedLaws.{quick-flag}
+use Rattle.prelude.proofs.Basics.{ℕ, arith, refl, sym, ap, _∙_, List, length, take-length, needs, or-same}
+use Rattle.args.proofs.Names.{ofValue, fieldAt, fieldPadded, quick-flag}
 use Rattle.args.proofs.PlaceLaws.{args-here}
-use borrow.Author.Needs.{needs}
 use Rattle.args.proofs.bound.field_at.Statement.{statement}
 use Rattle.args.proofs.bound.field_at.Tie as tie
 

@@ -1,11 +1,6 @@
 -- The message is cut off behind its last byte.
-use native.Mathlib.Omega.{arith}
-use mathlib.Core.Path.{sym, _∙_}
-use Prim.Native.Nat.{_+_}
-use lib.Seq.{length-take-le}
-use Rattle.prelude.proofs.OrLaws.{or-none, or-same}
+use Rattle.prelude.proofs.Basics.{_+_, arith, sym, _∙_, length-take-le, needs, or-none, or-same}
 use Rattle.args.proofs.BoundLaws.{bound-past, bound-cut, execute-past, execute-cut}
-use borrow.Author.Needs.{needs}
 use Rattle.args.proofs.bound.read_bound.Statement.{statement}
 use Rattle.args.proofs.bound.read_bound.Tie as tie
 

@@ -1,17 +1,10 @@
 -- By the laws on one field and on two a short way answers what the rows do; the rest goes the long way.
-use Prim.Native.Nat.{ℕ, _<_}
-use native.Mathlib.Omega.{arith}
-use mathlib.Core.Path.{refl, sym, ap, subst, _∙_}
-use mathlib.Core.List.{List}
-use lib.ListN.{length}
-use lib.Seq.{take-length}
-use Rattle.prelude.proofs.OrLaws.{or-none, or-then, or-same}
-use Rattle.args.specs.Arguments.{anyTypeOf}
-use Rattle.args.specs.Padded.{scalarPadded, argumentPadded}
+use Rattle.prelude.proofs.Basics.{ℕ, _<_, arith, sym, ap, subst, _∙_, List, length, take-length, needs, or-none}
+use Rattle.prelude.proofs.Basics.{or-same, or-then}
+use Rattle.args.proofs.Names.{anyTypeOf, scalarPadded, argumentPadded}
 use Rattle.args.specs.private.Pair.{pairPadded}
 use Rattle.args.proofs.ScalarLaws.{Held, named-fits, object-read, array-read, scalar-read, long-argument-read}
 use Rattle.args.proofs.InsideLaws.{object-flag, array-flag, scalar-flag, any-again}
-use borrow.Author.Needs.{needs}
 use Rattle.args.proofs.kind.argument_type.Statement.{statement}
 use Rattle.args.proofs.kind.argument_type.Tie as tie
 

@@ -1,25 +1,15 @@
 -- Each key names a type and the tag of its value; by the laws on them the rows hold such a value, which is a scalar.
-use Prim.Native.Nat.{ℕ, _<_}
-use native.Mathlib.Omega.{arith}
-use mathlib.Core.Path.{_≡_, refl, sym, ap, subst, _∙_}
-use mathlib.Core.Bool.{Bool, _||_}
-use mathlib.Core.List.{List}
-use lib.ListN.{length, take}
-use lib.Seq.{take-length}
+use Rattle.prelude.proofs.Basics.{ℕ, _<_, arith, Bool, _||_, _≡_, refl, sym, ap, subst, _∙_, List, length, take}
+use Rattle.prelude.proofs.Basics.{take-length, needs, or-none, or-same, or-then}
 use lib.Ieee.{binary32, binary64, ofBits, nanBits}
-use Rattle.prelude.proofs.OrLaws.{or-none, or-then, or-same}
 use Rattle.scalar.specs.declared.argument.Argument.the-variants as Va
-use Rattle.layout.specs.Part.{low32}
-use Rattle.args.specs.Arguments.{anyTypeOf}
-use Rattle.layout.specs.Padded.{partPadded}
-use Rattle.args.specs.Padded.{scalarPadded}
+use Rattle.args.proofs.Names.{low32, partPadded, anyTypeOf, scalarPadded}
 use Rattle.args.specs.private.Pair.{pairPadded}
 use Rattle.args.proofs.ScalarLaws.{Held, named-fits, null-read, long-scalar-read, sint-read, uint-read}
 use Rattle.args.proofs.ScalarLaws.{octets-read, double-read, float-read, bool-read, string-read}
 use Rattle.args.proofs.InsideLaws.{null-flag, sint-flag, uint-flag, octets-flag, double-flag, float-flag}
 use Rattle.args.proofs.InsideLaws.{bool-flag, string-flag, scalar-again}
 use Rattle.args.proofs.KindLaws.{either-scalar}
-use borrow.Author.Needs.{needs}
 use Rattle.args.proofs.kind.scalar_type.Statement.{statement}
 use Rattle.args.proofs.kind.scalar_type.Tie as tie
 

@@ -1,9 +1,7 @@
 -- The bytes end with the message or they do not.
-use native.Mathlib.Omega.{arith}
-use mathlib.Core.Path.{sym, ap}
+use Rattle.prelude.proofs.Basics.{arith, sym, ap, needs}
 use Rattle.args.specs.private.Pair.{textOf}
 use Rattle.args.proofs.TextLaws.{text-ends, text-goes-on}
-use borrow.Author.Needs.{needs}
 use Rattle.args.proofs.pair.alone.Statement.{statement}
 use Rattle.args.proofs.pair.alone.Tie as tie
 

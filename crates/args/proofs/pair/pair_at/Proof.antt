@@ -1,11 +1,8 @@
 -- `args::pair::pair_at` meets its contract: each test of the code is the test of the definition at the same byte.
 -- Assumes nothing.
-use native.Mathlib.Omega.{arith}
-use mathlib.Core.Path.{_∙_}
-use Rattle.prelude.proofs.OrLaws.{or-none, or-same}
+use Rattle.prelude.proofs.Basics.{arith, _∙_, needs, or-none, or-same}
 use Rattle.args.proofs.PairLaws.{at-short, at-other, at-long-first, at-long-tag, at-pair}
 use Rattle.args.proofs.PaddedLaws.{flag-short, flag-other, flag-long-first, flag-long-tag, flag-pair}
-use borrow.Author.Needs.{needs}
 use Rattle.args.proofs.pair.pair_at.Statement.{statement}
 use Rattle.args.proofs.pair.pair_at.Tie as tie
 

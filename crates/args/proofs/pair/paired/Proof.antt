@@ -1,9 +1,7 @@
 -- `args::pair::paired` meets its contract: the value ends with the message or it does not. Assumes nothing.
-use native.Mathlib.Omega.{arith}
-use mathlib.Core.Path.{sym, ap}
+use Rattle.prelude.proofs.Basics.{arith, sym, ap, needs}
 use Rattle.args.specs.private.Pair.{pairOf}
 use Rattle.args.proofs.PairLaws.{pair-ends, pair-goes-on}
-use borrow.Author.Needs.{needs}
 use Rattle.args.proofs.pair.paired.Statement.{statement}
 use Rattle.args.proofs.pair.paired.Tie as tie
 

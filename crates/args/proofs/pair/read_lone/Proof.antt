@@ -1,7 +1,6 @@
 -- Each test of the code is the test of the definition at the same bytes.
-use native.Mathlib.Omega.{arith}
+use Rattle.prelude.proofs.Basics.{arith, needs}
 use Rattle.args.proofs.PairLaws.{lone-longer, lone-past, lone-other, lone-long, lone-found}
-use borrow.Author.Needs.{needs}
 use Rattle.args.proofs.pair.read_lone.Statement.{statement}
 use Rattle.args.proofs.pair.read_lone.Tie as tie
 

@@ -1,12 +1,7 @@
 -- The message is cut off behind its last byte.
-use native.Mathlib.Omega.{arith}
-use mathlib.Core.Path.{_∙_}
-use Prim.Native.Nat.{_+_}
-use lib.ListN.{length-take}
-use Rattle.prelude.proofs.OrLaws.{or-none, or-same}
+use Rattle.prelude.proofs.Basics.{_+_, arith, _∙_, length-take, needs, or-none, or-same}
 use Rattle.args.proofs.TextLaws.{text-past, text-cut}
 use Rattle.args.proofs.PaddedLaws.{text-flag-past, text-flag-cut}
-use borrow.Author.Needs.{needs}
 use Rattle.args.proofs.pair.read_text.Statement.{statement}
 use Rattle.args.proofs.pair.read_text.Tie as tie
 

@@ -1,9 +1,7 @@
 -- Each test of the code is the test of the definition at the same byte.
-use mathlib.Core.Path.{_∙_}
-use Rattle.prelude.proofs.OrLaws.{or-none, or-same}
+use Rattle.prelude.proofs.Basics.{_∙_, needs, or-none, or-same}
 use Rattle.args.proofs.TextLaws.{text-none, text-other, text-read}
 use Rattle.args.proofs.PaddedLaws.{text-flag-none, text-flag-other, text-flag-read}
-use borrow.Author.Needs.{needs}
 use Rattle.args.proofs.pair.text_at.Statement.{statement}
 use Rattle.args.proofs.pair.text_at.Tie as tie
 

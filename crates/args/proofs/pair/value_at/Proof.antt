@@ -1,16 +1,9 @@
 -- `args::pair::value_at` meets its contract: a number or a length of one byte is that byte; the rest goes the long way.
 -- Assumes nothing.
-use Prim.Native.Nat.{ℕ}
-use mathlib.Core.Path.{sym, ap, _∙_}
-use mathlib.Core.List.{List}
-use lib.ListN.{length}
-use lib.Seq.{take-length}
-use Rattle.prelude.proofs.OrLaws.{or-none, or-same}
-use Rattle.wire.specs.Value.{valueAt}
-use Rattle.wire.specs.Padded.{valuePadded}
+use Rattle.prelude.proofs.Basics.{ℕ, sym, ap, _∙_, List, length, take-length, needs, or-none, or-same}
 use Rattle.wire.proofs.PaddedLaws.{one-flag, number-flag, length-flag}
+use Rattle.args.proofs.Names.{valueAt, valuePadded}
 use Rattle.args.proofs.PairLaws.{quick-number, quick-length}
-use borrow.Author.Needs.{needs}
 use Rattle.args.proofs.pair.value_at.Statement.{statement}
 use Rattle.args.proofs.pair.value_at.Tie as tie
 

@@ -1,15 +1,9 @@
 -- `args::value::any_value` meets its contract: the Any type decides, an arm for each. Assumes nothing.
-use Prim.Native.Nat.{ℕ}
-use mathlib.Core.Bool.{true}
-use mathlib.Core.Path.{_≡_, refl, sym, ap, _∙_}
-use Rattle.prelude.proofs.OrLaws.{or-none, or-same}
+use Rattle.prelude.proofs.Basics.{ℕ, true, _≡_, refl, sym, ap, _∙_, needs, or-none, or-same}
 use Rattle.layout.specs.private.Arrays.{fromArrays}
-use Rattle.layout.specs.declared.slots.Slots.{Slots}
-use Rattle.layout.specs.Part.{countOf, valueOf, low32}
-use Rattle.args.specs.Value.{present, ofAnyType, anyOf}
+use Rattle.args.proofs.Names.{countOf, valueOf, low32, Slots, present, ofAnyType, anyOf}
 use Rattle.args.proofs.ValueLaws.{any-good, any-type-none}
 use Rattle.args.proofs.InsideLaws.{any-by-type, any-none}
-use borrow.Author.Needs.{needs}
 use Rattle.args.proofs.value.any_value.Statement.{statement}
 use Rattle.args.proofs.value.any_value.Tie as tie
 

@@ -1,14 +1,8 @@
 -- `args::value::long_argument` meets its contract: the arrays hold the fields of the Any. Assumes nothing.
-use mathlib.Core.Path.{refl, sym, _∙_}
-use borrow.Author.Tests.{not-true, not-false}
-use Rattle.prelude.proofs.OrLaws.{or-then, or-same, or-none}
-use Rattle.layout.specs.Table.{rowsOf, any}
-use Rattle.layout.specs.Part.{embedded}
-use Rattle.layout.specs.Padded.{partPadded}
-use Rattle.args.specs.Padded.{insideAny}
+use Rattle.prelude.proofs.Basics.{refl, sym, _∙_, needs, not-false, not-true, or-none, or-same, or-then}
+use Rattle.args.proofs.Names.{any, rowsOf, embedded, partPadded, insideAny}
 use Rattle.args.proofs.ArrayLaws.{any-held, any-refused}
 use Rattle.args.proofs.InsideLaws.{any-inside-bad, any-inside-held, any-in}
-use borrow.Author.Needs.{needs}
 use Rattle.args.proofs.value.long_argument.Statement.{statement}
 use Rattle.args.proofs.value.long_argument.Tie as tie
 

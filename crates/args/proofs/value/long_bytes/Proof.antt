@@ -1,10 +1,7 @@
 -- `args::value::long_bytes` meets its contract: the arrays hold the field, and its slot is the place and length of the
 -- bytes. Assumes nothing.
-use mathlib.Core.Path.{_∙_}
-use borrow.Author.Tests.{not-true, not-false}
-use Rattle.prelude.proofs.Cases.{yes, no as without}
+use Rattle.prelude.proofs.Basics.{_∙_, needs, not-false, not-true, yes, no as without}
 use Rattle.args.proofs.ArrayLaws.{bytes-held, bytes-refused}
-use borrow.Author.Needs.{needs}
 use Rattle.args.proofs.value.long_bytes.Statement.{statement}
 use Rattle.args.proofs.value.long_bytes.Tie as tie
 

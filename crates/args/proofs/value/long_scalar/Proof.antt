@@ -1,14 +1,8 @@
 -- `args::value::long_scalar` meets its contract: the arrays hold the fields of the Scalar. Assumes nothing.
-use mathlib.Core.Path.{refl, sym, _∙_}
-use borrow.Author.Tests.{not-true, not-false}
-use Rattle.prelude.proofs.OrLaws.{or-then, or-same, or-none}
-use Rattle.layout.specs.Table.{rowsOf, scalar}
-use Rattle.layout.specs.Part.{embedded}
-use Rattle.layout.specs.Padded.{partPadded}
-use Rattle.args.specs.Padded.{insideScalar}
+use Rattle.prelude.proofs.Basics.{refl, sym, _∙_, needs, not-false, not-true, or-none, or-same, or-then}
+use Rattle.args.proofs.Names.{scalar, rowsOf, embedded, partPadded, insideScalar}
 use Rattle.args.proofs.ArrayLaws.{scalar-held, scalar-refused}
 use Rattle.args.proofs.InsideLaws.{scalar-inside-bad, scalar-inside-held, scalar-in}
-use borrow.Author.Needs.{needs}
 use Rattle.args.proofs.value.long_scalar.Statement.{statement}
 use Rattle.args.proofs.value.long_scalar.Tie as tie
 

@@ -1,7 +1,6 @@
 -- `args::value::needed` meets its contract: the definition's test, in both arms. Assumes nothing.
-use borrow.Author.Tests.{eq-eqb, ne-eqb}
-use Rattle.prelude.proofs.Cases.{yes, no}
-use Rattle.args.specs.Value.{bad}
+use Rattle.prelude.proofs.Basics.{eq-eqb, ne-eqb, yes, no}
+use Rattle.args.proofs.Names.{bad}
 use Rattle.args.proofs.value.needed.Statement.{statement}
 use Rattle.args.proofs.value.needed.Tie as tie
 

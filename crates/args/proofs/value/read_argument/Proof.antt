@@ -1,10 +1,6 @@
 -- By the laws on one field and on two, a short way answers what the rows do; the rest goes the long way.
-use native.Mathlib.Omega.{arith}
-use mathlib.Core.Path.{sym, ap, _∙_}
-use lib.ListN.{length}
-use lib.Seq.{take-length}
+use Rattle.prelude.proofs.Basics.{arith, sym, ap, _∙_, length, take-length, needs}
 use Rattle.args.proofs.ScalarLaws.{Held, named-fits, object-read, array-read, scalar-read, long-argument-read}
-use borrow.Author.Needs.{needs}
 use Rattle.args.proofs.value.read_argument.Statement.{statement}
 use Rattle.args.proofs.value.read_argument.Tie as tie
 

@@ -1,21 +1,10 @@
 -- By the law on the field alone the short way answers what the rows do; the rest goes the long way.
-use Prim.Native.Nat.{ℕ}
-use mathlib.Core.Path.{_≡_, refl, sym, ap, _∙_}
-use mathlib.Core.Bool.{_||_}
-use mathlib.Core.List.{List}
-use lib.ListN.{length}
-use lib.Seq.{take-length}
-use Rattle.prelude.proofs.Cases.{yes, no as without}
-use Rattle.prelude.proofs.OrLaws.{or-then, or-same}
-use Rattle.layout.specs.Table.{rowsOf, bytes}
-use Rattle.layout.specs.Row.{rowFor}
-use Rattle.layout.specs.Fields.{hasRequired}
-use Rattle.args.specs.Value.{bytesOf, bytesIn}
-use Rattle.layout.specs.Padded.{partPadded}
+use Rattle.prelude.proofs.Basics.{ℕ, _||_, _≡_, refl, sym, ap, _∙_, List, length, take-length, needs, yes}
+use Rattle.prelude.proofs.Basics.{no as without, or-same, or-then}
+use Rattle.args.proofs.Names.{bytes, rowsOf, rowFor, hasRequired, partPadded, bytesOf, bytesIn}
 use Rattle.args.specs.private.Pair.{textPadded}
 use Rattle.args.proofs.TextLaws.{text-kept}
 use Rattle.args.proofs.PaddedLaws.{text-part, text-absorbed}
-use borrow.Author.Needs.{needs}
 use Rattle.args.proofs.value.read_bytes.Statement.{statement}
 use Rattle.args.proofs.value.read_bytes.Tie as tie
 

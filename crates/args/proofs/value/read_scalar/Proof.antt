@@ -1,11 +1,7 @@
 -- Each key names a type and the tag of its value, and a law says what the rows make of the two.
-use native.Mathlib.Omega.{arith}
-use mathlib.Core.Path.{sym, ap, _∙_}
-use lib.ListN.{length}
-use lib.Seq.{take-length}
+use Rattle.prelude.proofs.Basics.{arith, sym, ap, _∙_, length, take-length, needs}
 use Rattle.args.proofs.ScalarLaws.{Held, named-fits, null-read, long-scalar-read, sint-read, uint-read}
 use Rattle.args.proofs.ScalarLaws.{octets-read, double-read, float-read, bool-read, string-read}
-use borrow.Author.Needs.{needs}
 use Rattle.args.proofs.value.read_scalar.Statement.{statement}
 use Rattle.args.proofs.value.read_scalar.Tie as tie
 

@@ -1,16 +1,10 @@
 -- `args::value::scalar_value` meets its contract: the Scalar type decides, an arm for each. Assumes nothing.
-use Prim.Native.Nat.{ℕ}
-use mathlib.Core.Bool.{true}
-use mathlib.Core.Path.{_≡_, refl, sym, ap, _∙_}
-use Rattle.prelude.proofs.OrLaws.{or-none, or-same}
+use Rattle.prelude.proofs.Basics.{ℕ, true, _≡_, refl, sym, ap, _∙_, needs, or-none, or-same}
 use Rattle.layout.specs.private.Arrays.{fromArrays}
-use Rattle.layout.specs.declared.slots.Slots.{Slots}
-use Rattle.layout.specs.Part.{countOf, valueOf, low32}
-use Rattle.args.specs.Value.{present, ofType, scalarOf}
-use Rattle.args.specs.Padded.{bytesPadded, insideScalar}
+use Rattle.args.proofs.Names.{countOf, valueOf, low32, Slots, present, ofType, scalarOf, bytesPadded}
+use Rattle.args.proofs.Names.{insideScalar}
 use Rattle.args.proofs.ValueLaws.{scalar-good, type-none}
 use Rattle.args.proofs.InsideLaws.{bytes-none, scalar-by-type}
-use borrow.Author.Needs.{needs}
 use Rattle.args.proofs.value.scalar_value.Statement.{statement}
 use Rattle.args.proofs.value.scalar_value.Tie as tie
 

@@ -1,13 +1,8 @@
 -- `args_writer::field::any_len` meets its contract: an Any is its type, a prefix and its scalar, and both are short.
 -- Assumes nothing.
-use borrow.Author.Needs.{needs}
-use native.Mathlib.Omega.{arith}
-use Prim.Native.Nat.{ℕ}
-use mathlib.Core.Path.{ap}
-use lib.ListN.{length}
-use Rattle.encode.specs.Field.{prefixOf}
+use Rattle.prelude.proofs.Basics.{ℕ, arith, ap, length, needs}
+use Rattle.args_writer.proofs.Names.{prefixOf, number-short, prefix-short}
 use Rattle.args_writer.specs.private.Form.{valueIn}
-use Rattle.encode.proofs.FieldLaws.{number-short, prefix-short}
 use Rattle.args_writer.proofs.SizeLaws.{scalar-short, any-parts}
 use Rattle.args_writer.proofs.field.any_len.Statement.{statement}
 use Rattle.args_writer.proofs.field.any_len.Tie as tie

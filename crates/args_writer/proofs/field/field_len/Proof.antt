@@ -1,14 +1,8 @@
 -- `args_writer::field::field_len` meets its contract: a field is its prefix and its Any, and both are short.
 -- Assumes nothing.
-use borrow.Author.Needs.{needs}
-use native.Mathlib.Omega.{arith}
-use Prim.Native.Nat.{ℕ}
-use mathlib.Core.Path.{ap}
-use lib.ListN.{length}
-use Rattle.encode.specs.Field.{prefixOf}
-use Rattle.args_writer.specs.Scalar.{anyBytes}
+use Rattle.prelude.proofs.Basics.{ℕ, arith, ap, length, needs}
+use Rattle.args_writer.proofs.Names.{prefixOf, prefix-short, bytes-sum, anyBytes}
 use Rattle.args_writer.specs.private.Form.{valueIn}
-use Rattle.encode.proofs.FieldLaws.{prefix-short, bytes-sum}
 use Rattle.args_writer.proofs.SizeLaws.{any-short}
 use Rattle.args_writer.proofs.field.field_len.Statement.{statement}
 use Rattle.args_writer.proofs.field.field_len.Tie as tie

@@ -1,8 +1,6 @@
 -- `args_writer::field::inner_len` meets its contract: the bytes stand behind their prefix, in field 1. Assumes nothing.
-use borrow.Author.Needs.{needs}
-use native.Mathlib.Omega.{arith}
-use lib.ListN.{length}
-use Rattle.encode.proofs.FieldLaws.{prefix-short, bytes-sum}
+use Rattle.prelude.proofs.Basics.{arith, length, needs}
+use Rattle.args_writer.proofs.Names.{prefix-short, bytes-sum}
 use Rattle.args_writer.proofs.field.inner_len.Statement.{statement}
 use Rattle.args_writer.proofs.field.inner_len.Tie as tie
 

@@ -1,9 +1,8 @@
 -- `args_writer::field::put_any` meets its contract: what its parts put stands one behind the other. Assumes nothing.
-use borrow.Author.Needs.{needs}
-use Rattle.args_writer.specs.Scalar.{scalarBytes, anyBytes}
-use Rattle.args_writer.specs.private.Form.{valueIn}
+use Rattle.prelude.proofs.Basics.{needs}
 use Rattle.encode.proofs.PutsLaws.{puts-then}
-use Rattle.encode.proofs.FieldLaws.{puts-counted}
+use Rattle.args_writer.proofs.Names.{puts-counted, scalarBytes, anyBytes}
+use Rattle.args_writer.specs.private.Form.{valueIn}
 use Rattle.args_writer.proofs.field.put_any.Statement.{statement}
 use Rattle.args_writer.proofs.field.put_any.Tie as tie
 

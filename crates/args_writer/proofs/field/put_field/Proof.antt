@@ -1,8 +1,7 @@
 -- `args_writer::field::put_field` meets its contract: its prefix counts the Any behind it. Assumes nothing.
-use borrow.Author.Needs.{needs}
-use Rattle.args_writer.specs.Scalar.{anyBytes}
+use Rattle.prelude.proofs.Basics.{needs}
+use Rattle.args_writer.proofs.Names.{puts-counted, anyBytes}
 use Rattle.args_writer.specs.private.Form.{valueIn}
-use Rattle.encode.proofs.FieldLaws.{puts-counted}
 use Rattle.args_writer.proofs.field.put_field.Statement.{statement}
 use Rattle.args_writer.proofs.field.put_field.Tie as tie
 

@@ -1,7 +1,6 @@
 -- `args_writer::field::put_message` meets its contract: its prefix counts the bytes field behind it. Assumes nothing.
-use borrow.Author.Needs.{needs}
-use Rattle.encode.specs.Field.{bytesField}
-use Rattle.encode.proofs.FieldLaws.{puts-counted}
+use Rattle.prelude.proofs.Basics.{needs}
+use Rattle.args_writer.proofs.Names.{bytesField, puts-counted}
 use Rattle.args_writer.proofs.field.put_message.Statement.{statement}
 use Rattle.args_writer.proofs.field.put_message.Tie as tie
 

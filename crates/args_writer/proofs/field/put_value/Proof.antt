@@ -1,6 +1,5 @@
 -- `args_writer::field::put_value` meets its contract: a law of `SizeLaws` for each wire type. Assumes nothing.
-use borrow.Author.Needs.{needs}
-use mathlib.Core.Path.{sym}
+use Rattle.prelude.proofs.Basics.{sym, needs}
 use Rattle.encode.proofs.PutsLaws.{puts-as, puts-nothing}
 use Rattle.args_writer.proofs.SizeLaws.{as-number, as-eight, as-bytes, as-four, as-none}
 use Rattle.args_writer.proofs.field.put_value.Statement.{statement}

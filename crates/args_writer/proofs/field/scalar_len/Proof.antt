@@ -1,9 +1,8 @@
 -- `args_writer::field::scalar_len` meets its contract: a scalar is its type and its value, and both are short.
 -- Assumes nothing.
-use borrow.Author.Needs.{needs}
-use native.Mathlib.Omega.{arith}
+use Rattle.prelude.proofs.Basics.{arith, needs}
+use Rattle.args_writer.proofs.Names.{number-short}
 use Rattle.args_writer.specs.private.Form.{valueIn}
-use Rattle.encode.proofs.FieldLaws.{number-short}
 use Rattle.args_writer.proofs.SizeLaws.{value-short, scalar-parts}
 use Rattle.args_writer.proofs.field.scalar_len.Statement.{statement}
 use Rattle.args_writer.proofs.field.scalar_len.Tie as tie

@@ -1,12 +1,6 @@
 -- `args_writer::field::value_len` meets its contract: a law of `SizeLaws` for each wire type. Assumes nothing.
-use borrow.Author.Needs.{needs}
-use native.Mathlib.Omega.{arith}
-use Prim.Native.Nat.{ℕ, _+_, _*_}
-use mathlib.Core.Path.{sym, ap, _∙_}
-use lib.ListN.{length}
-use Rattle.varint.proofs.VarintLaws.{varint-length}
-use Rattle.encode.specs.Field.{prefixOf, bytesField}
-use Rattle.encode.proofs.FieldLaws.{prefix-short, bytes-sum, fixed-parts}
+use Rattle.prelude.proofs.Basics.{ℕ, _+_, _*_, arith, sym, ap, _∙_, length, needs}
+use Rattle.args_writer.proofs.Names.{varint-length, prefixOf, bytesField, prefix-short, bytes-sum, fixed-parts}
 use Rattle.args_writer.proofs.SizeLaws.{as-number, as-eight, as-bytes, as-four, as-none}
 use Rattle.args_writer.proofs.field.value_len.Statement.{statement}
 use Rattle.args_writer.proofs.field.value_len.Tie as tie

@@ -1,9 +1,7 @@
 -- `args_writer::form::bool_form` meets its contract: the number is 1 or 0 as the bool is. Assumes nothing.
+use Rattle.prelude.proofs.Basics.{Bool, cond, sym, ap, _∙_, needs}
 use Rattle.protocol.specs.Scalars as Scalars
 use Rattle.args_writer.specs.private.Form.{valueForm}
-use mathlib.Core.Bool.{Bool, cond}
-use mathlib.Core.Path.{sym, ap, _∙_}
-use borrow.Author.Needs.{needs}
 use Rattle.args_writer.proofs.form.bool_form.Statement.{statement}
 use Rattle.args_writer.proofs.form.bool_form.Tie as tie
 

@@ -1,9 +1,7 @@
 -- `args_writer::form::bytes_form` meets its contract: there is a form where the bytes end within those beside it.
 -- Assumes nothing.
+use Rattle.prelude.proofs.Basics.{arith, _∙_, needs}
 use Rattle.args_writer.proofs.FormLaws.{bytes-past, bytes-in}
-use mathlib.Core.Path.{_∙_}
-use native.Mathlib.Omega.{arith}
-use borrow.Author.Needs.{needs}
 use Rattle.args_writer.proofs.form.bytes_form.Statement.{statement}
 use Rattle.args_writer.proofs.form.bytes_form.Tie as tie
 

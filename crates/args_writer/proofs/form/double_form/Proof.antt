@@ -1,11 +1,9 @@
 -- `args_writer::form::double_form` meets its contract: a NaN has no form, any other double its bits. Assumes nothing.
-use Rattle.prelude.proofs.Cases.{yes, no}
-use Rattle.protocol.specs.Scalars as Scalars
+use Rattle.prelude.proofs.Basics.{_∙_, needs, yes, no}
 use lib.Ieee.{binary64, toBits}
+use Rattle.protocol.specs.Scalars as Scalars
 use Rattle.args_writer.specs.private.Form.{noForm, valueForm}
 use Rattle.args_writer.proofs.FormLaws.{nan-told, nan-not, nan-asked}
-use mathlib.Core.Path.{_∙_}
-use borrow.Author.Needs.{needs}
 use Rattle.args_writer.proofs.form.double_form.Statement.{statement}
 use Rattle.args_writer.proofs.form.double_form.Tie as tie
 

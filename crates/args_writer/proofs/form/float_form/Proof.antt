@@ -1,12 +1,9 @@
 -- `args_writer::form::float_form` meets its contract: a NaN has no form, any other float its bits. Assumes nothing.
-use Rattle.prelude.proofs.Cases.{yes, no}
-use Rattle.protocol.specs.Scalars as Scalars
+use Rattle.prelude.proofs.Basics.{ℕ, ap, _∙_, needs, yes, no}
 use lib.Ieee.{binary32, toBits}
+use Rattle.protocol.specs.Scalars as Scalars
 use Rattle.args_writer.specs.private.Form.{noForm, valueForm}
 use Rattle.args_writer.proofs.FormLaws.{nan-told, nan-not, nan-asked}
-use Prim.Native.Nat.{ℕ}
-use mathlib.Core.Path.{ap, _∙_}
-use borrow.Author.Needs.{needs}
 use Rattle.args_writer.proofs.form.float_form.Statement.{statement}
 use Rattle.args_writer.proofs.form.float_form.Tie as tie
 

@@ -1,12 +1,10 @@
 -- `args_writer::form::float_nan_form` meets its contract: the bits are those of a NaN, or there is no form.
 -- Assumes nothing.
-use Rattle.prelude.proofs.Cases.{yes, no}
-use Rattle.protocol.specs.Scalars as Scalars
+use Rattle.prelude.proofs.Basics.{_∙_, needs, yes, no}
 use lib.Ieee.{binary32}
-use Rattle.scalar.proofs.ArgumentLaws.{is-nan, no-nan}
+use Rattle.protocol.specs.Scalars as Scalars
+use Rattle.args_writer.proofs.Names.{is-nan, no-nan}
 use Rattle.args_writer.specs.private.Form.{noForm, valueForm}
-use mathlib.Core.Path.{_∙_}
-use borrow.Author.Needs.{needs}
 use Rattle.args_writer.proofs.form.float_nan_form.Statement.{statement}
 use Rattle.args_writer.proofs.form.float_nan_form.Tie as tie
 

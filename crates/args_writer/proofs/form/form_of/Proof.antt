@@ -1,14 +1,10 @@
 -- `args_writer::form::form_of` meets its contract: each argument has a function for its form. Assumes nothing.
-use Rattle.scalar.specs.declared.argument.Argument.{Argument}
-use Rattle.protocol.specs.Scalars as Scalars
-use Rattle.args_writer.specs.declared.form.Form.{Form}
-use Rattle.args_writer.specs.private.Form.{valueForm, formOf}
-use Rattle.scalar.specs.Zigzag.{zigzag}
+use Rattle.prelude.proofs.Basics.{ℕ, _≡_, sym, ap, _∙_, needs}
 use mir.Syntax.{w64}
 use mir.ValLaws.{toZ-ofZ}
-use Prim.Native.Nat.{ℕ}
-use mathlib.Core.Path.{_≡_, sym, ap, _∙_}
-use borrow.Author.Needs.{needs}
+use Rattle.protocol.specs.Scalars as Scalars
+use Rattle.args_writer.proofs.Names.{zigzag, Argument, Form}
+use Rattle.args_writer.specs.private.Form.{valueForm, formOf}
 use Rattle.args_writer.proofs.form.form_of.Statement.{statement}
 use Rattle.args_writer.proofs.form.form_of.Tie as tie
 

@@ -1,6 +1,6 @@
 -- `arrivals::room::make_room` meets its contract: there is room behind the bytes held, or they are moved. Assumes
 -- nothing.
-use borrow.Author.Needs.{needs}
+use Rattle.prelude.proofs.Basics.{needs}
 use Rattle.arrivals.proofs.RoomLaws.{room-there, room-made}
 use Rattle.arrivals.proofs.room.make_room.Statement.{statement}
 use Rattle.arrivals.proofs.room.make_room.Tie as tie

@@ -1,7 +1,5 @@
 -- `encode::field::number_len` meets its contract: the lengths of two varints. Assumes nothing.
-use borrow.Author.Needs.{needs}
-use native.Mathlib.Omega.{arith}
-use Prim.Native.Nat.{_*_}
+use Rattle.prelude.proofs.Basics.{_*_, arith, needs}
 use Rattle.varint.proofs.VarintLaws.{varint-length}
 use Rattle.encode.proofs.FieldLaws.{number-parts}
 use Rattle.encode.proofs.field.number_len.Statement.{statement}

@@ -1,7 +1,5 @@
 -- `encode::field::optional_len` meets its contract: a field that is absent has no byte. Assumes nothing.
-use borrow.Author.Needs.{needs}
-use mathlib.Core.Path.{ap, _∙_}
-use lib.ListN.{length}
+use Rattle.prelude.proofs.Basics.{ap, _∙_, length, needs}
 use Rattle.encode.proofs.FieldLaws.{optional-there, optional-absent}
 use Rattle.encode.proofs.field.optional_len.Statement.{statement}
 use Rattle.encode.proofs.field.optional_len.Tie as tie

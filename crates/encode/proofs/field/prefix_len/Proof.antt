@@ -1,7 +1,5 @@
 -- `encode::field::prefix_len` meets its contract: the lengths of two varints. Assumes nothing.
-use borrow.Author.Needs.{needs}
-use native.Mathlib.Omega.{arith}
-use Prim.Native.Nat.{_+_, _*_}
+use Rattle.prelude.proofs.Basics.{_+_, _*_, arith, needs}
 use Rattle.varint.proofs.VarintLaws.{varint-length}
 use Rattle.encode.proofs.FieldLaws.{prefix-parts}
 use Rattle.encode.proofs.field.prefix_len.Statement.{statement}

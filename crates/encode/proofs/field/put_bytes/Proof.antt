@@ -1,6 +1,5 @@
 -- `encode::field::put_bytes` meets its contract: the bytes stand behind their prefix. Assumes nothing.
-use borrow.Author.Needs.{needs}
-use mathlib.Core.Path.{refl}
+use Rattle.prelude.proofs.Basics.{refl, needs}
 use Rattle.encode.proofs.FieldLaws.{puts-counted}
 use Rattle.encode.proofs.field.put_bytes.Statement.{statement}
 use Rattle.encode.proofs.field.put_bytes.Tie as tie

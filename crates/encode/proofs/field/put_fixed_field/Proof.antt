@@ -1,5 +1,5 @@
 -- `encode::field::put_fixed_field` meets its contract: the value stands behind the tag. Assumes nothing.
-use borrow.Author.Needs.{needs}
+use Rattle.prelude.proofs.Basics.{needs}
 use Rattle.encode.specs.Field.{fixedField}
 use Rattle.encode.proofs.PutsLaws.{puts-then}
 use Rattle.encode.proofs.field.put_fixed_field.Statement.{statement}

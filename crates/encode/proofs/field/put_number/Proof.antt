@@ -1,5 +1,5 @@
 -- `encode::field::put_number` meets its contract: the value stands behind the tag. Assumes nothing.
-use borrow.Author.Needs.{needs}
+use Rattle.prelude.proofs.Basics.{needs}
 use Rattle.encode.specs.Field.{numberField}
 use Rattle.encode.proofs.PutsLaws.{puts-then}
 use Rattle.encode.proofs.field.put_number.Statement.{statement}

@@ -1,5 +1,5 @@
 -- `encode::field::put_optional` meets its contract: a field that is absent puts nothing. Assumes nothing.
-use borrow.Author.Needs.{needs}
+use Rattle.prelude.proofs.Basics.{needs}
 use Rattle.encode.proofs.PutsLaws.{puts-as, puts-nothing}
 use Rattle.encode.proofs.FieldLaws.{optional-there, optional-absent}
 use Rattle.encode.proofs.field.put_optional.Statement.{statement}

@@ -1,5 +1,5 @@
 -- `encode::field::put_prefix` meets its contract: the count stands behind the tag. Assumes nothing.
-use borrow.Author.Needs.{needs}
+use Rattle.prelude.proofs.Basics.{needs}
 use Rattle.encode.proofs.PutsLaws.{puts-then}
 use Rattle.encode.proofs.field.put_prefix.Statement.{statement}
 use Rattle.encode.proofs.field.put_prefix.Tie as tie

@@ -1,5 +1,5 @@
 -- `encode::head::put_head` meets its contract: five bytes, one behind the other. Assumes nothing.
-use borrow.Author.Needs.{needs}
+use Rattle.prelude.proofs.Basics.{needs}
 use Rattle.encode.proofs.PutsLaws.{puts-then}
 use Rattle.encode.proofs.head.put_head.Statement.{statement}
 use Rattle.encode.proofs.head.put_head.Tie as tie

@@ -1,14 +1,10 @@
 -- `encode::number::put_varint` meets its contract: seven bits a turn, and the number of the others is left. Assumes
 -- nothing.
-use borrow.Author.Needs.{needs}
-use native.Mathlib.Omega.{arith}
-use mathlib.Core.Path.{ap}
-use mathlib.Core.List.{[], _∷_}
-use native.Mathlib.Nat.{mod-eq-of-lt}
-use Prim.Native.Nat.{ℕ, suc, pred, _^_, _<_}
+use Rattle.prelude.proofs.Basics.{ℕ, suc, _^_, _<_, arith, mod-eq-of-lt, ap, [], _∷_, needs}
+use Prim.Native.Nat.{pred}
 use Rattle.varint.specs.Shortest.{shortest, varintBytes}
-use Rattle.encode.proofs.PutsLaws.{Putting, puts-length, putting-starts, putting-goes-on, putting-ends, puts-as}
 use Rattle.varint.proofs.ShortestLaws.{shortest-turn, shortest-last}
+use Rattle.encode.proofs.PutsLaws.{Putting, puts-length, putting-starts, putting-goes-on, putting-ends, puts-as}
 use Rattle.encode.proofs.number.put_varint.Statement.{statement}
 use Rattle.encode.proofs.number.put_varint.Tie as tie
 

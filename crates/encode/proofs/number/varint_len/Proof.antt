@@ -1,10 +1,7 @@
 -- `encode::number::varint_len` meets its contract: zero takes one byte, and of any other number the leading zeros
 -- tell. Assumes nothing.
-use native.Mathlib.Omega.{arith}
-use borrow.Author.Needs.{needs}
+use Rattle.prelude.proofs.Basics.{arith, sym, ap, length, needs}
 use lib.Count.{leading-le}
-use mathlib.Core.Path.{sym, ap}
-use lib.ListN.{length}
 use Rattle.varint.proofs.ShortestLaws.{shortest-last, length-by-zeros}
 use Rattle.encode.proofs.number.varint_len.Statement.{statement}
 use Rattle.encode.proofs.number.varint_len.Tie as tie

@@ -1,9 +1,6 @@
 -- `encode::put::has_room` meets its contract: what is left behind the place is compared, so that nothing wraps.
 -- Assumes nothing.
-use native.Mathlib.Omega.{arith}
-use mathlib.Core.Path.{sym}
-use borrow.Author.Tests.{lt-leb}
-use Prim.Native.Nat.{_+_}
+use Rattle.prelude.proofs.Basics.{_+_, arith, sym, lt-leb}
 use Rattle.encode.proofs.PutsLaws.{room-left}
 use Rattle.encode.proofs.put.has_room.Statement.{statement}
 use Rattle.encode.proofs.put.has_room.Tie as tie

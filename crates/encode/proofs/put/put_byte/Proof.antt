@@ -1,6 +1,5 @@
 -- `encode::put::put_byte` meets its contract: past the end nothing is stored. Assumes nothing.
-use borrow.Author.Needs.{needs}
-use mathlib.Core.List.{[], _∷_}
+use Rattle.prelude.proofs.Basics.{[], _∷_, needs}
 use Rattle.encode.proofs.PutsLaws.{past-end}
 use Rattle.encode.proofs.put.put_byte.Statement.{statement}
 use Rattle.encode.proofs.put.put_byte.Tie as tie

@@ -1,9 +1,5 @@
 -- `encode::put::put_each` meets its contract: one byte a turn, and the others are left. Assumes nothing.
-use borrow.Author.Needs.{needs}
-use Prim.Native.Nat.{_-_}
-use lib.ListN.{length, drop, drop-of-length-le}
-use lib.Seq.{drop-cons}
-use native.Mathlib.Numerals.{add-one}
+use Rattle.prelude.proofs.Basics.{_-_, add-one, length, drop, drop-of-length-le, drop-cons, needs}
 use Rattle.encode.proofs.PutsLaws.{Putting, puts-length, putting-starts, putting-goes-on, putting-ended}
 use Rattle.encode.proofs.put.put_each.Statement.{statement}
 use Rattle.encode.proofs.put.put_each.Tie as tie

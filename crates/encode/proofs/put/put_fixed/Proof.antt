@@ -1,6 +1,5 @@
 -- `encode::put::put_fixed` meets its contract: one byte a turn, and the number of the others is left. Assumes nothing.
-use borrow.Author.Needs.{needs}
-use native.Mathlib.Omega.{arith}
+use Rattle.prelude.proofs.Basics.{arith, needs}
 use Rattle.encode.specs.Fixed.{fixedBytes}
 use Rattle.encode.proofs.PutsLaws.{Putting, puts-length, putting-starts, putting-goes-on, putting-ended}
 use Rattle.encode.proofs.FieldLaws.{fixed-more, fixed-none}

@@ -1,10 +1,6 @@
 -- `encode::put::put_slice` meets its contract. The loop's invariant is `Copying`; the measure is what is left.
 -- Assumes nothing.
-use borrow.Author.Needs.{needs}
-use Prim.Native.Nat.{_+_, _-_}
-use mathlib.Core.Path.{sym, _∙_}
-use lib.ListN.{length}
-use borrow.Author.Tests.{leb-true, not-false}
+use Rattle.prelude.proofs.Basics.{_+_, _-_, sym, _∙_, length, needs, leb-true, not-false}
 use Rattle.encode.proofs.PutsLaws.{Copying, copy-starts, copy-goes-on, copy-ends}
 use Rattle.encode.proofs.put.put_slice.Statement.{statement}
 use Rattle.encode.proofs.put.put_slice.Tie as tie

@@ -1,10 +1,5 @@
 -- `encode::put::write_bytes` meets its contract: once no room, and once room. Assumes nothing.
-use borrow.Author.Needs.{needs}
-use Prim.Native.Nat.{_+_}
-use mathlib.Core.Path.{refl, sym, _∙_}
-use lib.ListN.{length}
-use borrow.Author.Tests.{leb-true, leb-false}
-use borrow.Author.Tests.{not-true, not-false}
+use Rattle.prelude.proofs.Basics.{_+_, refl, sym, _∙_, length, needs, leb-false, leb-true, not-false, not-true}
 use Rattle.encode.proofs.PutsLaws.{puts-none, puts-room, equations}
 use Rattle.encode.proofs.put.write_bytes.Statement.{statement}
 use Rattle.encode.proofs.put.write_bytes.Tie as tie

@@ -1,11 +1,6 @@
 -- `encode::shift::move_front` meets its contract. The loop's invariant is `Moving`; the measure is what is left to
 -- move. Assumes nothing.
-use borrow.Author.Needs.{needs}
-use native.Mathlib.Omega.{arith}
-use Prim.Native.Nat.{_+_, _-_, _≤_}
-use mathlib.Core.Path.{sym, _∙_}
-use lib.ListN.{length}
-use borrow.Author.Tests.{leb-true, not-true, not-false}
+use Rattle.prelude.proofs.Basics.{_+_, _-_, _≤_, arith, sym, _∙_, length, needs, leb-true, not-false, not-true}
 use Rattle.encode.proofs.MoveLaws.{Moving, move-starts, moves-on, move-ends, moved-front, moved-none}
 use Rattle.encode.proofs.shift.move_front.Statement.{statement}
 use Rattle.encode.proofs.shift.move_front.Tie as tie

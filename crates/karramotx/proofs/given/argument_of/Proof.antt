@@ -1,7 +1,5 @@
 -- `karramotx::given::argument_of` meets its contract: the Scalar type decides, an arm for each. Assumes nothing.
-use Prim.Native.Nat.{ℕ}
-use mathlib.Core.Path.{_≡_, _∙_}
-use borrow.Author.Needs.{needs}
+use Rattle.prelude.proofs.Basics.{ℕ, _≡_, _∙_, needs}
 use Rattle.karramotx.specs.Given.{ofKind}
 use Rattle.karramotx.proofs.GivenLaws.{of-kind, of-no-kind}
 use Rattle.karramotx.proofs.given.argument_of.Statement.{statement}

@@ -1,7 +1,5 @@
 -- `karramotx::given::float_of_bits` meets its contract: only a number of 32 bits is a float. Assumes nothing.
-use mathlib.Core.Path.{_∙_}
-use native.Mathlib.Omega.{arith}
-use borrow.Author.Needs.{needs}
+use Rattle.prelude.proofs.Basics.{arith, _∙_, needs}
 use Rattle.karramotx.proofs.GivenLaws.{float-none, float-bits}
 use Rattle.karramotx.proofs.given.float_of_bits.Statement.{statement}
 use Rattle.karramotx.proofs.given.float_of_bits.Tie as tie

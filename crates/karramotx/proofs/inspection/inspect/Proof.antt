@@ -1,7 +1,5 @@
 -- `karramotx::inspection::inspect` meets its contract: each part is the frame's. Assumes nothing.
-use borrow.Author.Needs.{needs}
-use mathlib.Core.Bool.{Bool}
-use mathlib.Core.Path.{_≡_, ap, _∙_}
+use Rattle.prelude.proofs.Basics.{Bool, _≡_, ap, _∙_, needs}
 use Rattle.message.specs.Padded.{whereGood}
 use Rattle.rules.specs.declared.Look.{Look}
 use Rattle.rules.specs.declared.Touches.{Touches}

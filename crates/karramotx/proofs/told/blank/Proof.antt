@@ -1,6 +1,5 @@
 -- `karramotx::told::blank` meets its contract: the type is put into a message that has nothing. Assumes nothing.
-use borrow.Author.Needs.{needs}
-use mathlib.Core.Path.{refl}
+use Rattle.prelude.proofs.Basics.{refl, needs}
 use Rattle.karramotx.proofs.told.blank.Statement.{statement}
 use Rattle.karramotx.proofs.told.blank.Tie as tie
 

@@ -1,5 +1,5 @@
 -- A blank message with its id.
-use borrow.Author.Needs.{needs}
+use Rattle.prelude.proofs.Basics.{needs}
 use Rattle.karramotx.proofs.told.deallocate_told.Statement.{statement}
 use Rattle.karramotx.proofs.told.deallocate_told.Tie as tie
 

@@ -1,5 +1,5 @@
 -- A blank message with the fields of an Execute.
-use borrow.Author.Needs.{needs}
+use Rattle.prelude.proofs.Basics.{needs}
 use Rattle.karramotx.proofs.told.execute_told.Statement.{statement}
 use Rattle.karramotx.proofs.told.execute_told.Tie as tie
 

@@ -1,5 +1,5 @@
 -- `karramotx::told::message_of` meets its contract: each case of a frame is one of the definition. Assumes nothing.
-use borrow.Author.Needs.{needs}
+use Rattle.prelude.proofs.Basics.{needs}
 use Rattle.karramotx.proofs.MessageLaws.{as-frame}
 use Rattle.karramotx.proofs.told.message_of.Statement.{statement}
 use Rattle.karramotx.proofs.told.message_of.Tie as tie

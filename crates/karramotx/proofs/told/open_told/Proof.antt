@@ -1,5 +1,5 @@
 -- The message of its Execute with the fields of an Open.
-use borrow.Author.Needs.{needs}
+use Rattle.prelude.proofs.Basics.{needs}
 use Rattle.karramotx.proofs.told.open_told.Statement.{statement}
 use Rattle.karramotx.proofs.told.open_told.Tie as tie
 

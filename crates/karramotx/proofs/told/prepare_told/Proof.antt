@@ -1,5 +1,5 @@
 -- A blank message with the fields of a Prepare.
-use borrow.Author.Needs.{needs}
+use Rattle.prelude.proofs.Basics.{needs}
 use Rattle.karramotx.proofs.told.prepare_told.Statement.{statement}
 use Rattle.karramotx.proofs.told.prepare_told.Tie as tie
 

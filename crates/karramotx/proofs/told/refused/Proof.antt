@@ -1,8 +1,5 @@
 -- `karramotx::told::refused` meets its contract: there are no arguments. Assumes nothing.
-use borrow.Author.Needs.{needs}
-use Prim.Native.Nat.{ℕ}
-use mathlib.Core.Bool.{false}
-use mathlib.Core.Path.{ap, _∙_}
+use Rattle.prelude.proofs.Basics.{ℕ, false, ap, _∙_, needs}
 use Rattle.message.specs.Request.{noOptional, noPart}
 use Rattle.karramotx.specs.Message.{argsTold}
 use Rattle.karramotx.specs.declared.told.Args.{Args}

@@ -1,7 +1,6 @@
 -- Each arm is told by the function of its message.
-use mathlib.Core.Path.{_∙_}
+use Rattle.prelude.proofs.Basics.{_∙_, needs}
 use Rattle.karramotx.proofs.MessageLaws.{as-request}
-use borrow.Author.Needs.{needs}
 use Rattle.karramotx.proofs.told.told.Statement.{statement}
 use Rattle.karramotx.proofs.told.told.Tie as tie
 

@@ -1,7 +1,5 @@
 -- `karramotx::value::float_value` meets its contract: what differs from itself is the NaN. Assumes nothing.
-use mathlib.Core.Path.{_≡_}
-use mathlib.Core.Bool.{false}
-use borrow.Author.Needs.{needs}
+use Rattle.prelude.proofs.Basics.{false, _≡_, needs}
 use lib.Ieee.{isNan}
 use Rattle.karramotx.proofs.ValueLaws.{differs-nan, same-number, asked, fits-wide}
 use Rattle.karramotx.proofs.value.float_value.Statement.{statement}

@@ -1,6 +1,5 @@
 -- `karramotx::value::next_value` meets its contract: each arm is its clause. Assumes nothing.
-use mathlib.Core.Path.{ap, sym, _∙_}
-use borrow.Author.Needs.{needs}
+use Rattle.prelude.proofs.Basics.{sym, ap, _∙_, needs}
 use Rattle.karramotx.specs.declared.value.Value.{Value}
 use Rattle.karramotx.specs.Value.{nextValueOf, withNext}
 use Rattle.karramotx.proofs.value.next_value.Statement.{statement}

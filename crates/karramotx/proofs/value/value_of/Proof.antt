@@ -1,6 +1,5 @@
 -- `karramotx::value::value_of` meets its contract: each arm is its clause. Assumes nothing.
-use mathlib.Core.Path.{ap, sym, _∙_}
-use borrow.Author.Needs.{needs}
+use Rattle.prelude.proofs.Basics.{sym, ap, _∙_, needs}
 use mir.Syntax.{w64}
 use mir.Val.{SFits}
 use Rattle.scalar.proofs.SignedLaws.{same-bits}

@@ -1,7 +1,7 @@
 -- `keeper::answer::accept` meets its contract: the answer has the length of the reply that was put. Assumes nothing.
-use borrow.Author.Needs.{needs}
-use Rattle.keeper.proofs.AnswerLaws.{answers}
+use Rattle.prelude.proofs.Basics.{needs}
 use Rattle.keeper.specs.private.Does.{accepting}
+use Rattle.keeper.proofs.AnswerLaws.{answers}
 use Rattle.keeper.proofs.answer.accept.Statement.{statement}
 use Rattle.keeper.proofs.answer.accept.Tie as tie
 

@@ -1,6 +1,5 @@
 -- `keeper::answer::put_reply` meets its contract: the length told is that of what was put. Assumes nothing.
-use borrow.Author.Needs.{needs}
-use mathlib.Core.Path.{ap, _∙_}
+use Rattle.prelude.proofs.Basics.{ap, _∙_, needs}
 use Rattle.encode.specs.Put.{placeBehind}
 use Rattle.keeper.proofs.answer.put_reply.Statement.{statement}
 use Rattle.keeper.proofs.answer.put_reply.Tie as tie

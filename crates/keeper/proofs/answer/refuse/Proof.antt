@@ -1,5 +1,5 @@
 -- `keeper::answer::refuse` meets its contract: the Error that is put is the one of the names. Assumes nothing.
-use borrow.Author.Needs.{needs}
+use Rattle.prelude.proofs.Basics.{needs}
 use Rattle.keeper.specs.private.Does.{refusing}
 use Rattle.keeper.proofs.AnswerLaws.{answers-as, error-as}
 use Rattle.keeper.proofs.answer.refuse.Statement.{statement}

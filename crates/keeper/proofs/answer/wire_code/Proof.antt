@@ -1,7 +1,6 @@
 -- `keeper::answer::wire_code` meets its contract: a failure has the engine's code, any other the table's. Assumes
 -- nothing.
-use borrow.Author.Needs.{needs}
-use mathlib.Core.Path.{_∙_}
+use Rattle.prelude.proofs.Basics.{_∙_, needs}
 use Rattle.keeper.proofs.AnswerLaws.{code-own, code-listed}
 use Rattle.keeper.proofs.answer.wire_code.Statement.{statement}
 use Rattle.keeper.proofs.answer.wire_code.Tie as tie

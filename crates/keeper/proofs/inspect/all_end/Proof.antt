@@ -1,8 +1,6 @@
 -- `keeper::inspect::all_end` meets its contract: no entry is looked up. Assumes nothing.
-use mathlib.Core.Path.{_∙_}
-use borrow.Author.Needs.{needs}
-use Rattle.message.specs.declared.request.Request.{Request}
-use Rattle.session.specs.Words.{sessionOf}
+use Rattle.prelude.proofs.Basics.{_∙_, needs}
+use Rattle.keeper.proofs.Names.{Request, sessionOf}
 use Rattle.keeper.proofs.RequestLaws.{reset-looks}
 use Rattle.keeper.proofs.LookLaws.{closed-or-look, reset-wants}
 use Rattle.keeper.proofs.InspectLaws.{reset-touches}

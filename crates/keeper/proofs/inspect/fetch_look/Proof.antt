@@ -1,6 +1,5 @@
 -- `keeper::inspect::fetch_look` meets its contract: the reason chooses. Assumes nothing.
-use mathlib.Core.Path.{_∙_}
-use borrow.Author.Needs.{needs}
+use Rattle.prelude.proofs.Basics.{_∙_, needs}
 use Rattle.keeper.proofs.LookLaws.{rows-not, rows-wanted}
 use Rattle.keeper.proofs.inspect.fetch_look.Statement.{statement}
 use Rattle.keeper.proofs.inspect.fetch_look.Tie as tie

@@ -1,8 +1,7 @@
 -- `keeper::inspect::inspect` meets its contract: what the frame is by itself comes first, then its request. Assumes
 -- nothing.
-use mathlib.Core.Path.{_∙_}
-use borrow.Author.Needs.{needs}
-use Rattle.session.specs.Words.{sessionOf}
+use Rattle.prelude.proofs.Basics.{_∙_, needs}
+use Rattle.keeper.proofs.Names.{sessionOf}
 use Rattle.keeper.proofs.LookLaws.{cut-look, length-look, unknown-look, payload-look, look-any}
 use Rattle.keeper.proofs.InspectLaws.{as-frame}
 use Rattle.keeper.proofs.inspect.inspect.Statement.{statement}

@@ -1,8 +1,6 @@
 -- `keeper::inspect::inspect_at` meets its contract: each request by its own entries. Assumes nothing.
-use mathlib.Core.Path.{_∙_}
-use borrow.Author.Needs.{needs}
-use Rattle.message.specs.declared.request.Request.{Request}
-use Rattle.session.specs.Words.{sessionOf}
+use Rattle.prelude.proofs.Basics.{_∙_, needs}
+use Rattle.keeper.proofs.Names.{Request, sessionOf}
 use Rattle.keeper.proofs.RequestLaws.{prepare-looks, deallocate-looks, close-looks}
 use Rattle.keeper.proofs.LookLaws.{closed-or-look, close-as-reset, prepare-wants, execute-wants}
 use Rattle.keeper.proofs.LookLaws.{deallocate-wants, close-wants}

@@ -1,8 +1,6 @@
 -- `keeper::inspect::inspect_open` meets its contract: statement and place are looked up once. Assumes nothing.
-use mathlib.Core.Path.{_∙_}
-use borrow.Author.Needs.{needs}
-use Rattle.message.specs.declared.request.Request.{Request}
-use Rattle.session.specs.Words.{sessionOf}
+use Rattle.prelude.proofs.Basics.{_∙_, needs}
+use Rattle.keeper.proofs.Names.{Request, sessionOf}
 use Rattle.keeper.proofs.LookLaws.{closed-or-look, open-wants}
 use Rattle.keeper.proofs.InspectLaws.{open-touches}
 use Rattle.keeper.proofs.inspect.inspect_open.Statement.{statement}

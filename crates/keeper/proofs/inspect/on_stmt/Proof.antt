@@ -1,9 +1,6 @@
 -- `keeper::inspect::on_stmt` meets its contract: the bits are those that were asked for. Assumes nothing.
-use Prim.Native.Nat.{ℕ}
-use mathlib.Core.Path.{ap, _∙_}
-use borrow.Author.Needs.{needs}
-use Rattle.session.specs.declared.Place.{Place}
-use Rattle.rules.specs.Inspect.{touches}
+use Rattle.prelude.proofs.Basics.{ℕ, ap, _∙_, needs}
+use Rattle.keeper.proofs.Names.{Place, touches}
 use Rattle.keeper.proofs.inspect.on_stmt.Statement.{statement}
 use Rattle.keeper.proofs.inspect.on_stmt.Tie as tie
 

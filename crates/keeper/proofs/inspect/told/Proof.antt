@@ -1,11 +1,7 @@
 -- `keeper::inspect::told` meets its contract: closed comes first. Assumes nothing.
-use Prim.Native.Nat.{ℕ}
-use mathlib.Core.Bool.{cond}
-use mathlib.Core.Path.{refl, ap, _∙_}
-use lib.Dec.{eqb}
-use borrow.Author.Needs.{needs}
+use Rattle.prelude.proofs.Basics.{ℕ, cond, refl, ap, _∙_, eqb, needs}
 use Rattle.protocol.specs.Reason as Reason
-use Rattle.rules.specs.Decision.{lookRefused}
+use Rattle.keeper.proofs.Names.{lookRefused}
 use Rattle.keeper.specs.private.Reasons.{lookWork}
 use Rattle.keeper.proofs.inspect.told.Statement.{statement}
 use Rattle.keeper.proofs.inspect.told.Tie as tie

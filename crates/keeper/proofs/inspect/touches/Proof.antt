@@ -1,10 +1,8 @@
 -- `keeper::inspect::touches` meets its contract: a place by its number. Assumes nothing.
-use Prim.Native.Nat.{ℕ}
-use mathlib.Core.Path.{ap, _∙_}
-use borrow.Author.Needs.{needs}
+use Rattle.prelude.proofs.Basics.{ℕ, ap, _∙_, needs}
 use Rattle.session.specs.Lists.{indexOf}
 use Rattle.rules.specs.Inspect.{noStmtPlace}
-use Rattle.rules.specs.declared.Touches.{Touches}
+use Rattle.keeper.proofs.Names.{Touches}
 use Rattle.keeper.proofs.inspect.touches.Statement.{statement}
 use Rattle.keeper.proofs.inspect.touches.Tie as tie
 

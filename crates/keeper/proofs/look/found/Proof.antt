@@ -1,6 +1,5 @@
 -- `keeper::look::found` meets its contract: the reason chooses. Assumes nothing.
-use mathlib.Core.Path.{_∙_}
-use borrow.Author.Needs.{needs}
+use Rattle.prelude.proofs.Basics.{_∙_, needs}
 use Rattle.keeper.proofs.LookLaws.{found-not, found-work}
 use Rattle.keeper.proofs.look.found.Statement.{statement}
 use Rattle.keeper.proofs.look.found.Tie as tie

@@ -1,7 +1,6 @@
 -- `keeper::look::look` meets its contract: what the frame is by itself comes first, then its request. Assumes nothing.
-use mathlib.Core.Path.{refl, _∙_}
-use borrow.Author.Needs.{needs}
-use Rattle.session.specs.Words.{sessionOf}
+use Rattle.prelude.proofs.Basics.{refl, _∙_, needs}
+use Rattle.keeper.proofs.Names.{sessionOf}
 use Rattle.keeper.proofs.LookLaws.{cut-look, length-look, unknown-look, payload-look, look-any}
 use Rattle.keeper.proofs.PaddedLaws.{look-told, look-unread}
 use Rattle.keeper.proofs.look.look.Statement.{statement}

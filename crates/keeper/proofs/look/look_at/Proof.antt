@@ -1,17 +1,9 @@
 -- `keeper::look::look_at` meets its contract: closed comes first, then each request by its own entries. Assumes
 -- nothing.
-use Prim.Native.Nat.{ℕ}
-use mathlib.Core.Bool.{false, cond}
-use mathlib.Core.Path.{_≡_, sym, _∙_}
-use lib.Dec.{eqb}
-use borrow.Author.Needs.{needs}
-use Rattle.message.specs.declared.request.Request.{Request}
-use Rattle.message.specs.declared.request.Frame.the-variants.{Good}
+use Rattle.prelude.proofs.Basics.{ℕ, false, cond, _≡_, sym, _∙_, eqb, needs}
 use Rattle.protocol.specs.Reason as Reason
-use Rattle.session.specs.Session.{isClosed}
-use Rattle.session.specs.Words.{sessionOf}
-use Rattle.rules.specs.declared.Look.{Look}
-use Rattle.rules.specs.Decision.{looked, lookRefused, lookOf}
+use Rattle.message.specs.declared.request.Frame.the-variants.{Good}
+use Rattle.keeper.proofs.Names.{Request, isClosed, sessionOf, looked, lookRefused, lookOf, Look}
 use Rattle.keeper.specs.private.Reasons.{requestReason}
 use Rattle.keeper.proofs.RequestLaws.{reset-looks, session-close-looks, prepare-looks, deallocate-looks}
 use Rattle.keeper.proofs.RequestLaws.{close-looks}

@@ -1,7 +1,6 @@
 -- `keeper::look::look_fetch` meets its contract: the cursor looked up decides. Assumes nothing.
-use mathlib.Core.Path.{_∙_}
-use borrow.Author.Needs.{needs}
-use Rattle.session.specs.Words.{sessionOf}
+use Rattle.prelude.proofs.Basics.{_∙_, needs}
+use Rattle.keeper.proofs.Names.{sessionOf}
 use Rattle.keeper.proofs.RequestLaws.{cursor-found}
 use Rattle.keeper.proofs.LookLaws.{fetch-refused, fetch-wanted}
 use Rattle.keeper.proofs.look.look_fetch.Statement.{statement}

@@ -1,8 +1,6 @@
 -- `keeper::look::look_open` meets its contract: its refusals decide. Assumes nothing.
-use mathlib.Core.Path.{_∙_}
-use borrow.Author.Needs.{needs}
-use Rattle.message.specs.declared.request.Request.{Request}
-use Rattle.session.specs.Words.{sessionOf}
+use Rattle.prelude.proofs.Basics.{_∙_, needs}
+use Rattle.keeper.proofs.Names.{Request, sessionOf}
 use Rattle.keeper.proofs.LookLaws.{found-look, open-wants}
 use Rattle.keeper.proofs.look.look_open.Statement.{statement}
 use Rattle.keeper.proofs.look.look_open.Tie as tie

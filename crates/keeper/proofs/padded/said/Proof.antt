@@ -1,8 +1,5 @@
 -- From the first number to the last it is no; below and above it is what was read. Assumes nothing.
-use mathlib.Core.Logic.{⊎-elim}
-use mathlib.Core.Bool.{false}
-use borrow.Author.Tests.{le-leb, lt-leb}
-use Rattle.prelude.proofs.Cases.{yes, no as without}
+use Rattle.prelude.proofs.Basics.{false, ⊎-elim, le-leb, lt-leb, yes, no as without}
 use Rattle.protocol.specs.Reason as Reason
 use Rattle.rules.specs.Step.{saysNo}
 use Rattle.keeper.proofs.padded.said.Statement.{statement}

@@ -1,6 +1,6 @@
 -- The tests stand in the order of the reasons 7, 8, 9. Assumes nothing.
+use Rattle.prelude.proofs.Basics.{needs}
 use Rattle.keeper.proofs.ReasonLaws.{binding-dead, binding-kind, binding-few, binding-right}
-use borrow.Author.Needs.{needs}
 use Rattle.keeper.proofs.refusal.binding.Statement.{statement}
 use Rattle.keeper.proofs.refusal.binding.Tie as tie
 

@@ -1,7 +1,5 @@
 -- The test is the session's closed flag. Assumes nothing.
-use mathlib.Core.Path.{sym, _∙_}
-use borrow.Author.Needs.{needs}
-use Rattle.prelude.proofs.Cases.{yes, no as without}
+use Rattle.prelude.proofs.Basics.{sym, _∙_, needs, yes, no as without}
 use Rattle.protocol.specs.Reason as Reason
 use Rattle.keeper.proofs.refusal.closed_or.Statement.{statement}
 use Rattle.keeper.proofs.refusal.closed_or.Tie as tie

@@ -1,7 +1,7 @@
 -- The statement looked up is the live one, and an Execute has no tests but 7, 8, 9. Assumes nothing.
-use Rattle.session.specs.Words.{sessionOf}
+use Rattle.prelude.proofs.Basics.{needs}
+use Rattle.keeper.proofs.Names.{sessionOf}
 use Rattle.keeper.proofs.ReasonLaws.{execute-bound}
-use borrow.Author.Needs.{needs}
 use Rattle.keeper.proofs.refusal.execute.Statement.{statement}
 use Rattle.keeper.proofs.refusal.execute.Tie as tie
 

@@ -1,7 +1,7 @@
 -- 7, 8, 9 of its statement come first; then its cursor's 12 and 14. Assumes nothing.
-use Rattle.session.specs.Words.{sessionOf}
+use Rattle.prelude.proofs.Basics.{needs}
+use Rattle.keeper.proofs.Names.{sessionOf}
 use Rattle.keeper.proofs.ReasonLaws.{open-bound, open-carried}
-use borrow.Author.Needs.{needs}
 use Rattle.keeper.proofs.refusal.open.Statement.{statement}
 use Rattle.keeper.proofs.refusal.open.Tie as tie
 

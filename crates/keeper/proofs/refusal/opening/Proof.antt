@@ -1,8 +1,6 @@
 -- A cursor of another id is refused first; else the place decides. Assumes nothing.
-use mathlib.Core.Path.{_∙_}
-use mathlib.Core.Logic.{⊎-elim}
+use Rattle.prelude.proofs.Basics.{_∙_, ⊎-elim, needs}
 use Rattle.keeper.proofs.ReasonLaws.{opening-other, opening-same, opening-none}
-use borrow.Author.Needs.{needs}
 use Rattle.keeper.proofs.refusal.opening.Statement.{statement}
 use Rattle.keeper.proofs.refusal.opening.Tie as tie
 

@@ -1,8 +1,7 @@
 -- A failure is 16 whether the report suits or not; of the others one that suits is accepted. Assumes nothing.
-use mathlib.Core.Path.{sym, _∙_}
+use Rattle.prelude.proofs.Basics.{sym, _∙_, needs}
+use Rattle.keeper.proofs.Names.{fails}
 use Rattle.keeper.proofs.ReasonLaws.{report-failed, report-suited, report-wrong}
-use borrow.Author.Needs.{needs}
-use Rattle.rules.specs.Report.{fails}
 use Rattle.keeper.proofs.refusal.report.Statement.{statement}
 use Rattle.keeper.proofs.refusal.report.Tie as tie
 

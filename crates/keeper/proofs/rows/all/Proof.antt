@@ -1,8 +1,6 @@
 -- The parts are those of `sendsAll`. Assumes nothing.
-use mathlib.Core.Bool.{not}
-use lib.Dec.{eqb}
+use Rattle.prelude.proofs.Basics.{not, eqb, needs}
 use Rattle.keeper.proofs.RowsLaws.{sends-with}
-use borrow.Author.Needs.{needs}
 use Rattle.keeper.proofs.rows.all.Statement.{statement}
 use Rattle.keeper.proofs.rows.all.Tie as tie
 

@@ -1,6 +1,6 @@
 -- An absent fetch_rows means all that remain. Assumes nothing.
+use Rattle.prelude.proofs.Basics.{needs}
 use Rattle.keeper.proofs.RowsLaws.{fetch-some, fetch-rest}
-use borrow.Author.Needs.{needs}
 use Rattle.keeper.proofs.rows.fetch_count.Statement.{statement}
 use Rattle.keeper.proofs.rows.fetch_count.Tie as tie
 

@@ -1,7 +1,6 @@
 -- The parts are those of `sendsNext`. Assumes nothing.
-use mathlib.Core.Bool.{false}
+use Rattle.prelude.proofs.Basics.{false, needs}
 use Rattle.keeper.proofs.RowsLaws.{sends-with}
-use borrow.Author.Needs.{needs}
 use Rattle.keeper.proofs.rows.fetched.Statement.{statement}
 use Rattle.keeper.proofs.rows.fetched.Tie as tie
 

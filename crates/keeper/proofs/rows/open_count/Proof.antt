@@ -1,6 +1,6 @@
 -- An absent fetch_rows means none. Assumes nothing.
+use Rattle.prelude.proofs.Basics.{needs}
 use Rattle.keeper.proofs.RowsLaws.{open-some, open-none}
-use borrow.Author.Needs.{needs}
 use Rattle.keeper.proofs.rows.open_count.Statement.{statement}
 use Rattle.keeper.proofs.rows.open_count.Tie as tie
 

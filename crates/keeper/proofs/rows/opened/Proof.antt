@@ -1,9 +1,6 @@
 -- The parts are those of `sendsFirst`. Assumes nothing.
-use mathlib.Core.Bool.{not}
-use mathlib.Core.Path.{_∙_}
-use lib.Dec.{eqb}
+use Rattle.prelude.proofs.Basics.{not, _∙_, eqb, needs}
 use Rattle.keeper.proofs.RowsLaws.{sends-with, left-first}
-use borrow.Author.Needs.{needs}
 use Rattle.keeper.proofs.rows.opened.Statement.{statement}
 use Rattle.keeper.proofs.rows.opened.Tie as tie
 

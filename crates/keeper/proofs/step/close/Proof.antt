@@ -1,6 +1,6 @@
 -- `keeper::step::close` meets its contract: the entry looked up decides, and the cursor ends. Assumes nothing.
-use borrow.Author.Needs.{needs}
-use Rattle.session.specs.Words.{sessionOf}
+use Rattle.prelude.proofs.Basics.{needs}
+use Rattle.keeper.proofs.Names.{sessionOf}
 use Rattle.keeper.proofs.StepLaws.{refuses, accepts}
 use Rattle.keeper.proofs.RequestLaws.{close-decides, close-sends, close-after}
 use Rattle.keeper.proofs.step.close.Statement.{statement}

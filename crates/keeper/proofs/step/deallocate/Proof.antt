@@ -1,6 +1,6 @@
 -- `keeper::step::deallocate` meets its contract: the entry looked up decides, and it is freed. Assumes nothing.
-use borrow.Author.Needs.{needs}
-use Rattle.session.specs.Words.{sessionOf}
+use Rattle.prelude.proofs.Basics.{needs}
+use Rattle.keeper.proofs.Names.{sessionOf}
 use Rattle.keeper.proofs.StepLaws.{refuses, accepts}
 use Rattle.keeper.proofs.RequestLaws.{deallocate-decides, deallocate-sends, deallocate-after}
 use Rattle.keeper.proofs.step.deallocate.Statement.{statement}

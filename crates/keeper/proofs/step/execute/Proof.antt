@@ -1,7 +1,7 @@
 -- `keeper::step::execute` meets its contract: the statement and the arguments decide, and its cursor ends. Assumes
 -- nothing.
-use borrow.Author.Needs.{needs}
-use Rattle.session.specs.Words.{sessionOf}
+use Rattle.prelude.proofs.Basics.{needs}
+use Rattle.keeper.proofs.Names.{sessionOf}
 use Rattle.keeper.proofs.StepLaws.{refuses, accepts}
 use Rattle.keeper.proofs.RequestLaws.{execute-decides, execute-sends, execute-after}
 use Rattle.keeper.proofs.step.execute.Statement.{statement}

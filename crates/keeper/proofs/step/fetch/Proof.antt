@@ -1,8 +1,7 @@
 -- `keeper::step::fetch` meets its contract: the cursor looked up decides, and its rows sent are the one word that
 -- changes. Assumes nothing.
-use Prim.Native.Nat.{_+_, _≤_}
-use borrow.Author.Needs.{needs}
-use Rattle.session.specs.Words.{sessionOf}
+use Rattle.prelude.proofs.Basics.{_+_, _≤_, needs}
+use Rattle.keeper.proofs.Names.{sessionOf}
 use Rattle.keeper.proofs.StepLaws.{refuses, accepts}
 use Rattle.keeper.proofs.RequestLaws.{cursor-found, fetch-decides, fetch-sends, fetch-after, fetch-within}
 use Rattle.keeper.proofs.step.fetch.Statement.{statement}

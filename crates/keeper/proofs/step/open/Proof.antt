@@ -1,10 +1,7 @@
 -- `keeper::step::open` meets its contract: the statement, the arguments and the cursors decide, and the cursor is
 -- stored. Assumes nothing.
-use native.Mathlib.Omega.{arith}
-use Prim.Native.Nat.{_≤_}
-use borrow.Author.Needs.{needs}
-use Rattle.session.specs.Sound.{maxNumber}
-use Rattle.session.specs.Words.{sessionOf}
+use Rattle.prelude.proofs.Basics.{_≤_, arith, needs}
+use Rattle.keeper.proofs.Names.{sessionOf, maxNumber}
 use Rattle.keeper.proofs.StepLaws.{refuses, accepts}
 use Rattle.keeper.proofs.RequestLaws.{open-decides, open-sends, open-after, open-within, result-within}
 use Rattle.keeper.proofs.step.open.Statement.{statement}

@@ -1,8 +1,7 @@
 -- `keeper::step::prepare` meets its contract: the place that the statement takes decides, and it is stored there.
 -- Assumes nothing.
-use native.Mathlib.Omega.{arith}
-use borrow.Author.Needs.{needs}
-use Rattle.session.specs.Words.{sessionOf}
+use Rattle.prelude.proofs.Basics.{arith, needs}
+use Rattle.keeper.proofs.Names.{sessionOf}
 use Rattle.keeper.proofs.StepLaws.{refuses, accepts}
 use Rattle.keeper.proofs.RequestLaws.{prepare-decides, prepare-sends, prepare-after, prepared-within}
 use Rattle.keeper.proofs.step.prepare.Statement.{statement}

@@ -1,18 +1,9 @@
 -- `keeper::step::step` meets its contract: room comes first, then what the frame is by itself, then its request.
 -- Assumes nothing.
-use Prim.Native.Nat.{ℕ}
-use mathlib.Core.Path.{_≡_, refl}
-use mathlib.Core.List.{List}
-use borrow.Author.Needs.{needs}
-use Rattle.message.specs.Frame.{frameOf}
-use Rattle.message.specs.Padded.{paddedOf}
-use Rattle.message.specs.declared.request.Frame.{Frame}
-use Rattle.session.specs.Session.{Session}
-use Rattle.session.specs.Words.{sessionOf}
-use Rattle.keeper.proofs.FrameLaws.{short-step, cut-step, length-step, unknown-refuses, payload-refuses}
-use Rattle.rules.specs.declared.Answer.{Answer}
-use Rattle.rules.specs.Step.{stepOn, stepOf}
+use Rattle.prelude.proofs.Basics.{ℕ, _≡_, refl, List, needs}
+use Rattle.keeper.proofs.Names.{frameOf, paddedOf, Frame, Session, sessionOf, stepOf, stepOn, Answer}
 use Rattle.keeper.specs.private.Does.{Does}
+use Rattle.keeper.proofs.FrameLaws.{short-step, cut-step, length-step, unknown-refuses, payload-refuses}
 use Rattle.keeper.proofs.FrameLaws.{readable, sym-answer, Clauses, clauses}
 use Rattle.keeper.proofs.PaddedLaws.{Mute, does-told, does-unread}
 use Rattle.keeper.proofs.step.step.Statement.{statement}

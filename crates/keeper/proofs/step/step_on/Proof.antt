@@ -1,15 +1,8 @@
 -- `keeper::step::step_on` meets its contract: closed comes first, then each request has its own function. Assumes
 -- nothing.
-use Prim.Native.Nat.{ℕ}
-use mathlib.Core.Path.{_≡_, refl, sym, _∙_}
-use mathlib.Core.List.{List}
-use borrow.Author.Needs.{needs}
-use Rattle.message.specs.declared.request.Request.{Request}
-use Rattle.session.specs.Words.{sessionOf}
+use Rattle.prelude.proofs.Basics.{ℕ, _≡_, refl, sym, _∙_, List, needs}
 use Rattle.message.specs.declared.request.Frame.the-variants.{Good}
-use Rattle.session.specs.Session.{Session}
-use Rattle.rules.specs.declared.Answer.{Answer}
-use Rattle.rules.specs.Step.{stepOn}
+use Rattle.keeper.proofs.Names.{Request, Session, sessionOf, stepOn, Answer}
 use Rattle.keeper.specs.private.Does.{Does, Ready}
 use Rattle.keeper.proofs.StepLaws.{closed-refuses, ready, does-as, accepts}
 use Rattle.keeper.proofs.RequestLaws.{reset-decides, reset-sends, reset-after, session-close-decides}

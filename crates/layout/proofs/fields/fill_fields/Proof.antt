@@ -1,20 +1,11 @@
 -- `layout::fields::fill_fields` meets its contract: the fields are listed, and each required one is among them.
 -- Assumes nothing.
-use borrow.Author.Needs.{needs}
-use borrow.Author.Tests.{not-true, not-false}
-use native.Mathlib.Omega.{arith}
-use mathlib.Core.Path.{_≡_, refl, sym, _∙_}
-use mathlib.Core.Bool.{Bool, _||_}
-use Prim.Native.Nat.{ℕ}
-use mathlib.Core.List.{List}
-use lib.ListN.{take, length-take}
-use Rattle.prelude.proofs.OrLaws.{or-none, or-same}
-use Rattle.layout.specs.Padded.{paddedTo}
-use Rattle.layout.specs.Slots.{noSlots}
-use Rattle.layout.specs.Fields.{fieldList, fieldsAt, fieldsTo}
+use Rattle.prelude.proofs.Basics.{ℕ, arith, Bool, _||_, _≡_, refl, sym, _∙_, List, take, length-take, needs, not-false}
+use Rattle.prelude.proofs.Basics.{not-true, or-none, or-same}
+use Rattle.layout.proofs.Names.{noSlots, fieldList, fieldsAt, fieldsTo, paddedTo}
 use Rattle.layout.specs.private.Arrays.{Listed, Holds}
-use Rattle.layout.proofs.FieldsLaws.{holds-none, holds-outside, holds-inside}
-use Rattle.layout.proofs.FieldsLaws.{lists-bad, lists-missing, lists-good}
+use Rattle.layout.proofs.FieldsLaws.{holds-none, holds-outside, holds-inside, lists-bad, lists-missing}
+use Rattle.layout.proofs.FieldsLaws.{lists-good}
 use Rattle.layout.proofs.PaddedLaws.{padded-outside, padded-inside}
 use Rattle.layout.proofs.fields.fill_fields.Statement.{statement}
 use Rattle.layout.proofs.fields.fill_fields.Tie as tie

@@ -1,11 +1,7 @@
 -- `layout::fields::has_required` meets its contract: each row in turn is met. Assumes nothing.
-use borrow.Author.Needs.{needs}
-use borrow.Author.Tests.{not-true, not-false}
-use Prim.Native.Nat.{_-_, _≤_}
-use lib.ListN.{length, drop}
-use Rattle.layout.specs.Fields.{hasRequired}
+use Rattle.prelude.proofs.Basics.{_-_, _≤_, _≡_, sym, _∙_, length, drop, needs, not-false, not-true}
+use Rattle.layout.proofs.Names.{hasRequired}
 use Rattle.layout.proofs.FieldsLaws.{need-end, need-met, need-missing}
-use mathlib.Core.Path.{_≡_, sym, _∙_}
 use Rattle.layout.proofs.fields.has_required.Statement.{statement}
 use Rattle.layout.proofs.fields.has_required.Tie as tie
 

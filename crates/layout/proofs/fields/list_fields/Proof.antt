@@ -1,22 +1,12 @@
 -- `layout::fields::list_fields` meets its contract: each turn reads the field at the place and notes it by its row.
 -- Assumes nothing.
-use borrow.Author.Needs.{needs}
-use Prim.Native.Nat.{_-_, _<_}
-use native.Mathlib.Omega.{arith}
-use lib.ListN.{length}
+use Rattle.prelude.proofs.Basics.{_-_, _<_, arith, true, _≡_, refl, sym, _∙_, length, needs, or-false}
+use Rattle.wire.proofs.NumberLaws.{field-number}
+use Rattle.layout.proofs.Names.{fieldAt, Field, fieldsOnto, nothingInside, Slots}
+use Rattle.layout.specs.private.Arrays.{Noted}
 use Rattle.layout.proofs.FieldsLaws.{Filling, filling, filled, spoiled, fills-unknown, fills-counted, fills-kept}
 use Rattle.layout.proofs.FieldsLaws.{counted-slot, kept-slot}
 use Rattle.layout.proofs.PaddedLaws.{Marking, marks, marked, marks-bad, marks-on, field-ahead}
-use Rattle.layout.specs.Fields.{fieldsOnto}
-use Rattle.layout.specs.Padded.{nothingInside}
-use Rattle.layout.specs.private.Arrays.{Noted}
-use Rattle.layout.specs.declared.slots.Slots.{Slots}
-use Rattle.wire.specs.Field.{fieldAt}
-use Rattle.wire.specs.declared.field.Field.{Field}
-use Rattle.wire.proofs.NumberLaws.{field-number}
-use Rattle.prelude.proofs.OrLaws.{or-false}
-use mathlib.Core.Bool.{true}
-use mathlib.Core.Path.{_≡_, refl, sym, _∙_}
 use Rattle.layout.proofs.fields.list_fields.Statement.{statement}
 use Rattle.layout.proofs.fields.list_fields.Tie as tie
 

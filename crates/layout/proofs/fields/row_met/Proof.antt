@@ -1,12 +1,6 @@
 -- `layout::fields::row_met` meets its contract: a required row asks for its slot. Assumes nothing.
-use Prim.Native.Nat.{ℕ}
-use native.Mathlib.Omega.{arith}
-use mathlib.Core.Bool.{not}
-use lib.ListN.{getD}
-use lib.Dec.{eqb}
+use Rattle.prelude.proofs.Basics.{ℕ, arith, not, ap, _∙_, getD, eqb, needs}
 use Rattle.layout.proofs.FieldsLaws.{met-optional, met-required, met-past}
-use mathlib.Core.Path.{ap, _∙_}
-use borrow.Author.Needs.{needs}
 use Rattle.layout.proofs.fields.row_met.Statement.{statement}
 use Rattle.layout.proofs.fields.row_met.Tie as tie
 

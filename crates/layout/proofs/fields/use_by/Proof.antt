@@ -1,8 +1,6 @@
 -- By what the row takes and whether its field is repeated.
-use borrow.Author.Tests.{not-true, not-false}
-use mathlib.Core.Path.{sym, _∙_}
+use Rattle.prelude.proofs.Basics.{sym, _∙_, needs, not-false, not-true}
 use Rattle.layout.proofs.FieldsLaws.{use-unknown, use-counted, use-kept}
-use borrow.Author.Needs.{needs}
 use Rattle.layout.proofs.fields.use_by.Statement.{statement}
 use Rattle.layout.proofs.fields.use_by.Tie as tie
 

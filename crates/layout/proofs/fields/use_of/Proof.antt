@@ -1,11 +1,6 @@
 -- The row that is found decides; a number that no row has is unknown.
-use borrow.Author.Needs.{needs}
-use Prim.Native.Nat.{ℕ, _-_, _≤_}
-use mathlib.Core.Path.{_≡_, sym, ap, _∙_}
-use mathlib.Core.List.{List}
-use lib.ListN.{length, drop}
-use Rattle.layout.specs.Row.{rowFor}
-use Rattle.layout.specs.Fields.{useBy}
+use Rattle.prelude.proofs.Basics.{ℕ, _-_, _≤_, _≡_, sym, ap, _∙_, List, length, drop, needs}
+use Rattle.layout.proofs.Names.{rowFor, useBy}
 use Rattle.layout.proofs.RowLaws.{row-hit, row-miss, row-end}
 use Rattle.layout.proofs.FieldsLaws.{use-none}
 use Rattle.layout.proofs.fields.use_of.Statement.{statement}

@@ -1,18 +1,9 @@
 -- `layout::merge::list_inner` meets its contract: each turn reads the field at the place, and lists the parts in a
 -- part. Assumes nothing.
-use borrow.Author.Needs.{needs}
-use borrow.Author.Tests.{not-true, not-false}
-use Prim.Native.Nat.{ℕ, _+_, _-_, _<_, _≤_}
-use native.Mathlib.Omega.{arith}
-use lib.ListN.{length, length-take}
-use mathlib.Core.Path.{_≡_, sym, _∙_}
-use mathlib.Core.Bool.{Bool, true, false}
-use Rattle.prelude.proofs.OrLaws.{or-same}
-use Rattle.wire.specs.Field.{fieldAt}
-use Rattle.wire.specs.declared.field.Field.{Field}
-use Rattle.layout.specs.Merged.{isPart, partsOf}
+use Rattle.prelude.proofs.Basics.{ℕ, _+_, _-_, _≤_, _<_, arith, Bool, true, false, _≡_, sym, _∙_, length, length-take}
+use Rattle.prelude.proofs.Basics.{needs, not-false, not-true, or-same}
+use Rattle.layout.proofs.Names.{fieldAt, Field, isPart, partsOf, Part}
 use Rattle.layout.specs.private.Arrays.{Adds}
-use Rattle.layout.specs.declared.part.Part.{Part}
 use Rattle.layout.proofs.PaddedLaws.{field-ahead}
 use Rattle.layout.proofs.MergeLaws.{Passing, passing, passed, passed-flag, ended, no-more, passes-by, passes}
 use Rattle.layout.proofs.MergeLaws.{spoils, part-ends, innerOnto, innerPadded, inner-adds, inner-done}

@@ -1,11 +1,7 @@
 -- `layout::merge::merge_inner` meets its contract: the parts are listed, and each required field is among theirs.
 -- Assumes nothing.
-use borrow.Author.Needs.{needs}
-use borrow.Author.Tests.{not-true, not-false}
-use mathlib.Core.Bool.{true, false}
-use mathlib.Core.Path.{_≡_, refl, sym, _∙_}
-use Rattle.layout.specs.Slots.{noSlots}
-use Rattle.layout.specs.Merged.{partsOf, partsIn, partsOnto}
+use Rattle.prelude.proofs.Basics.{refl, sym, _∙_, needs, not-false, not-true}
+use Rattle.layout.proofs.Names.{noSlots, partsOf, partsIn, partsOnto}
 use Rattle.layout.specs.private.Arrays.{Listed}
 use Rattle.layout.proofs.JointLaws.{not-both}
 use Rattle.layout.proofs.FieldsLaws.{holds-none, lists-bad, lists-missing, lists-good}

@@ -1,9 +1,6 @@
 -- `layout::row::is_listed` meets its contract: a value is listed by its bit. Assumes nothing.
-use Prim.Native.Nat.{ℕ, _/_, _%_, _^_}
-use lib.Dec.{eqb}
-use mathlib.Core.Path.{ap, _∙_}
+use Rattle.prelude.proofs.Basics.{ℕ, _/_, _%_, _^_, ap, _∙_, eqb, needs}
 use Rattle.layout.proofs.RowLaws.{listed-any, listed-high, listed-bit}
-use borrow.Author.Needs.{needs}
 use Rattle.layout.proofs.row.is_listed.Statement.{statement}
 use Rattle.layout.proofs.row.is_listed.Tie as tie
 

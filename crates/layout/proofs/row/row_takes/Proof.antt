@@ -1,8 +1,7 @@
 -- `layout::row::row_takes` meets its contract: a slot, the number, the wire type and the value are asked in turn.
 -- Assumes nothing.
-use mathlib.Core.Path.{sym, _∙_}
+use Rattle.prelude.proofs.Basics.{sym, _∙_, needs}
 use Rattle.layout.proofs.RowLaws.{takes-no-slot, takes-other, takes-wire, takes-listed}
-use borrow.Author.Needs.{needs}
 use Rattle.layout.proofs.row.row_takes.Statement.{statement}
 use Rattle.layout.proofs.row.row_takes.Tie as tie
 

@@ -1,6 +1,6 @@
 -- `layout::rows::bytes_rows` meets its contract: the constant is the table of its message. Assumes nothing.
-use mathlib.Core.Path.{refl}
-use Rattle.layout.specs.Table.{rowsOf}
+use Rattle.prelude.proofs.Basics.{refl}
+use Rattle.layout.proofs.Names.{rowsOf}
 use Rattle.layout.proofs.rows.bytes_rows.Statement.{statement}
 use Rattle.layout.proofs.rows.bytes_rows.Tie as tie
 

@@ -1,17 +1,7 @@
 -- What one pass finds is the Execute, or there is none.
-use native.Mathlib.Omega.{arith}
-use mathlib.Core.Bool.{false}
-use mathlib.Core.Path.{ap, _∙_}
-use lib.ListN.{length}
-use borrow.Author.Tests.{not-true, not-false}
-use Rattle.args.proofs.BoundLaws.{bound-found}
-use Rattle.message.specs.Payload.{payload}
-use Rattle.message.specs.Execute.{executeFrom}
-use Rattle.message.specs.declared.request.Execute.{Execute}
-use Rattle.message.specs.declared.request.Request.{Request}
-use Rattle.message.specs.declared.request.Frame.{Frame}
+use Rattle.prelude.proofs.Basics.{arith, false, ap, _∙_, length, needs, not-false, not-true}
+use Rattle.message.proofs.Names.{bound-found, payload, executeFrom, Execute, Frame, Request}
 use Rattle.message.proofs.BoundLaws.{run-lost, run-found}
-use borrow.Author.Needs.{needs}
 use Rattle.message.proofs.execute.execute_from.Statement.{statement}
 use Rattle.message.proofs.execute.execute_from.Tie as tie
 

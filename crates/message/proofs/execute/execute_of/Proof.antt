@@ -1,5 +1,5 @@
 -- Each field by what was found of it.
-use borrow.Author.Needs.{needs}
+use Rattle.prelude.proofs.Basics.{needs}
 use Rattle.message.proofs.execute.execute_of.Statement.{statement}
 use Rattle.message.proofs.execute.execute_of.Tie as tie
 

@@ -1,29 +1,13 @@
 -- Two short fields are read by their bytes alone, to the slots that the rows give; anything else goes the long way.
-use Prim.Native.Nat.{ℕ}
-use native.Mathlib.Omega.{arith}
-use mathlib.Core.Path.{_≡_, refl, sym, ap, subst, _∙_}
-use mathlib.Core.List.{List}
-use lib.ListN.{length}
-use lib.Seq.{take-length}
-use Rattle.prelude.proofs.OrLaws.{or-same}
-use Rattle.layout.specs.Table.{rowsOf, openStmt}
-use Rattle.layout.specs.Row.{rowFor}
-use Rattle.layout.specs.Fields.{hasRequired}
-use Rattle.layout.specs.declared.slots.Slots.{Slots}
-use Rattle.args.proofs.PairLaws.{pair-bytes}
-use Rattle.args.proofs.ScalarLaws.{Held, named-fits}
-use Rattle.args.proofs.PaddedLaws.{held-short, pair-part}
-use Rattle.message.specs.Execute.{openChosen, openInside}
+use Rattle.prelude.proofs.Basics.{ℕ, arith, true, _≡_, refl, sym, ap, subst, _∙_, List, length, take-length, needs}
+use Rattle.prelude.proofs.Basics.{or-same}
+use Rattle.message.proofs.Names.{openStmt, rowsOf, rowFor, hasRequired, embedded, Slots, executePadded}
+use Rattle.message.proofs.Names.{pair-bytes, Held, named-fits, held-short, pair-part, openInside}
+use Rattle.message.proofs.Names.{openExecutePadded, Inner, Optional}
+use Rattle.message.specs.Execute.{openChosen}
 use Rattle.message.specs.private.Parts.{ofInner, Runs}
-use mathlib.Core.Bool.{true}
-use Rattle.layout.specs.Part.{embedded}
-use Rattle.args.specs.Padded.{executePadded}
-use Rattle.message.specs.declared.execute.Inner.{Inner}
-use Rattle.message.specs.declared.request.Optional.{Optional}
 use Rattle.message.specs.private.Marks.{TellsInner}
-use Rattle.message.specs.Padded.{openExecutePadded}
 use Rattle.message.proofs.PaddedLaws.{inner-again, inner-flag}
-use borrow.Author.Needs.{needs}
 use Rattle.message.proofs.execute.find_execute.Statement.{statement}
 use Rattle.message.proofs.execute.find_execute.Tie as tie
 

@@ -1,14 +1,10 @@
 -- Its own fields are read by their bytes alone, to the slots that the rows give; anything else goes the long way.
-use mathlib.Core.Path.{sym, ap, subst}
-use lib.ListN.{length}
-use lib.Seq.{take-length}
+use Rattle.prelude.proofs.Basics.{false, sym, ap, subst, length, take-length, needs}
 use Rattle.message.specs.private.Outer.{Says}
-use Rattle.message.proofs.OuterLaws.{open-paired}
-use mathlib.Core.Bool.{false}
 use Rattle.message.specs.private.Marks.{TellsOuter}
 use Rattle.message.specs.declared.outer.Outer.{Outer}
+use Rattle.message.proofs.OuterLaws.{open-paired}
 use Rattle.message.proofs.PaddedLaws.{outer-flag}
-use borrow.Author.Needs.{needs}
 use Rattle.message.proofs.execute.find_opening.Statement.{statement}
 use Rattle.message.proofs.execute.find_opening.Tie as tie
 

@@ -1,13 +1,9 @@
 -- The arrays hold the statement's fields; the Execute stands in field 2.
-use mathlib.Core.Path.{refl}
-use borrow.Author.Tests.{not-true, not-false}
-use Rattle.layout.specs.Table.{rowsOf, openStmt}
+use Rattle.prelude.proofs.Basics.{refl, needs, not-false, not-true}
 use Rattle.layout.specs.private.Arrays.{Holds}
-use Rattle.layout.proofs.ArrayLaws.{held-good}
-use Rattle.layout.specs.Part.{embedded}
+use Rattle.message.proofs.Names.{openStmt, rowsOf, embedded, held-good}
 use Rattle.message.proofs.ArrayLaws.{open-spoiled, open-without, open-held}
 use Rattle.message.proofs.PaddedLaws.{inner-flag, inner-held}
-use borrow.Author.Needs.{needs}
 use Rattle.message.proofs.execute.long_inner.Statement.{statement}
 use Rattle.message.proofs.execute.long_inner.Tie as tie
 

@@ -1,11 +1,8 @@
 -- The arrays hold the message's fields; the statement stands in field 4.
-use mathlib.Core.Path.{ap, _∙_}
-use mathlib.Core.Bool.{Bool, _||_}
-use borrow.Author.Tests.{not-true, not-false}
+use Rattle.prelude.proofs.Basics.{Bool, _||_, ap, _∙_, needs, not-false, not-true}
+use Rattle.message.proofs.Names.{ownPadded}
 use Rattle.message.proofs.ArrayLaws.{open-refused, open-whole}
-use Rattle.message.specs.Padded.{ownPadded}
 use Rattle.message.proofs.PaddedLaws.{opening-held}
-use borrow.Author.Needs.{needs}
 use Rattle.message.proofs.execute.long_opening.Statement.{statement}
 use Rattle.message.proofs.execute.long_opening.Tie as tie
 

@@ -1,13 +1,7 @@
 -- What one pass finds is the Execute, or there is none.
-use native.Mathlib.Omega.{arith}
-use mathlib.Core.Bool.{false}
-use mathlib.Core.Path.{ap}
-use borrow.Author.Tests.{not-true, not-false}
-use Rattle.args.proofs.BoundLaws.{bound-found}
-use Rattle.message.specs.Payload.{optionalBy}
-use Rattle.message.specs.Execute.{openFrom}
+use Rattle.prelude.proofs.Basics.{arith, false, ap, needs, not-false, not-true}
+use Rattle.message.proofs.Names.{bound-found, optionalBy, openFrom}
 use Rattle.message.proofs.BoundLaws.{run-lost, run-found}
-use borrow.Author.Needs.{needs}
 use Rattle.message.proofs.execute.open_from.Statement.{statement}
 use Rattle.message.proofs.execute.open_from.Tie as tie
 

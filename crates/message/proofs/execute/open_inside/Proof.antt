@@ -1,11 +1,9 @@
 -- Each arm is one clause of ofInner.
-use mathlib.Core.Path.{sym, ap, subst, _∙_}
-use Rattle.message.specs.Payload.{optionalBy}
+use Rattle.prelude.proofs.Basics.{sym, ap, subst, _∙_, needs}
+use Rattle.message.proofs.Names.{optionalBy, Inner}
 use Rattle.message.specs.private.Parts.{ofInner}
 use Rattle.message.specs.private.Marks.{TellsInner}
-use Rattle.message.specs.declared.execute.Inner.{Inner}
 use Rattle.message.proofs.PaddedLaws.{tells-as}
-use borrow.Author.Needs.{needs}
 use Rattle.message.proofs.execute.open_inside.Statement.{statement}
 use Rattle.message.proofs.execute.open_inside.Tie as tie
 

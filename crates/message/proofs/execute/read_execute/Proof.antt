@@ -1,11 +1,7 @@
 -- The Execute of the whole payload.
-use Prim.Native.Nat.{ℕ}
-use mathlib.Core.Path.{ap, _∙_}
-use Rattle.message.specs.Payload.{payload}
-use Rattle.message.specs.Execute.{executeIn, executeFrom, executeFrame}
-use Rattle.args.specs.Padded.{executePadded}
+use Rattle.prelude.proofs.Basics.{ℕ, ap, _∙_, needs}
+use Rattle.message.proofs.Names.{executePadded, payload, executeIn, executeFrom, executeFrame}
 use Rattle.message.proofs.PaddedLaws.{tells-as}
-use borrow.Author.Needs.{needs}
 use Rattle.message.proofs.execute.read_execute.Statement.{statement}
 use Rattle.message.proofs.execute.read_execute.Tie as tie
 

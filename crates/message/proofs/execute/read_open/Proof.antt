@@ -1,10 +1,9 @@
 -- Each arm is one clause of ofOpening.
-use mathlib.Core.Path.{sym, ap, subst, _∙_}
+use Rattle.prelude.proofs.Basics.{sym, ap, subst, _∙_, needs}
 use Rattle.message.specs.private.Parts.{ofOpening}
 use Rattle.message.specs.private.Marks.{TellsOpening}
 use Rattle.message.specs.declared.execute.Opening.{Opening}
 use Rattle.message.proofs.PaddedLaws.{tells-as}
-use borrow.Author.Needs.{needs}
 use Rattle.message.proofs.execute.read_open.Statement.{statement}
 use Rattle.message.proofs.execute.read_open.Tie as tie
 

@@ -1,7 +1,6 @@
 -- The tag's byte and the varint behind it are field 1; where the bytes are others, nothing is said.
-use mathlib.Core.Path.{sym, _∙_}
+use Rattle.prelude.proofs.Basics.{sym, _∙_, needs}
 use Rattle.message.proofs.FirstLaws.{starts-at}
-use borrow.Author.Needs.{needs}
 use Rattle.message.proofs.first.read_first.Statement.{statement}
 use Rattle.message.proofs.first.read_first.Tie as tie
 

@@ -1,11 +1,8 @@
 -- Each arm is one clause of argumentIn, and the arguments lie within the frame.
-use native.Mathlib.Omega.{arith}
-use mathlib.Core.Path.{sym, ap, _∙_}
-use lib.Seq.{length-take-le}
-use Rattle.args.specs.declared.arguments.Arguments.{Arguments}
-use Rattle.message.specs.Frame.{argumentAt, argumentIn}
+use Rattle.prelude.proofs.Basics.{arith, sym, ap, _∙_, length-take-le, needs}
+use Rattle.message.proofs.Names.{Arguments, argumentIn}
+use Rattle.message.specs.Frame.{argumentAt}
 use Rattle.message.proofs.UsedLaws.{read-within}
-use borrow.Author.Needs.{needs}
 use Rattle.message.proofs.frame.argument.Statement.{statement}
 use Rattle.message.proofs.frame.argument.Tie as tie
 

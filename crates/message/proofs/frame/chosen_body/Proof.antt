@@ -1,13 +1,9 @@
 -- The chosen part lies within the frame.
-use Prim.Native.Nat.{ℕ, _+_}
+use Rattle.prelude.proofs.Basics.{ℕ, _+_, arith, ap, _∙_, length, take, drop, needs}
 use native.Mathlib.Nat.{add-sub-cancel-left}
-use native.Mathlib.Omega.{arith}
-use mathlib.Core.Path.{ap, _∙_}
-use lib.ListN.{length, take, drop}
-use Rattle.layout.specs.declared.part.Part.{Part}
+use Rattle.message.proofs.Names.{Part}
 use Rattle.message.specs.Frame.{bodyIn}
 use Rattle.message.proofs.UsedLaws.{chosen-within, body-length}
-use borrow.Author.Needs.{needs}
 use Rattle.message.proofs.frame.chosen_body.Statement.{statement}
 use Rattle.message.proofs.frame.chosen_body.Tie as tie
 

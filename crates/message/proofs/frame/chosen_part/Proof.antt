@@ -1,7 +1,6 @@
 -- Each arm is one clause of partOf.
-use mathlib.Core.Path.{sym, ap, _∙_}
-use Rattle.message.specs.Frame.{partOf}
-use borrow.Author.Needs.{needs}
+use Rattle.prelude.proofs.Basics.{sym, ap, _∙_, needs}
+use Rattle.message.proofs.Names.{partOf}
 use Rattle.message.proofs.frame.chosen_part.Statement.{statement}
 use Rattle.message.proofs.frame.chosen_part.Tie as tie
 

@@ -1,12 +1,8 @@
 -- The head tells the type and the frame's bytes, or the refusal.
-use mathlib.Core.Path.{sym, ap, _∙_}
-use lib.ListN.{take}
-use lib.Seq.{length-take-le}
-use Rattle.message.specs.Frame.{frameIn, ofHead, frameOf}
+use Rattle.prelude.proofs.Basics.{sym, ap, _∙_, take, length-take-le, needs}
+use Rattle.message.proofs.Names.{frameIn, ofHead, frameOf, kindPadded, headPadded, paddedOf}
 use Rattle.message.proofs.WithinLaws.{frame-within}
-use Rattle.message.specs.Padded.{kindPadded, headPadded, paddedOf}
 use Rattle.message.proofs.PaddedLaws.{frame-tells, refused-tells}
-use borrow.Author.Needs.{needs}
 use Rattle.message.proofs.frame.read_frame.Statement.{statement}
 use Rattle.message.proofs.frame.read_frame.Tie as tie
 

@@ -1,9 +1,8 @@
 -- Each arm is frameIn at its message type.
-use Rattle.message.specs.Frame.{frameIn}
+use Rattle.prelude.proofs.Basics.{needs}
+use Rattle.message.proofs.Names.{frameIn, kindPadded}
 use Rattle.message.proofs.MessageLaws.{kind-unknown}
-use Rattle.message.specs.Padded.{kindPadded}
 use Rattle.message.proofs.PaddedLaws.{as-kind}
-use borrow.Author.Needs.{needs}
 use Rattle.message.proofs.frame.read_kind.Statement.{statement}
 use Rattle.message.proofs.frame.read_kind.Tie as tie
 

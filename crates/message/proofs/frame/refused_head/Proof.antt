@@ -1,8 +1,7 @@
 -- The test is refusedHead's.
-use borrow.Author.Tests.{eq-eqb, ne-eqb}
-use Rattle.prelude.proofs.Cases.{yes, no as without}
+use Rattle.prelude.proofs.Basics.{eq-eqb, ne-eqb, yes, no as without}
 use Rattle.protocol.specs.Reason as Reason
-use Rattle.message.specs.declared.request.Frame.{Frame}
+use Rattle.message.proofs.Names.{Frame}
 use Rattle.message.proofs.frame.refused_head.Statement.{statement}
 use Rattle.message.proofs.frame.refused_head.Tie as tie
 

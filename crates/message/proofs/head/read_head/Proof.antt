@@ -1,7 +1,6 @@
 -- Each test of the code is one of headOf's, in its order.
-use mathlib.Core.Path.{sym, _∙_}
+use Rattle.prelude.proofs.Basics.{sym, _∙_, needs}
 use Rattle.message.proofs.HeadLaws.{head-short, head-empty, head-large, head-cut, head-whole}
-use borrow.Author.Needs.{needs}
 use Rattle.message.proofs.head.read_head.Statement.{statement}
 use Rattle.message.proofs.head.read_head.Tie as tie
 

@@ -1,5 +1,5 @@
 -- Each test of the code is one of fieldOf's, in its order.
-use native.Mathlib.Omega.{arith}
+use Rattle.prelude.proofs.Basics.{arith}
 use Rattle.message.proofs.MessageLaws.{chosen-find, chosen-insert, chosen-update, chosen-delete, chosen-last}
 use Rattle.message.proofs.operation.field_of.Statement.{statement}
 use Rattle.message.proofs.operation.field_of.Tie as tie

@@ -1,16 +1,10 @@
 -- Where the fields stand in their order, laws say what the rows make of them; where not, nothing is said.
-use native.Mathlib.Omega.{arith}
-use Prim.Native.Nat.{ℕ}
-use mathlib.Core.Path.{sym, ap, subst, _∙_}
-use mathlib.Core.List.{List}
-use lib.ListN.{length}
-use lib.Seq.{take-length}
+use Rattle.prelude.proofs.Basics.{ℕ, arith, sym, ap, subst, _∙_, List, length, take-length, needs}
+use Rattle.message.proofs.Names.{First}
 use Rattle.message.specs.private.First.{Begins, Starts}
 use Rattle.message.specs.private.Marks.{TellsFirst}
-use Rattle.message.specs.declared.first.First.{First}
 use Rattle.message.proofs.OuterLaws.{opens-two, opens-three}
 use Rattle.message.proofs.PaddedLaws.{outer-two, outer-three}
-use borrow.Author.Needs.{needs}
 use Rattle.message.proofs.outer.read_outer.Statement.{statement}
 use Rattle.message.proofs.outer.read_outer.Tie as tie
 

@@ -1,10 +1,8 @@
 -- The fields up to the frame's end are those from the payload on.
-use mathlib.Core.Path.{_∙_}
-use Rattle.prelude.proofs.OrLaws.{or-same}
+use Rattle.prelude.proofs.Basics.{_∙_, needs, or-same}
 use Rattle.layout.proofs.ArrayLaws.{holds-whole}
-use Rattle.message.specs.Payload.{payload}
+use Rattle.message.proofs.Names.{payload}
 use Rattle.message.proofs.PaddedLaws.{own-whole}
-use borrow.Author.Needs.{needs}
 use Rattle.message.proofs.payload.fill_payload.Statement.{statement}
 use Rattle.message.proofs.payload.fill_payload.Tie as tie
 

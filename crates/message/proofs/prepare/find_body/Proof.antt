@@ -1,23 +1,11 @@
 -- Two short fields are read by their bytes alone, to the slots that the rows give; anything else goes the long way.
-use Prim.Native.Nat.{ℕ}
-use native.Mathlib.Omega.{arith}
-use mathlib.Core.Path.{refl, sym, ap, subst, _∙_}
-use mathlib.Core.List.{List}
-use lib.ListN.{length}
-use lib.Seq.{take-length}
-use Rattle.prelude.proofs.OrLaws.{or-same}
-use Rattle.layout.specs.Table.{rowsOf, prepareStmt}
-use Rattle.layout.specs.Row.{rowFor}
-use Rattle.layout.specs.Fields.{hasRequired}
-use Rattle.layout.specs.declared.slots.Slots.{Slots}
-use Rattle.args.proofs.PairLaws.{pair-bytes}
-use Rattle.args.proofs.ScalarLaws.{Held, named-fits}
-use Rattle.args.proofs.PaddedLaws.{held-short, pair-part}
+use Rattle.prelude.proofs.Basics.{ℕ, arith, refl, sym, ap, subst, _∙_, List, length, take-length, needs, or-same}
+use Rattle.message.proofs.Names.{prepareStmt, rowsOf, rowFor, hasRequired, Slots, pair-bytes, Held, named-fits}
+use Rattle.message.proofs.Names.{held-short, pair-part}
 use Rattle.message.specs.Prepare.{prepareRead}
 use Rattle.message.specs.private.Parts.{Chooses}
 use Rattle.message.specs.private.Marks.{TellsChosen}
 use Rattle.message.proofs.PaddedLaws.{chosen-again}
-use borrow.Author.Needs.{needs}
 use Rattle.message.proofs.prepare.find_body.Statement.{statement}
 use Rattle.message.proofs.prepare.find_body.Tie as tie
 

@@ -1,15 +1,8 @@
 -- A StmtExecute's arguments are found in one pass; of any other body the answer alone counts.
-use native.Mathlib.Omega.{arith}
-use mathlib.Core.Bool.{true}
-use mathlib.Core.Path.{refl, _∙_}
-use mathlib.Core.List.{[]}
-use borrow.Author.Tests.{not-true, not-false}
-use Rattle.layout.proofs.ArrayLaws.{held-good}
-use Rattle.layout.specs.Part.{embedded}
-use Rattle.args.proofs.BoundLaws.{bound-found}
+use Rattle.prelude.proofs.Basics.{arith, true, refl, _∙_, [], needs, not-false, not-true}
+use Rattle.message.proofs.Names.{embedded, held-good, bound-found}
 use Rattle.message.proofs.MessageLaws.{body-list-bad, body-list}
 use Rattle.message.proofs.BoundLaws.{body-lost, body-found}
-use borrow.Author.Needs.{needs}
 use Rattle.message.proofs.prepare.long_body.Statement.{statement}
 use Rattle.message.proofs.prepare.long_body.Tie as tie
 

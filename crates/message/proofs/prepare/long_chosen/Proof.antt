@@ -1,12 +1,8 @@
 -- The arrays hold the statement's fields; the body stands in the field that the type chooses.
-use mathlib.Core.Path.{refl}
-use borrow.Author.Tests.{not-true, not-false}
-use Rattle.layout.specs.Table.{rowsOf, prepareStmt}
+use Rattle.prelude.proofs.Basics.{refl, needs, not-false, not-true}
 use Rattle.layout.specs.private.Arrays.{Holds}
-use Rattle.layout.proofs.ArrayLaws.{held-good}
-use Rattle.layout.specs.Part.{embedded}
+use Rattle.message.proofs.Names.{prepareStmt, rowsOf, embedded, held-good}
 use Rattle.message.proofs.ArrayLaws.{prepare-spoiled, prepare-without, prepare-held}
-use borrow.Author.Needs.{needs}
 use Rattle.message.proofs.prepare.long_chosen.Statement.{statement}
 use Rattle.message.proofs.prepare.long_chosen.Tie as tie
 

@@ -1,12 +1,8 @@
 -- Its body's arguments tell whether a Prepare is good.
-use mathlib.Core.Path.{ap, _∙_}
-use borrow.Author.Tests.{not-true, not-false}
+use Rattle.prelude.proofs.Basics.{ap, _∙_, needs, not-false, not-true}
 use Rattle.protocol.specs.Client as Client
-use Rattle.layout.specs.Part.{low32}
-use Rattle.message.specs.Prepare.{prepareFrom}
-use Rattle.message.specs.declared.request.Request.{Request}
+use Rattle.message.proofs.Names.{low32, prepareFrom, Request}
 use Rattle.message.proofs.MessageLaws.{payload-bad, payload-good}
-use borrow.Author.Needs.{needs}
 use Rattle.message.proofs.prepare.prepare_from.Statement.{statement}
 use Rattle.message.proofs.prepare.prepare_from.Tie as tie
 

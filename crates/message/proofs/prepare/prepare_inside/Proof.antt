@@ -1,10 +1,9 @@
 -- Each arm is one clause of ofChosen.
-use mathlib.Core.Path.{sym, ap, subst, _∙_}
+use Rattle.prelude.proofs.Basics.{sym, ap, subst, _∙_, needs}
+use Rattle.message.proofs.Names.{Chosen}
 use Rattle.message.specs.private.Parts.{ofChosen}
 use Rattle.message.specs.private.Marks.{TellsChosen}
-use Rattle.message.specs.declared.prepare.Chosen.{Chosen}
 use Rattle.message.proofs.PaddedLaws.{tells}
-use borrow.Author.Needs.{needs}
 use Rattle.message.proofs.prepare.prepare_inside.Statement.{statement}
 use Rattle.message.proofs.prepare.prepare_inside.Tie as tie
 

@@ -1,14 +1,8 @@
 -- A text alone is a body without arguments; anything else goes the long way.
-use Prim.Native.Nat.{ℕ}
-use native.Mathlib.Omega.{arith}
-use mathlib.Core.Path.{sym, ap, _∙_}
-use mathlib.Core.List.{List}
-use lib.ListN.{length}
-use lib.Seq.{take-length}
-use Rattle.args.proofs.TextLaws.{told}
+use Rattle.prelude.proofs.Basics.{ℕ, arith, sym, ap, _∙_, List, length, take-length, needs}
+use Rattle.message.proofs.Names.{told}
 use Rattle.message.specs.Prepare.{bodyIn}
 use Rattle.message.proofs.BoundLaws.{body-text}
-use borrow.Author.Needs.{needs}
 use Rattle.message.proofs.prepare.read_body.Statement.{statement}
 use Rattle.message.proofs.prepare.read_body.Tie as tie
 

@@ -1,10 +1,9 @@
 -- Each arm is one clause of ofStmt.
-use mathlib.Core.Path.{sym, ap, subst, _∙_}
+use Rattle.prelude.proofs.Basics.{sym, ap, subst, _∙_, needs}
 use Rattle.message.specs.private.Parts.{ofStmt}
 use Rattle.message.specs.private.Marks.{TellsStmt}
 use Rattle.message.specs.declared.prepare.Stmt.{Stmt}
 use Rattle.message.proofs.PaddedLaws.{tells-as}
-use borrow.Author.Needs.{needs}
 use Rattle.message.proofs.prepare.read_prepare.Statement.{statement}
 use Rattle.message.proofs.prepare.read_prepare.Tie as tie
 

@@ -1,7 +1,6 @@
 -- Each arm is one clause of argsOf.
-use mathlib.Core.Path.{sym, ap, _∙_}
-use Rattle.message.specs.Request.{argsOf}
-use borrow.Author.Needs.{needs}
+use Rattle.prelude.proofs.Basics.{sym, ap, _∙_, needs}
+use Rattle.message.proofs.Names.{argsOf}
 use Rattle.message.proofs.request.args_of.Statement.{statement}
 use Rattle.message.proofs.request.args_of.Tie as tie
 

@@ -1,7 +1,6 @@
 -- Each arm is one clause of bodyOf.
-use mathlib.Core.Path.{sym, ap}
+use Rattle.prelude.proofs.Basics.{sym, ap, needs}
 use Rattle.message.specs.Request.{bodyOf}
-use borrow.Author.Needs.{needs}
 use Rattle.message.proofs.request.body_of.Statement.{statement}
 use Rattle.message.proofs.request.body_of.Tie as tie
 

@@ -1,6 +1,5 @@
 -- Each field is what its reader answers.
-use mathlib.Core.Path.{refl}
-use borrow.Author.Needs.{needs}
+use Rattle.prelude.proofs.Basics.{refl, needs}
 use Rattle.message.proofs.simple.fetch_of.Statement.{statement}
 use Rattle.message.proofs.simple.fetch_of.Tie as tie
 

@@ -1,5 +1,5 @@
 -- The answer of fill_payload over no rows.
-use borrow.Author.Needs.{needs}
+use Rattle.prelude.proofs.Basics.{needs}
 use Rattle.message.proofs.simple.is_plain.Statement.{statement}
 use Rattle.message.proofs.simple.is_plain.Tie as tie
 

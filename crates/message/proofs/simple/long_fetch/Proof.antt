@@ -1,9 +1,7 @@
 -- The arrays hold the message's fields.
-use mathlib.Core.Path.{_∙_}
-use borrow.Author.Tests.{not-true, not-false}
-use Rattle.message.specs.Simple.{fetchFrame}
+use Rattle.prelude.proofs.Basics.{_∙_, needs, not-false, not-true}
+use Rattle.message.proofs.Names.{fetchFrame}
 use Rattle.message.proofs.ArrayLaws.{fetch-spoiled, fetch-held}
-use borrow.Author.Needs.{needs}
 use Rattle.message.proofs.simple.long_fetch.Statement.{statement}
 use Rattle.message.proofs.simple.long_fetch.Tie as tie
 

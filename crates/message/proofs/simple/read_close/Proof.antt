@@ -1,10 +1,8 @@
 -- The arrays hold the message's fields.
-use borrow.Author.Tests.{not-true, not-false}
+use Rattle.prelude.proofs.Basics.{needs, not-false, not-true}
 use Rattle.protocol.specs.Client as Client
-use Rattle.message.specs.Simple.{closeFrame}
-use Rattle.message.specs.declared.request.Request.{Request}
+use Rattle.message.proofs.Names.{closeFrame, Request}
 use Rattle.message.proofs.ArrayLaws.{named-spoiled, named-held}
-use borrow.Author.Needs.{needs}
 use Rattle.message.proofs.simple.read_close.Statement.{statement}
 use Rattle.message.proofs.simple.read_close.Tie as tie
 

@@ -1,17 +1,10 @@
 -- Two fields are read by their bytes alone, to the slots that the rows give; anything else goes the long way.
-use native.Mathlib.Omega.{arith}
-use mathlib.Core.Path.{sym, ap, subst, _∙_}
-use lib.ListN.{length}
-use lib.Seq.{take-length}
-use mathlib.Core.Bool.{false}
-use Rattle.message.specs.Simple.{fetchFrame}
-use Rattle.message.specs.Padded.{ownPadded}
-use Rattle.message.specs.declared.first.First.{First}
+use Rattle.prelude.proofs.Basics.{arith, false, sym, ap, subst, _∙_, length, take-length, needs}
+use Rattle.message.proofs.Names.{fetchFrame, ownPadded, First}
 use Rattle.message.specs.private.First.{Begins}
 use Rattle.message.specs.private.Marks.{TellsFirst}
 use Rattle.message.proofs.FirstLaws.{fetch-found}
 use Rattle.message.proofs.PaddedLaws.{fetch-flag, tells-as}
-use borrow.Author.Needs.{needs}
 use Rattle.message.proofs.simple.read_fetch.Statement.{statement}
 use Rattle.message.proofs.simple.read_fetch.Tie as tie
 

@@ -1,11 +1,8 @@
 -- The payload is good or not.
-use mathlib.Core.Path.{sym, _∙_}
-use borrow.Author.Tests.{not-true, not-false}
+use Rattle.prelude.proofs.Basics.{sym, _∙_, needs, not-false, not-true}
 use Rattle.protocol.specs.Client as Client
-use Rattle.message.specs.Simple.{resetFrame}
-use Rattle.message.specs.declared.request.Request.{Request}
+use Rattle.message.proofs.Names.{resetFrame, Request}
 use Rattle.message.proofs.MessageLaws.{payload-bad, payload-good}
-use borrow.Author.Needs.{needs}
 use Rattle.message.proofs.simple.read_reset.Statement.{statement}
 use Rattle.message.proofs.simple.read_reset.Tie as tie
 

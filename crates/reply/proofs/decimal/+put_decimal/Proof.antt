@@ -1,17 +1,15 @@
 -- `reply::decimal::put_decimal` meets its contract: the last digit behind the others, which a call on the tenth of the
 -- number puts. The measure is the number. Assumes nothing.
-use Prim.Native.Nat.{ℕ, _<_}
-use borrow.Author.Needs.{needs}
-use native.Mathlib.Omega.{arith}
+use Rattle.prelude.proofs.Basics.{ℕ, _<_, arith, needs}
 use borrow.Fn.Kinds.{In}
 use borrow.Fn.PlainCycle.{Measures, is, falls, and}
+use Rattle.encode.proofs.put.put_byte.Reads as put-byte-reads
 use Rattle.reply.proofs.DecimalLaws.{one-digit, last-digit}
+use Rattle.reply.proofs.decimal.+put_decimal.{statement}
+use Rattle.reply.proofs.decimal.+put_decimal.Tie.{close}
 use Rattle.reply.proofs.decimal.put_decimal.Reads as put-decimal
 use Rattle.reply.proofs.decimal.put_decimal.Kinds as put-decimal-kinds
 use Rattle.reply.proofs.decimal.+put_decimal.Lts-put_decimal as put-decimal-lts
-use Rattle.encode.proofs.put.put_byte.Reads as put-byte-reads
-use Rattle.reply.proofs.decimal.+put_decimal.{statement}
-use Rattle.reply.proofs.decimal.+put_decimal.Tie.{close}
 
 abbrev μ-put-decimal : Measures 1 put-decimal-kinds.ps ℕ
 μ-put-decimal κs a = a .1 .1 .0

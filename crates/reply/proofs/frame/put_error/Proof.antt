@@ -1,7 +1,7 @@
 -- `reply::frame::put_error` meets its contract: the four fields stand one behind the other. Assumes nothing.
-use borrow.Author.Needs.{needs}
-use Rattle.reply.specs.Frame.{errorPayload}
+use Rattle.prelude.proofs.Basics.{needs}
 use Rattle.encode.proofs.PutsLaws.{puts-then}
+use Rattle.reply.specs.Frame.{errorPayload}
 use Rattle.reply.proofs.frame.put_error.Statement.{statement}
 use Rattle.reply.proofs.frame.put_error.Tie as tie
 

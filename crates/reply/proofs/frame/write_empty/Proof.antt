@@ -1,8 +1,6 @@
 -- `reply::frame::write_empty` meets its contract: the head is the whole frame, put where there is room.
 -- Assumes nothing.
-use borrow.Author.Needs.{needs}
-use native.Mathlib.Omega.{arith}
-use mathlib.Core.List.{[]}
+use Rattle.prelude.proofs.Basics.{arith, [], needs}
 use Rattle.encode.specs.Frame.{frame}
 use Rattle.encode.proofs.PutsLaws.{puts-none, puts-room}
 use Rattle.reply.proofs.frame.write_empty.Statement.{statement}

@@ -1,8 +1,5 @@
 -- `reply::frame::write_end` meets its contract: one empty frame behind the other. Assumes nothing.
-use borrow.Author.Needs.{needs}
-use native.Mathlib.Omega.{arith}
-use mathlib.Core.Path.{refl}
-use mathlib.Core.List.{[], _++_}
+use Rattle.prelude.proofs.Basics.{arith, refl, [], _++_, needs}
 use Rattle.encode.specs.Frame.{frame}
 use Rattle.encode.proofs.PutsLaws.{puts-none, puts-room, puts-then, puts-rest}
 use Rattle.reply.specs.Frame.{stmtExecuteOk}

@@ -1,11 +1,9 @@
 -- `reply::frame::write_error` meets its contract: the head states the length that is counted, and the payload stands
 -- behind it. Assumes nothing.
-use borrow.Author.Needs.{needs}
-use native.Mathlib.Omega.{arith}
-use lib.ListN.{length}
+use Rattle.prelude.proofs.Basics.{arith, length, needs}
 use Rattle.varint.proofs.VarintLaws.{varint-length}
-use Rattle.reply.specs.Frame.{errorFrame}
 use Rattle.encode.proofs.PutsLaws.{puts-none, puts-room}
+use Rattle.reply.specs.Frame.{errorFrame}
 use Rattle.reply.proofs.FrameLaws.{error-framed, payload-length}
 use Rattle.reply.proofs.frame.write_error.Statement.{statement}
 use Rattle.reply.proofs.frame.write_error.Tie as tie

@@ -1,5 +1,5 @@
 -- `reply::text::put_kind` meets its contract: the type decides which of two words is put. Assumes nothing.
-use borrow.Author.Needs.{needs}
+use Rattle.prelude.proofs.Basics.{needs}
 use Rattle.encode.proofs.PutsLaws.{puts-as}
 use Rattle.reply.proofs.TextLaws.{kind-array, kind-object}
 use Rattle.reply.proofs.text.put_kind.Statement.{statement}

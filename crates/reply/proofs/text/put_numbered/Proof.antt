@@ -1,5 +1,5 @@
 -- `reply::text::put_numbered` meets its contract: the three parts stand one behind the other. Assumes nothing.
-use borrow.Author.Needs.{needs}
+use Rattle.prelude.proofs.Basics.{needs}
 use Rattle.encode.proofs.PutsLaws.{puts-then}
 use Rattle.reply.proofs.text.put_numbered.Statement.{statement}
 use Rattle.reply.proofs.text.put_numbered.Tie as tie

@@ -1,5 +1,5 @@
 -- `reply::text::put_text` meets its contract: one law of `TextLaws` for each text. Assumes nothing.
-use borrow.Author.Needs.{needs}
+use Rattle.prelude.proofs.Basics.{needs}
 use Rattle.encode.proofs.PutsLaws.{puts-as}
 use Rattle.reply.proofs.TextLaws.{text-7, text-8, text-9, text-10, text-11, text-other}
 use Rattle.reply.proofs.text.put_text.Statement.{statement}

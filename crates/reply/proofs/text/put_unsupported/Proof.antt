@@ -1,5 +1,5 @@
 -- `reply::text::put_unsupported` meets its contract: its parts stand one behind the other. Assumes nothing.
-use borrow.Author.Needs.{needs}
+use Rattle.prelude.proofs.Basics.{needs}
 use Rattle.encode.proofs.PutsLaws.{puts-then}
 use Rattle.reply.proofs.text.put_unsupported.Statement.{statement}
 use Rattle.reply.proofs.text.put_unsupported.Tie as tie

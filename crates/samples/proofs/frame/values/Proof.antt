@@ -1,7 +1,5 @@
 -- `samples::frame::values` is safe and ends: the index is below the number of bytes. Assumes nothing.
-use Prim.Native.Nat.{_-_}
-use lib.ListN.{length}
-use borrow.Author.Needs.{needs}
+use Rattle.prelude.proofs.Basics.{_-_, length, needs}
 use Rattle.samples.proofs.frame.values.Statement.{statement}
 use Rattle.samples.proofs.frame.values.Tie as tie
 

@@ -1,5 +1,5 @@
 -- `samples::given::find` is safe and ends: the number of turns left falls. Assumes nothing.
-use borrow.Author.Needs.{needs}
+use Rattle.prelude.proofs.Basics.{needs}
 use Rattle.samples.proofs.given.find.Statement.{statement}
 use Rattle.samples.proofs.given.find.Tie as tie
 

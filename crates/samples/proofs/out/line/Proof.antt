@@ -1,6 +1,5 @@
 -- `samples::out::line` is safe and ends. Assumes nothing.
-use Prim.Native.Nat.{_-_}
-use borrow.Author.Needs.{needs}
+use Rattle.prelude.proofs.Basics.{_-_, needs}
 use Rattle.samples.proofs.out.line.Statement.{statement}
 use Rattle.samples.proofs.out.line.Tie as tie
 

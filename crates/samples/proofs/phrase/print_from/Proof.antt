@@ -1,7 +1,5 @@
 -- `samples::phrase::print_from` is safe and ends at the end of the text. Assumes nothing.
-use Prim.Native.Nat.{_-_}
-use lib.ListN.{length}
-use borrow.Author.Needs.{needs}
+use Rattle.prelude.proofs.Basics.{_-_, length, needs}
 use Rattle.samples.proofs.phrase.print_from.Statement.{statement}
 use Rattle.samples.proofs.phrase.print_from.Tie as tie
 

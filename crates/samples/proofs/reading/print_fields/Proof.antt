@@ -1,5 +1,5 @@
 -- `samples::reading::print_fields` is safe and ends: the number of turns left falls. Assumes nothing.
-use borrow.Author.Needs.{needs}
+use Rattle.prelude.proofs.Basics.{needs}
 use Rattle.samples.proofs.reading.print_fields.Statement.{statement}
 use Rattle.samples.proofs.reading.print_fields.Tie as tie
 

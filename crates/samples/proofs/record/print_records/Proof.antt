@@ -1,7 +1,5 @@
 -- `samples::record::print_records` is safe and ends: each record goes on. Assumes nothing.
-use Prim.Native.Nat.{_-_}
-use lib.ListN.{length}
-use borrow.Author.Needs.{needs}
+use Rattle.prelude.proofs.Basics.{_-_, length, needs}
 use Rattle.samples.proofs.record.print_records.Statement.{statement}
 use Rattle.samples.proofs.record.print_records.Tie as tie
 

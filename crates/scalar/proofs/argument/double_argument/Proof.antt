@@ -1,7 +1,5 @@
 -- The test is the one by which `nanBits` holds.
-use mathlib.Core.Path.{_≡_}
-use mathlib.Core.Bool.{false}
-use native.Mathlib.Omega.{arith}
+use Rattle.prelude.proofs.Basics.{arith, false, _≡_}
 use lib.Ieee.{binary64, nanBits}
 use Rattle.scalar.proofs.ArgumentLaws.{is-nan, no-nan, asked}
 use Rattle.scalar.proofs.argument.double_argument.Statement.{statement}

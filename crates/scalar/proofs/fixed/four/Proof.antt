@@ -1,6 +1,5 @@
 -- Four bytes by place are `little 4`; sums of bytes stay below 2 ^ 32.
-use borrow.Author.Needs.{needs}
-use native.Mathlib.Omega.{arith}
+use Rattle.prelude.proofs.Basics.{arith, needs}
 use Rattle.scalar.proofs.FixedLaws.{little-four}
 use Rattle.scalar.proofs.fixed.four.Statement.{statement}
 use Rattle.scalar.proofs.fixed.four.Tie as tie

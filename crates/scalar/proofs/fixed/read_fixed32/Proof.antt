@@ -1,6 +1,5 @@
 -- Each of the two tests that the value passes the end, and the value of `four`.
-use borrow.Author.Needs.{needs}
-use native.Mathlib.Omega.{arith}
+use Rattle.prelude.proofs.Basics.{arith, needs}
 use Rattle.scalar.proofs.FixedLaws.{fixed-bad, fixed-whole}
 use Rattle.scalar.proofs.fixed.read_fixed32.Statement.{statement}
 use Rattle.scalar.proofs.fixed.read_fixed32.Tie as tie

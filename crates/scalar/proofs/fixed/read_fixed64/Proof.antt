@@ -1,7 +1,5 @@
 -- Each of the two tests that the value passes the end; low and high four bytes by `little-add`.
-use Prim.Native.Nat.{_+_, _*_, _^_}
-use borrow.Author.Needs.{needs}
-use native.Mathlib.Omega.{arith}
+use Rattle.prelude.proofs.Basics.{_+_, _*_, _^_, arith, needs}
 use Rattle.scalar.proofs.FixedLaws.{little-add, fixed-bad, fixed-whole}
 use Rattle.scalar.proofs.fixed.read_fixed64.Statement.{statement}
 use Rattle.scalar.proofs.fixed.read_fixed64.Tie as tie

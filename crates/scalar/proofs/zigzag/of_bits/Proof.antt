@@ -1,7 +1,5 @@
 -- Below 2 ^ 63 the bits are the number; from there on they are -1 less their complement.
-use mathlib.Core.Path.{ap}
-use native.Mathlib.Omega.{arith}
-use borrow.Author.Needs.{needs}
+use Rattle.prelude.proofs.Basics.{arith, ap, needs}
 use mir.Syntax.{w64}
 use mir.Val.{toZ}
 use mir.ValLaws.{toZ-fits, ofZ-toZ}

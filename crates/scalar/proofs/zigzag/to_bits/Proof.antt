@@ -1,6 +1,5 @@
 -- From 0 on the number is its own bits; below 0 they are the complement of the bits of -1 - v.
-use mathlib.Core.Path.{_∙_}
-use native.Mathlib.Omega.{arith}
+use Rattle.prelude.proofs.Basics.{arith, _∙_}
 use lib.IntN.{ℤ}
 use mir.Syntax.{w64}
 use mir.Val.{SFits, toZ, ofZ}

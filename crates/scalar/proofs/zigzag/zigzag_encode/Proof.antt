@@ -1,7 +1,5 @@
 -- Twice the bits, and for a negative number the complement of that, are its zigzag.
-use mathlib.Core.Path.{_≡_, _∙_}
-use native.Mathlib.Omega.{arith}
-use borrow.Author.Needs.{needs}
+use Rattle.prelude.proofs.Basics.{arith, _≡_, _∙_, needs}
 use mir.Syntax.{w64}
 use mir.Val.{ofZ}
 use Rattle.scalar.proofs.SignedLaws.{same-bits}

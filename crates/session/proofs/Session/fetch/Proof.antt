@@ -1,8 +1,6 @@
 -- The place is the one that the search finds. Assumes nothing.
-use mathlib.Core.Path.{ap, _∙_}
-use borrow.Author.Needs.{needs}
-use Rattle.session.specs.Tables.{fetchedAt}
-use Rattle.session.specs.Words.{sessionOf}
+use Rattle.prelude.proofs.Basics.{ap, _∙_, needs}
+use Rattle.session.proofs.Names.{fetchedAt, sessionOf}
 use Rattle.session.proofs.Session.fetch.Statement.{statement}
 use Rattle.session.proofs.Session.fetch.Tie as tie
 

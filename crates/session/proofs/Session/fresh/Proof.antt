@@ -1,5 +1,5 @@
 -- Words that are all 0 hold the fresh session. Assumes nothing.
-use Rattle.session.specs.Words.{wordCount}
+use Rattle.session.proofs.Names.{wordCount}
 use Rattle.session.proofs.WordLaws.{holds-fresh}
 use Rattle.session.proofs.Session.fresh.Statement.{statement}
 use Rattle.session.proofs.Session.fresh.Tie as tie

@@ -1,8 +1,7 @@
 -- The place is the one that the search finds. Assumes nothing.
-use mathlib.Core.Path.{ap, _∙_}
-use borrow.Author.Needs.{needs}
+use Rattle.prelude.proofs.Basics.{ap, _∙_, needs}
+use Rattle.session.proofs.Names.{sessionOf}
 use Rattle.session.specs.Tables.{preparedAt}
-use Rattle.session.specs.Words.{sessionOf}
 use Rattle.session.proofs.Session.prepare.Statement.{statement}
 use Rattle.session.proofs.Session.prepare.Tie as tie
 

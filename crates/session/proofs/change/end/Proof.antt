@@ -1,11 +1,6 @@
 -- The cursors before the place that pass have ended; the others are as they were. Assumes nothing.
-use Prim.Native.Nat.{_-_}
-use native.Mathlib.Omega.{arith}
-use mathlib.Core.Logic.{⊎-elim}
-use mathlib.Core.Path.{sym, _∙_}
-use borrow.Author.Needs.{needs}
-use Rattle.session.specs.Entry.{passes}
-use Rattle.session.specs.Tables.{maxCursors}
+use Rattle.prelude.proofs.Basics.{_-_, arith, sym, _∙_, ⊎-elim, needs}
+use Rattle.session.proofs.Names.{passes, maxCursors}
 use Rattle.session.proofs.ChangeLaws.{Ending, begins, all-ended, ends-it, leaves-it}
 use Rattle.session.proofs.change.end.Statement.{statement}
 use Rattle.session.proofs.change.end.Tie as tie

@@ -1,7 +1,6 @@
 -- The new number of rows sent is the one that `raise` says. Assumes nothing.
-use mathlib.Core.Path.{_∙_}
-use borrow.Author.Needs.{needs}
-use Rattle.session.specs.Words.{sessionOf}
+use Rattle.prelude.proofs.Basics.{_∙_, needs}
+use Rattle.session.proofs.Names.{sessionOf}
 use Rattle.session.proofs.ChangeLaws.{raises}
 use Rattle.session.proofs.change.fetch.Statement.{statement}
 use Rattle.session.proofs.change.fetch.Tie as tie

@@ -1,8 +1,6 @@
 -- The statement's cursor ends, then its place is emptied. Assumes nothing.
-use mathlib.Core.Path.{ap, _∙_}
-use borrow.Author.Needs.{needs}
-use Rattle.session.specs.Entry.{noStmt}
-use Rattle.session.specs.Tables.{storedStmt}
+use Rattle.prelude.proofs.Basics.{ap, _∙_, needs}
+use Rattle.session.proofs.Names.{noStmt, storedStmt}
 use Rattle.session.proofs.change.free.Statement.{statement}
 use Rattle.session.proofs.change.free.Tie as tie
 

@@ -1,8 +1,6 @@
 -- The statement's cursor ends, then the statement is stored. Assumes nothing.
-use mathlib.Core.Path.{ap, _∙_}
-use borrow.Author.Needs.{needs}
-use Rattle.session.specs.Entry.{newStmt}
-use Rattle.session.specs.Tables.{storedStmt}
+use Rattle.prelude.proofs.Basics.{ap, _∙_, needs}
+use Rattle.session.proofs.Names.{newStmt, storedStmt}
 use Rattle.session.proofs.change.prepare.Statement.{statement}
 use Rattle.session.proofs.change.prepare.Tie as tie
 

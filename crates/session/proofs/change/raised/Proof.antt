@@ -1,6 +1,5 @@
 -- Each way out returns the smaller of what is asked for and what is there. Assumes nothing.
-use native.Mathlib.Omega.{arith}
-use borrow.Author.Needs.{needs}
+use Rattle.prelude.proofs.Basics.{arith, needs}
 use Rattle.session.proofs.change.raised.Statement.{statement}
 use Rattle.session.proofs.change.raised.Tie as tie
 

@@ -1,5 +1,5 @@
 -- The flag decides. Assumes nothing.
-use native.Mathlib.Omega.{arith}
+use Rattle.prelude.proofs.Basics.{arith}
 use Rattle.session.proofs.EntryLaws.{one-off, one-on}
 use Rattle.session.proofs.count.one.Statement.{statement}
 use Rattle.session.proofs.count.one.Tie as tie

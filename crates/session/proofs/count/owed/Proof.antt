@@ -1,10 +1,6 @@
 -- What was summed, and what is left to sum, is the whole. Assumes nothing.
-use Prim.Native.Nat.{_-_}
-use native.Mathlib.Omega.{arith}
-use Rattle.session.specs.Entry.{owes}
-use Rattle.session.specs.Sound.{maxNumber}
-use Rattle.session.specs.Tables.{maxCursors}
-use Rattle.session.specs.Words.{cursorIn}
+use Rattle.prelude.proofs.Basics.{_-_, arith}
+use Rattle.session.proofs.Names.{owes, maxCursors, cursorIn, maxNumber}
 use Rattle.session.proofs.LoopLaws.{Summing, sums, sums-on, summed}
 use Rattle.session.proofs.count.owed.Statement.{statement}
 use Rattle.session.proofs.count.owed.Tie as tie

@@ -1,8 +1,6 @@
 -- A free place owes nothing, a live cursor what it was not sent yet. Assumes nothing.
-use native.Mathlib.Omega.{arith}
-use mathlib.Core.Path.{sym, _∙_}
-use borrow.Author.Needs.{needs}
-use Rattle.session.specs.Words.{cursorIn}
+use Rattle.prelude.proofs.Basics.{arith, sym, _∙_, needs}
+use Rattle.session.proofs.Names.{cursorIn}
 use Rattle.session.proofs.EntryLaws.{owes-dead, owes-live}
 use Rattle.session.proofs.count.owes.Statement.{statement}
 use Rattle.session.proofs.count.owes.Tie as tie

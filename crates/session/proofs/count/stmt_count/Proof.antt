@@ -1,12 +1,6 @@
 -- What was counted, and what is left to count, is the whole. Assumes nothing.
-use Prim.Native.Nat.{_-_}
-use native.Mathlib.Omega.{arith}
-use mathlib.Core.Bool.{cond}
-use mathlib.Core.Path.{ap, _∙_}
-use borrow.Author.Needs.{needs}
-use Rattle.session.specs.Session.{flag}
-use Rattle.session.specs.Tables.{maxStmts}
-use Rattle.session.specs.Words.{stmtIn}
+use Rattle.prelude.proofs.Basics.{_-_, arith, cond, ap, _∙_, needs}
+use Rattle.session.proofs.Names.{flag, maxStmts, stmtIn}
 use Rattle.session.proofs.LoopLaws.{Summing, sums, sums-on, summed}
 use Rattle.session.proofs.count.stmt_count.Statement.{statement}
 use Rattle.session.proofs.count.stmt_count.Tie as tie

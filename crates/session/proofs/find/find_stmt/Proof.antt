@@ -1,9 +1,6 @@
 -- Blocks without the id are passed, and the scan starts at the first block that has it. Assumes nothing.
-use Prim.Native.Nat.{_-_}
-use native.Mathlib.Omega.{arith}
-use mathlib.Core.Path.{sym, _∙_}
-use borrow.Author.Needs.{needs}
-use Rattle.session.specs.Tables.{maxStmts}
+use Rattle.prelude.proofs.Basics.{_-_, arith, sym, _∙_, needs}
+use Rattle.session.proofs.Names.{maxStmts}
 use Rattle.session.proofs.BlockLaws.{Skipping, skips, skips-on}
 use Rattle.session.proofs.LoopLaws.{no-place}
 use Rattle.session.proofs.find.find_stmt.Statement.{statement}

@@ -1,10 +1,6 @@
 -- The first place from here on is the first of all. Assumes nothing.
-use Prim.Native.Nat.{_-_}
-use native.Mathlib.Omega.{arith}
-use mathlib.Core.Path.{sym, _∙_}
-use Rattle.session.specs.Entry.{passes}
-use Rattle.session.specs.Tables.{maxCursors}
-use Rattle.session.specs.Words.{cursorIn}
+use Rattle.prelude.proofs.Basics.{_-_, arith, sym, _∙_}
+use Rattle.session.proofs.Names.{passes, maxCursors, cursorIn}
 use Rattle.session.proofs.LoopLaws.{Looking, looks, looks-on, placed, no-place}
 use Rattle.session.proofs.find.first_place.Statement.{statement}
 use Rattle.session.proofs.find.first_place.Tie as tie

@@ -1,10 +1,7 @@
 -- The first free place from here on is the first of all. Assumes nothing.
-use Prim.Native.Nat.{_-_}
-use native.Mathlib.Omega.{arith}
-use mathlib.Core.Path.{sym, _∙_}
+use Rattle.prelude.proofs.Basics.{_-_, arith, sym, _∙_}
+use Rattle.session.proofs.Names.{maxCursors, cursorIn}
 use Rattle.session.specs.Entry.{freeCursor}
-use Rattle.session.specs.Tables.{maxCursors}
-use Rattle.session.specs.Words.{cursorIn}
 use Rattle.session.proofs.EntryLaws.{free-yes, free-no}
 use Rattle.session.proofs.LoopLaws.{Looking, looks, looks-on, placed, no-place}
 use Rattle.session.proofs.find.free_cursor.Statement.{statement}

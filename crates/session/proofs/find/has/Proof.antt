@@ -1,8 +1,5 @@
 -- What was hit so far, or is hit further on, is what the block has. Assumes nothing.
-use Prim.Native.Nat.{_-_}
-use native.Mathlib.Omega.{arith}
-use mathlib.Core.Logic.{⊎-elim}
-use mathlib.Core.Path.{sym, _∙_}
+use Rattle.prelude.proofs.Basics.{_-_, arith, sym, _∙_, ⊎-elim}
 use Rattle.session.specs.private.Search.{blockIds}
 use Rattle.session.proofs.BlockLaws.{Testing, tests, tested, hits, misses}
 use Rattle.session.proofs.find.has.Statement.{statement}

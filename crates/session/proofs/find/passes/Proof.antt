@@ -1,8 +1,6 @@
 -- Each arm tests the number that its variant names. Assumes nothing.
-use mathlib.Core.Path.{sym, ap, _∙_}
-use borrow.Author.Needs.{needs}
-use Rattle.session.specs.Entry.{passes}
-use Rattle.session.specs.Words.{cursorIn}
+use Rattle.prelude.proofs.Basics.{sym, ap, _∙_, needs}
+use Rattle.session.proofs.Names.{passes, cursorIn}
 use Rattle.session.proofs.find.passes.Statement.{statement}
 use Rattle.session.proofs.find.passes.Tie as tie
 

@@ -1,11 +1,6 @@
 -- The first place from here on is the first from the start of the scan on. Assumes nothing.
-use Prim.Native.Nat.{_-_}
-use native.Mathlib.Omega.{arith}
-use mathlib.Core.Path.{sym, _∙_}
-use borrow.Author.Needs.{needs}
-use Rattle.session.specs.Entry.{isStmt}
-use Rattle.session.specs.Tables.{maxStmts}
-use Rattle.session.specs.Words.{stmtIn}
+use Rattle.prelude.proofs.Basics.{_-_, arith, sym, _∙_, needs}
+use Rattle.session.proofs.Names.{isStmt, maxStmts, stmtIn}
 use Rattle.session.proofs.LoopLaws.{Looking, looks, looks-on, placed, no-place}
 use Rattle.session.proofs.find.scan.Statement.{statement}
 use Rattle.session.proofs.find.scan.Tie as tie

@@ -1,6 +1,5 @@
 -- The place that is found comes first, else the free one. Assumes nothing.
-use mathlib.Core.Path.{_∙_}
-use borrow.Author.Needs.{needs}
+use Rattle.prelude.proofs.Basics.{_∙_, needs}
 use Rattle.session.proofs.LoopLaws.{own-place, other-place}
 use Rattle.session.proofs.find.stmt_place.Statement.{statement}
 use Rattle.session.proofs.find.stmt_place.Tie as tie

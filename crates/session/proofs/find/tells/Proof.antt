@@ -1,5 +1,5 @@
 -- The second test counts only where the flag is not 0. Assumes nothing.
-use lib.Dec.{eqb}
+use Rattle.prelude.proofs.Basics.{eqb}
 use Rattle.session.proofs.EntryLaws.{tells-off, tells-on}
 use Rattle.session.proofs.find.tells.Statement.{statement}
 use Rattle.session.proofs.find.tells.Tie as tie

@@ -1,12 +1,7 @@
 -- The bits of the places from here on; a turn puts the one before in front. A table of 64 places fits a
 -- number of 64 bits. Assumes nothing.
-use native.Mathlib.Omega.{arith}
-use mathlib.Core.Bool.{cond}
-use mathlib.Core.Path.{ap, _∙_}
-use borrow.Author.Needs.{needs}
-use Rattle.session.specs.Entry.{passes}
-use Rattle.session.specs.Tables.{maxCursors}
-use Rattle.session.specs.Words.{cursorIn}
+use Rattle.prelude.proofs.Basics.{arith, cond, ap, _∙_, needs}
+use Rattle.session.proofs.Names.{passes, maxCursors, cursorIn}
 use Rattle.session.proofs.LoopLaws.{Masking, masks, masks-on, masked, mask-room}
 use Rattle.session.proofs.mask.passing.Statement.{statement}
 use Rattle.session.proofs.mask.passing.Tie as tie

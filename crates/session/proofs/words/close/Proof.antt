@@ -1,7 +1,6 @@
 -- The words before the flag are zeroed, then the flag is set. Assumes nothing.
-use mathlib.Core.Path.{ap, _∙_}
-use borrow.Author.Needs.{needs}
-use Rattle.session.specs.Session.{withClosed}
+use Rattle.prelude.proofs.Basics.{ap, _∙_, needs}
+use Rattle.session.proofs.Names.{withClosed}
 use Rattle.session.proofs.words.close.Statement.{statement}
 use Rattle.session.proofs.words.close.Tie as tie
 

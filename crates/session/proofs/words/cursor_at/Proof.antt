@@ -1,8 +1,6 @@
 -- The words read are the entry that the table has there. Assumes nothing.
-use borrow.Author.Needs.{needs}
-use Rattle.session.specs.Entry.{noCursor}
-use Rattle.session.specs.Tables.{maxCursors}
-use Rattle.session.specs.Words.{cursorIn}
+use Rattle.prelude.proofs.Basics.{needs}
+use Rattle.session.proofs.Names.{noCursor, maxCursors, cursorIn}
 use Rattle.session.proofs.PutLaws.{read-there, read-past}
 use Rattle.session.proofs.words.cursor_at.Statement.{statement}
 use Rattle.session.proofs.words.cursor_at.Tie as tie

@@ -1,9 +1,6 @@
 -- Inside the table the entry is stored; past it nothing changes. Assumes nothing.
-use mathlib.Core.Path.{ap, _∙_}
-use borrow.Author.Needs.{needs}
-use Rattle.session.specs.Session.{withCursors}
-use Rattle.session.specs.Tables.{maxCursors}
-use Rattle.session.specs.Words.{cursorIn, sessionOf}
+use Rattle.prelude.proofs.Basics.{ap, _∙_, needs}
+use Rattle.session.proofs.Names.{withCursors, maxCursors, cursorIn, sessionOf}
 use Rattle.session.proofs.PutLaws.{put-there, put-past}
 use Rattle.session.proofs.words.put_cursor.Statement.{statement}
 use Rattle.session.proofs.words.put_cursor.Tie as tie

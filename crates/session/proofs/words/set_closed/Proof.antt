@@ -1,5 +1,5 @@
 -- The last word alone is stored. Assumes nothing.
-use borrow.Author.Needs.{needs}
+use Rattle.prelude.proofs.Basics.{needs}
 use Rattle.session.proofs.WordLaws.{closed-stored}
 use Rattle.session.proofs.words.set_closed.Statement.{statement}
 use Rattle.session.proofs.words.set_closed.Tie as tie

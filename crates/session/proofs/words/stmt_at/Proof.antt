@@ -1,8 +1,6 @@
 -- The words read are the entry that the table has there. Assumes nothing.
-use borrow.Author.Needs.{needs}
-use Rattle.session.specs.Entry.{noStmt}
-use Rattle.session.specs.Tables.{maxStmts}
-use Rattle.session.specs.Words.{stmtIn}
+use Rattle.prelude.proofs.Basics.{needs}
+use Rattle.session.proofs.Names.{noStmt, maxStmts, stmtIn}
 use Rattle.session.proofs.PutLaws.{read-there, read-past}
 use Rattle.session.proofs.words.stmt_at.Statement.{statement}
 use Rattle.session.proofs.words.stmt_at.Tie as tie

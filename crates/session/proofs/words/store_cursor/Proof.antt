@@ -1,7 +1,5 @@
 -- The five stores are the row of one cursor, and a store within a row changes nothing else. Assumes nothing.
-use native.Mathlib.Omega.{arith}
-use mathlib.Core.List.{[], _∷_}
-use borrow.Author.Needs.{needs}
+use Rattle.prelude.proofs.Basics.{arith, [], _∷_, needs}
 use Rattle.session.proofs.RowLaws.{still-below}
 use Rattle.session.proofs.WordLaws.{cursor-stored}
 use Rattle.session.proofs.words.store_cursor.Statement.{statement}

@@ -1,5 +1,5 @@
 -- One word of one row is stored. Assumes nothing.
-use borrow.Author.Needs.{needs}
+use Rattle.prelude.proofs.Basics.{needs}
 use Rattle.session.proofs.WordLaws.{sent-stored}
 use Rattle.session.proofs.words.store_sent.Statement.{statement}
 use Rattle.session.proofs.words.store_sent.Tie as tie

@@ -1,9 +1,5 @@
 -- The id and the two words of the row are one statement, and no other word is stored. Assumes nothing.
-use native.Mathlib.Omega.{arith}
-use mathlib.Core.List.{[]}
-use lib.ListN.{length-set}
-use lib.ListN.{set}
-use borrow.Author.Needs.{needs}
+use Rattle.prelude.proofs.Basics.{arith, [], set, length-set, needs}
 use Rattle.session.proofs.RowLaws.{still-below}
 use Rattle.session.proofs.WordLaws.{stmt-stored}
 use Rattle.session.proofs.words.store_stmt.Statement.{statement}

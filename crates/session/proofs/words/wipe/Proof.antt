@@ -1,7 +1,6 @@
 -- Words before the place are 0, the others as they were. Assumes nothing.
-use Prim.Native.Nat.{_-_}
-use native.Mathlib.Omega.{arith}
-use Rattle.session.specs.Words.{closedAt}
+use Rattle.prelude.proofs.Basics.{_-_, arith}
+use Rattle.session.proofs.Names.{closedAt}
 use Rattle.session.proofs.WordLaws.{Wiping, wipes, wipes-on, wiped-all}
 use Rattle.session.proofs.words.wipe.Statement.{statement}
 use Rattle.session.proofs.words.wipe.Tie as tie

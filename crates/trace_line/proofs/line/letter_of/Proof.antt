@@ -1,7 +1,7 @@
 -- `trace_line::line::letter_of` meets its contract: each arm computes. Assumes nothing.
-use mathlib.Core.Path.{sym, ap}
+use Rattle.prelude.proofs.Basics.{sym, ap}
+use Rattle.trace_line.proofs.Names.{letterOf}
 use Rattle.trace_line.proofs.LineLaws.{letter-none}
-use Rattle.trace_line.specs.Line.{letterOf}
 use Rattle.trace_line.proofs.line.letter_of.Statement.{statement}
 use Rattle.trace_line.proofs.line.letter_of.Tie as tie
 

@@ -1,6 +1,5 @@
 -- `trace_line::line::mark_of` meets its contract: there is no frame, or the first one tells. Assumes nothing.
-use borrow.Author.Needs.{needs}
-use mathlib.Core.Path.{_∙_}
+use Rattle.prelude.proofs.Basics.{_∙_, needs}
 use Rattle.trace_line.proofs.LineLaws.{mark-none, mark-letter}
 use Rattle.trace_line.proofs.line.mark_of.Statement.{statement}
 use Rattle.trace_line.proofs.line.mark_of.Tie as tie

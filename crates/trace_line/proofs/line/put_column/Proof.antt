@@ -1,6 +1,6 @@
 -- `trace_line::line::put_column` meets its contract: a decimal, and one byte behind it. Assumes nothing.
-use borrow.Author.Needs.{needs}
-use Rattle.encode.proofs.PutsLaws.{puts-then}
+use Rattle.prelude.proofs.Basics.{needs}
+use Rattle.trace_line.proofs.Names.{puts-then}
 use Rattle.trace_line.proofs.line.put_column.Statement.{statement}
 use Rattle.trace_line.proofs.line.put_column.Tie as tie
 

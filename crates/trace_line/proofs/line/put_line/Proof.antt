@@ -1,7 +1,7 @@
 -- `trace_line::line::put_line` meets its contract: its parts stand one behind the other. Assumes nothing.
-use borrow.Author.Needs.{needs}
-use Rattle.encode.proofs.PutsLaws.{puts-then, puts-length}
-use Rattle.trace_line.specs.Line.{lineOf}
+use Rattle.prelude.proofs.Basics.{needs}
+use Rattle.encode.proofs.PutsLaws.{puts-length}
+use Rattle.trace_line.proofs.Names.{puts-then, lineOf}
 use Rattle.trace_line.proofs.line.put_line.Statement.{statement}
 use Rattle.trace_line.proofs.line.put_line.Tie as tie
 

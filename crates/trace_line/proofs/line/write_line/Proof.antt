@@ -1,14 +1,8 @@
 -- `trace_line::line::write_line` meets its contract: the line stands at the front of the array, and what is lent of it
 -- is the line. Assumes nothing.
-use Prim.Native.Nat.{ℕ, _≤_}
-use borrow.Author.Needs.{needs}
-use native.Mathlib.Omega.{arith}
-use mathlib.Core.Path.{sym}
-use lib.ListN.{length, replicate}
-use lib.Seq.{length-take-le}
+use Rattle.prelude.proofs.Basics.{ℕ, _≤_, arith, sym, length, replicate, length-take-le, needs}
 use Rattle.encode.proofs.PutsLaws.{front, front-within, equations-as}
-use Rattle.trace_line.specs.declared.line.Line.{Line}
-use Rattle.trace_line.specs.Line.{lineOf}
+use Rattle.trace_line.proofs.Names.{lineOf, Line}
 use Rattle.trace_line.proofs.LineLaws.{line-within}
 use Rattle.trace_line.proofs.line.write_line.Statement.{statement}
 use Rattle.trace_line.proofs.line.write_line.Tie as tie

@@ -1,13 +1,8 @@
 -- `trace_line::printer::print_chunk` meets its contract: what is taken is put behind what is held, and what the lines
 -- leave of both is moved to the front. Assumes nothing.
-use Prim.Native.Nat.{_+_, _-_, _≤_}
-use native.Mathlib.Omega.{arith}
-use mathlib.Core.Path.{sym, _∙_}
-use lib.ListN.{length-take}
-use lib.Seq.{length-take-le}
-use borrow.Author.Needs.{needs}
+use Rattle.prelude.proofs.Basics.{_+_, _-_, _≤_, arith, sym, _∙_, length-take, length-take-le, needs}
 use Rattle.encode.proofs.MoveLaws.{moved-front}
-use Rattle.session.specs.Words.{sessionOf}
+use Rattle.trace_line.proofs.Names.{sessionOf}
 use Rattle.trace_line.proofs.PrintLaws.{printed}
 use Rattle.trace_line.proofs.printer.print_chunk.Statement.{statement}
 use Rattle.trace_line.proofs.printer.print_chunk.Tie as tie

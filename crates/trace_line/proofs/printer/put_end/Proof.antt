@@ -1,5 +1,5 @@
 -- `trace_line::printer::put_end` meets its contract: nothing is left, or something is. Assumes nothing.
-use borrow.Author.Needs.{needs}
+use Rattle.prelude.proofs.Basics.{needs}
 use Rattle.trace_line.proofs.EndLaws.{end-nothing, end-cut}
 use Rattle.trace_line.proofs.printer.put_end.Statement.{statement}
 use Rattle.trace_line.proofs.printer.put_end.Tie as tie

@@ -1,6 +1,6 @@
 -- `trace_line::printer::put_header` meets its contract: the text is that of the definition. Assumes nothing.
-use borrow.Author.Needs.{needs}
-use Rattle.trace_line.specs.Output.{header}
+use Rattle.prelude.proofs.Basics.{needs}
+use Rattle.trace_line.proofs.Names.{header}
 use Rattle.trace_line.proofs.printer.put_header.Statement.{statement}
 use Rattle.trace_line.proofs.printer.put_header.Tie as tie
 

@@ -1,12 +1,7 @@
 -- `trace_line::printer::put_lines` meets its contract. The loop's invariant is `Walking`; the measure is what is left
 -- of the bytes. Assumes nothing.
-use Prim.Native.Nat.{_+_, _-_, _^_, _≤_, _<_}
-use native.Mathlib.Omega.{arith}
-use mathlib.Core.Logic.{inl, inr}
-use mathlib.Core.Path.{_≡_, _∙_}
-use lib.ListN.{length}
-use borrow.Author.Needs.{needs}
-use Rattle.session.specs.Words.{sessionOf}
+use Rattle.prelude.proofs.Basics.{_+_, _-_, _^_, _≤_, _<_, arith, _≡_, _∙_, inl, inr, length, needs}
+use Rattle.trace_line.proofs.Names.{sessionOf}
 use Rattle.trace_line.proofs.WalkLaws.{Walking, walk-starts, walk-ends, walk-full, walk-stops, walk-on}
 use Rattle.trace_line.proofs.WalkLaws.{place-within, to-end, traced-length}
 use Rattle.trace_line.proofs.printer.put_lines.Statement.{statement}

@@ -1,7 +1,6 @@
 -- `trace_line::printer::stands_first` meets its contract, case by case. Assumes nothing.
-use borrow.Author.Needs.{needs}
-use mathlib.Core.Path.{sym, ap, _∙_}
-use Rattle.trace_line.specs.Printer.{firstOf, standsFirst}
+use Rattle.prelude.proofs.Basics.{sym, ap, _∙_, needs}
+use Rattle.trace_line.proofs.Names.{firstOf, standsFirst}
 use Rattle.trace_line.proofs.printer.stands_first.Statement.{statement}
 use Rattle.trace_line.proofs.printer.stands_first.Tie as tie
 

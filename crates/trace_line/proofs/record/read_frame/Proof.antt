@@ -1,7 +1,5 @@
 -- `trace_line::record::read_frame` meets its contract: it is too long, not all there, or whole. Assumes nothing.
-use borrow.Author.Needs.{needs}
-use native.Mathlib.Omega.{arith}
-use mathlib.Core.Path.{_∙_}
+use Rattle.prelude.proofs.Basics.{arith, _∙_, needs}
 use Rattle.trace_line.proofs.RecordLaws.{frame-bad, frame-short, frame-whole}
 use Rattle.trace_line.proofs.record.read_frame.Statement.{statement}
 use Rattle.trace_line.proofs.record.read_frame.Tie as tie

@@ -1,8 +1,6 @@
 -- `trace_line::record::read_kind` meets its contract: the report stands behind the frame. Assumes nothing.
-use mathlib.Core.Path.{_≡_, _∙_}
-use borrow.Author.Needs.{needs}
-use Rattle.trace_line.specs.declared.record.Number.{Number}
-use Rattle.trace_line.specs.Record.{andThen, reportAt, kindAt}
+use Rattle.prelude.proofs.Basics.{_≡_, _∙_, needs}
+use Rattle.trace_line.proofs.Names.{andThen, reportAt, kindAt, Number}
 use Rattle.trace_line.proofs.RecordLaws.{then-is}
 use Rattle.trace_line.proofs.record.read_kind.Statement.{statement}
 use Rattle.trace_line.proofs.record.read_kind.Tie as tie

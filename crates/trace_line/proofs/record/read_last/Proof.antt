@@ -1,9 +1,6 @@
 -- `trace_line::record::read_last` meets its contract: the number at the place ends the report. Assumes nothing.
-use mathlib.Core.Path.{_≡_}
-use borrow.Author.Needs.{needs}
-use Rattle.trace_line.specs.declared.record.Number.{Number}
-use Rattle.trace_line.specs.declared.record.Record.{Record}
-use Rattle.trace_line.specs.Record.{andThen}
+use Rattle.prelude.proofs.Basics.{_≡_, needs}
+use Rattle.trace_line.proofs.Names.{andThen, Number, Record}
 use Rattle.trace_line.specs.private.Last.{reportOf, lastAt}
 use Rattle.trace_line.proofs.RecordLaws.{then-is, whole-as}
 use Rattle.trace_line.proofs.record.read_last.Statement.{statement}

@@ -1,6 +1,5 @@
 -- `trace_line::record::read_number` meets its contract: a varint, or why none stands there. Assumes nothing.
-use borrow.Author.Needs.{needs}
-use mathlib.Core.Path.{sym, _∙_}
+use Rattle.prelude.proofs.Basics.{sym, _∙_, needs}
 use Rattle.trace_line.proofs.RecordLaws.{number-is}
 use Rattle.trace_line.proofs.record.read_number.Statement.{statement}
 use Rattle.trace_line.proofs.record.read_number.Tie as tie

@@ -1,8 +1,6 @@
 -- `trace_line::record::read_record` meets its contract: its first number is the length of its frame. Assumes nothing.
-use mathlib.Core.Path.{_≡_, _∙_}
-use borrow.Author.Needs.{needs}
-use Rattle.trace_line.specs.declared.record.Number.{Number}
-use Rattle.trace_line.specs.Record.{andThen, frameAt, recordAt}
+use Rattle.prelude.proofs.Basics.{_≡_, _∙_, needs}
+use Rattle.trace_line.proofs.Names.{andThen, frameAt, recordAt, Number}
 use Rattle.trace_line.proofs.RecordLaws.{then-is}
 use Rattle.trace_line.proofs.record.read_record.Statement.{statement}
 use Rattle.trace_line.proofs.record.read_record.Tie as tie

@@ -1,6 +1,5 @@
 -- `trace_line::record::read_report` meets its contract: a law for each kind. Assumes nothing.
-use borrow.Author.Needs.{needs}
-use mathlib.Core.Path.{_∙_}
+use Rattle.prelude.proofs.Basics.{_∙_, needs}
 use Rattle.trace_line.proofs.RecordLaws.{report-bad, report-prepared, report-result, report-failed, report-bare}
 use Rattle.trace_line.proofs.record.read_report.Statement.{statement}
 use Rattle.trace_line.proofs.record.read_report.Tie as tie

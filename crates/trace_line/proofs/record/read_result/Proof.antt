@@ -1,8 +1,6 @@
 -- `trace_line::record::read_result` meets its contract: its numbers are the columns and the rows. Assumes nothing.
-use mathlib.Core.Path.{_≡_, _∙_}
-use borrow.Author.Needs.{needs}
-use Rattle.trace_line.specs.declared.record.Number.{Number}
-use Rattle.trace_line.specs.Record.{andThen, rowsAt, resultAt}
+use Rattle.prelude.proofs.Basics.{_≡_, _∙_, needs}
+use Rattle.trace_line.proofs.Names.{andThen, rowsAt, resultAt, Number}
 use Rattle.trace_line.proofs.RecordLaws.{then-is, last-rows}
 use Rattle.trace_line.proofs.record.read_result.Statement.{statement}
 use Rattle.trace_line.proofs.record.read_result.Tie as tie

@@ -1,8 +1,6 @@
 -- `trace_line::record::report_of` meets its contract: the kind decides which number it is. Assumes nothing.
-use Prim.Native.Nat.{ℕ}
-use mathlib.Core.Path.{sym, ap}
-use borrow.Author.Tests.{ne-eqb}
-use Rattle.rules.specs.Report.{prepared, failed}
+use Rattle.prelude.proofs.Basics.{ℕ, sym, ap, ne-eqb}
+use Rattle.trace_line.proofs.Names.{prepared, failed}
 use Rattle.trace_line.specs.private.Last.{reportOf}
 use Rattle.trace_line.proofs.record.report_of.Statement.{statement}
 use Rattle.trace_line.proofs.record.report_of.Tie as tie

@@ -1,6 +1,5 @@
 -- `trace_line::record::why_unended` meets its contract: there are ten bytes, or fewer. Assumes nothing.
-use borrow.Author.Needs.{needs}
-use native.Mathlib.Omega.{arith}
+use Rattle.prelude.proofs.Basics.{arith, needs}
 use Rattle.trace_line.proofs.RecordLaws.{unended-short, unended-bad}
 use Rattle.trace_line.proofs.record.why_unended.Statement.{statement}
 use Rattle.trace_line.proofs.record.why_unended.Tie as tie

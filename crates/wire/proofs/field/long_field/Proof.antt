@@ -1,19 +1,9 @@
 -- A tag and what stands behind it, in bytes that are lent anew.
-use Prim.Native.Nat.{ℕ}
-use mathlib.Core.Path.{_≡_, sym, ap, _∙_}
-use mathlib.Core.Bool.{_||_}
-use mathlib.Core.List.{List}
-use lib.ListN.{length}
-use lib.Seq.{take-length}
-use Rattle.prelude.proofs.OrLaws.{or-then, or-same, or-false}
-use Rattle.varint.specs.Padded.{paddedAt}
-use Rattle.wire.specs.Tag.{tagAt}
-use Rattle.wire.specs.Field.{fieldOf}
-use Rattle.wire.specs.Padded.{valuePadded}
-use Rattle.wire.specs.declared.tag.Tag.{Tag}
+use Rattle.prelude.proofs.Basics.{ℕ, _||_, _≡_, sym, ap, _∙_, List, length, take-length, needs, or-false, or-same}
+use Rattle.prelude.proofs.Basics.{or-then}
+use Rattle.wire.proofs.Names.{paddedAt, tagAt, fieldOf, valuePadded, Tag}
 use Rattle.wire.proofs.FieldLaws.{field-tagged}
 use Rattle.wire.proofs.PaddedLaws.{field-flag}
-use borrow.Author.Needs.{needs}
 use Rattle.wire.proofs.field.long_field.Statement.{statement}
 use Rattle.wire.proofs.field.long_field.Tie as tie
 

@@ -1,17 +1,8 @@
 -- `wire::field::read_field` meets its contract: a tag of one byte is judged by that byte; the rest goes the long way.
 -- Assumes nothing.
-use borrow.Author.Needs.{needs}
-use Prim.Native.Nat.{ℕ, _+_, _/_, _%_, _<_}
-use native.Mathlib.Omega.{arith}
-use mathlib.Core.Bool.{Bool, _||_}
-use mathlib.Core.Path.{_≡_, sym, ap, _∙_}
-use mathlib.Core.List.{List}
-use lib.ListN.{length}
-use lib.Seq.{take-length}
-use Rattle.prelude.proofs.OrLaws.{or-none, or-same}
-use Rattle.wire.specs.Field.{ofValue, fieldOf, fieldAt}
-use Rattle.wire.specs.Padded.{fieldPadded, valuePadded}
-use Rattle.wire.specs.declared.field.Field.{Field}
+use Rattle.prelude.proofs.Basics.{ℕ, _+_, _/_, _%_, _<_, arith, Bool, _||_, _≡_, sym, ap, _∙_, List, length}
+use Rattle.prelude.proofs.Basics.{take-length, needs, or-none, or-same}
+use Rattle.wire.proofs.Names.{ofValue, fieldOf, fieldAt, valuePadded, fieldPadded, Field}
 use Rattle.wire.proofs.FieldLaws.{quick-none, quick-low, quick-wire}
 use Rattle.wire.proofs.PaddedLaws.{quick-flag-none, quick-flag-low, quick-flag}
 use Rattle.wire.proofs.field.read_field.Statement.{statement}

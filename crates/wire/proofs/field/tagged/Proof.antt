@@ -1,14 +1,10 @@
 -- `wire::field::tagged` meets its contract: wire type 3 skips a group, any other is a value behind the tag.
 -- Assumes nothing.
-use Prim.Native.Nat.{ℕ}
-use mathlib.Core.Path.{sym, ap, _∙_}
-use Rattle.prelude.proofs.OrLaws.{or-none, or-same}
-use Rattle.wire.specs.Value.{valueAt}
-use Rattle.wire.specs.Field.{maxDepth, ofValue, ofGroup}
+use Rattle.prelude.proofs.Basics.{ℕ, sym, ap, _∙_, needs, or-none, or-same}
+use Rattle.wire.proofs.Names.{valueAt, maxDepth, ofValue, ofGroup}
 use Rattle.wire.proofs.FieldLaws.{field-group, field-value, group-ends}
 use Rattle.wire.proofs.PaddedLaws.{number-flag, group-flag}
 use Rattle.wire.proofs.ValueLaws.{value-number}
-use borrow.Author.Needs.{needs}
 use Rattle.wire.proofs.field.tagged.Statement.{statement}
 use Rattle.wire.proofs.field.tagged.Tie as tie
 

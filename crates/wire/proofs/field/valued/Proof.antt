@@ -1,7 +1,6 @@
 -- `wire::field::valued` meets its contract: each arm is one clause of ofValue. Assumes nothing.
-use mathlib.Core.Path.{sym, ap}
-use Rattle.wire.specs.Field.{ofValue}
-use borrow.Author.Needs.{needs}
+use Rattle.prelude.proofs.Basics.{sym, ap, needs}
+use Rattle.wire.proofs.Names.{ofValue}
 use Rattle.wire.proofs.field.valued.Statement.{statement}
 use Rattle.wire.proofs.field.valued.Tie as tie
 

@@ -1,25 +1,18 @@
 -- `wire::group::skip_group` meets its contract: each turn of the loop is one law on `Skipping`. Assumes nothing.
-use borrow.Author.Needs.{needs}
-use Prim.Native.Nat.{_-_}
-use native.Mathlib.Omega.{arith}
-use mathlib.Core.Path.{_≡_, sym, ap, _∙_}
-use lib.ListN.{length}
-use lib.Seq.{take-length}
-use Rattle.wire.specs.Group.{groupEnd}
+use Rattle.prelude.proofs.Basics.{ℕ, _-_, _<_, arith, _≡_, sym, ap, _∙_, length, take-length, needs}
 use native.Mathlib.Nat.{pos-of-ne-zero}
-use Rattle.wire.specs.declared.tag.Tag.{Tag}
-use Rattle.wire.proofs.GroupLaws.{Skipping, Turn, Skipped, shut, starts, unended, no-tag, ended, misended}
-use Rattle.wire.proofs.GroupLaws.{group-lent, value-lent, stops, advances, goes-on}
-use Prim.Native.Nat.{ℕ, _<_}
 use borrow.Fn.Kinds.{In}
 use borrow.Fn.PlainCycle.{Measures, is, falls, and}
+use Rattle.wire.proofs.Names.{groupEnd, Tag}
+use Rattle.wire.proofs.GroupLaws.{Skipping, Turn, Skipped, shut, starts, unended, no-tag, ended, misended}
+use Rattle.wire.proofs.GroupLaws.{group-lent, value-lent, stops, advances, goes-on}
+use Rattle.wire.proofs.group.+skip_group.{statement}
+use Rattle.wire.proofs.group.+skip_group.Tie.{close}
 use Rattle.wire.proofs.group.skip_group.Reads as skip-group
 use Rattle.wire.proofs.group.skip_group.Kinds as skip-group-kinds
 use Rattle.wire.proofs.group.+skip_group.Lts-skip_group as skip-group-lts
 use Rattle.wire.proofs.group.skip_value.Reads as skip-value-reads
 use Rattle.wire.proofs.tag.read_tag.Reads as read-tag-reads
-use Rattle.wire.proofs.group.+skip_group.{statement}
-use Rattle.wire.proofs.group.+skip_group.Tie.{close}
 
 abbrev μ-skip-group : Measures 2 skip-group-kinds.ps ℕ
 μ-skip-group κs a = a .1 .1 .1 .0

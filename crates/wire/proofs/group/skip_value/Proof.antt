@@ -1,7 +1,6 @@
 -- `wire::group::skip_value` meets its contract: each arm is one clause of behind. Assumes nothing.
-use mathlib.Core.Path.{sym, ap, _∙_}
-use Rattle.wire.specs.Group.{behind}
-use borrow.Author.Needs.{needs}
+use Rattle.prelude.proofs.Basics.{sym, ap, _∙_, needs}
+use Rattle.wire.proofs.Names.{behind}
 use Rattle.wire.proofs.group.skip_value.Statement.{statement}
 use Rattle.wire.proofs.group.skip_value.Tie as tie
 

@@ -1,7 +1,6 @@
 -- `wire::tag::long_tag` meets its contract: each test of the code is one of tagOf's, in its order. Assumes nothing.
-use borrow.Author.Needs.{needs}
-use mathlib.Core.Path.{sym, ap, _∙_}
-use Rattle.wire.specs.Tag.{tagOf}
+use Rattle.prelude.proofs.Basics.{sym, ap, _∙_, needs}
+use Rattle.wire.proofs.Names.{tagOf}
 use Rattle.wire.proofs.TagLaws.{tag-high, tag-low, tag-unlisted, tag-good}
 use Rattle.wire.proofs.tag.long_tag.Statement.{statement}
 use Rattle.wire.proofs.tag.long_tag.Tie as tie

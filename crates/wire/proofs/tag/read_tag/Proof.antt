@@ -1,17 +1,10 @@
 -- A tag of one byte is judged by that byte; the rest goes the long way.
-use Prim.Native.Nat.{_≤_}
-use mathlib.Core.Bool.{_||_}
-use mathlib.Core.Path.{_≡_, sym, ap, _∙_}
-use lib.ListN.{length, getD}
-use lib.Seq.{take-length}
-use Rattle.prelude.proofs.OrLaws.{or-none, or-same}
-use Rattle.varint.specs.Padded.{paddedAt}
-use Rattle.varint.proofs.FlagLaws.{padded-none, behind-answer, behind-flag}
-use Rattle.wire.specs.Tag.{tagOf}
+use Rattle.prelude.proofs.Basics.{_≤_, _||_, _≡_, sym, ap, _∙_, length, getD, take-length, needs, or-none, or-same}
+use Rattle.varint.proofs.FlagLaws.{behind-answer, behind-flag}
+use Rattle.wire.proofs.Names.{paddedAt, padded-none, tagOf}
 use Rattle.wire.proofs.FieldLaws.{short-low, short-unlisted, short-good}
 use Rattle.wire.proofs.TagLaws.{tag-none}
 use Rattle.wire.proofs.PaddedLaws.{one-flag}
-use borrow.Author.Needs.{needs}
 use Rattle.wire.proofs.tag.read_tag.Statement.{statement}
 use Rattle.wire.proofs.tag.read_tag.Tie as tie
 

@@ -1,7 +1,6 @@
 -- `wire::value::fixed_value` meets its contract: each arm is one clause of ofFixed. Assumes nothing.
-use mathlib.Core.Path.{sym, ap}
-use Rattle.wire.specs.Value.{ofFixed}
-use borrow.Author.Needs.{needs}
+use Rattle.prelude.proofs.Basics.{sym, ap, needs}
+use Rattle.wire.proofs.Names.{ofFixed}
 use Rattle.wire.proofs.value.fixed_value.Statement.{statement}
 use Rattle.wire.proofs.value.fixed_value.Tie as tie
 

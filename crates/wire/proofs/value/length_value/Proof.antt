@@ -1,8 +1,6 @@
 -- `wire::value::length_value` meets its contract: each arm is one clause of ofLength. Assumes nothing.
-use borrow.Author.Needs.{needs}
-use mathlib.Core.Path.{sym, ap, _∙_}
-use native.Mathlib.Omega.{arith}
-use Rattle.wire.specs.Value.{ofLength}
+use Rattle.prelude.proofs.Basics.{arith, sym, ap, _∙_, needs}
+use Rattle.wire.proofs.Names.{ofLength}
 use Rattle.wire.proofs.ValueLaws.{varint-ends, length-long, length-good}
 use Rattle.wire.proofs.value.length_value.Statement.{statement}
 use Rattle.wire.proofs.value.length_value.Tie as tie

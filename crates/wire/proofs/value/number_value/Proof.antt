@@ -1,8 +1,6 @@
 -- `wire::value::number_value` meets its contract: each arm is one clause of ofVarint. Assumes nothing.
-use borrow.Author.Needs.{needs}
-use mathlib.Core.Path.{sym, ap, _∙_}
-use native.Mathlib.Omega.{arith}
-use Rattle.wire.specs.Value.{ofVarint}
+use Rattle.prelude.proofs.Basics.{arith, sym, ap, _∙_, needs}
+use Rattle.wire.proofs.Names.{ofVarint}
 use Rattle.wire.proofs.ValueLaws.{varint-ends}
 use Rattle.wire.proofs.value.number_value.Statement.{statement}
 use Rattle.wire.proofs.value.number_value.Tie as tie

@@ -1,11 +1,8 @@
 -- `wire::value::read_value` meets its contract: each wire type has its reader, one law for each. Assumes nothing.
-use native.Mathlib.Omega.{arith}
-use mathlib.Core.Path.{ap, _∙_}
-use Rattle.prelude.proofs.OrLaws.{or-none, or-same}
-use Rattle.wire.specs.Value.{ofFixed}
+use Rattle.prelude.proofs.Basics.{arith, ap, _∙_, needs, or-none, or-same}
+use Rattle.wire.proofs.Names.{ofFixed}
 use Rattle.wire.proofs.ValueLaws.{value-number, value-eight, value-length, value-four, value-none}
 use Rattle.wire.proofs.PaddedLaws.{number-flag, length-flag, no-flag}
-use borrow.Author.Needs.{needs}
 use Rattle.wire.proofs.value.read_value.Statement.{statement}
 use Rattle.wire.proofs.value.read_value.Tie as tie
 

@@ -1,12 +1,7 @@
 -- Each arm is acceptedAs at its message type.
+use Rattle.prelude.proofs.Basics.{ℕ, Bool, _≡_, refl, sym, ap, _∙_, List, needs}
+use Rattle.writer.proofs.Names.{acceptedAs, accepted, Draft}
 use Rattle.writer.proofs.JudgeLaws.{kind-none}
-use Rattle.writer.specs.declared.Draft.{Draft}
-use Rattle.writer.specs.Judge.{accepted, acceptedAs}
-use Prim.Native.Nat.{ℕ}
-use mathlib.Core.Bool.{Bool}
-use mathlib.Core.Path.{_≡_, refl, sym, ap, _∙_}
-use mathlib.Core.List.{List}
-use borrow.Author.Needs.{needs}
 use Rattle.writer.proofs.judge.is_accepted.Statement.{statement}
 use Rattle.writer.proofs.judge.is_accepted.Tie as tie
 

@@ -1,11 +1,6 @@
 -- The two tests are goodPrepare's: the type, then the body.
-use mathlib.Core.Bool.{false}
-use mathlib.Core.Path.{sym, ap, _∙_}
-use borrow.Author.Tests.{not-true, not-false}
-use borrow.Author.Needs.{needs}
-use Rattle.prelude.proofs.Cases.{yes, no as without}
-use Rattle.args.specs.declared.arguments.Arguments.{Arguments}
-use Rattle.writer.specs.Judge.{goodBody}
+use Rattle.prelude.proofs.Basics.{false, sym, ap, _∙_, needs, not-false, not-true, yes, no as without}
+use Rattle.writer.proofs.Names.{Arguments, goodBody}
 use Rattle.writer.proofs.judge.is_prepare.Statement.{statement}
 use Rattle.writer.proofs.judge.is_prepare.Tie as tie
 

@@ -1,10 +1,6 @@
 -- What is left from the place on answers for the whole stretch.
-use Rattle.args.specs.Arguments.{anyTypeOf}
-use borrow.Author.Needs.{needs}
-use Prim.Native.Nat.{_-_}
-use lib.ListN.{length}
-use native.Mathlib.Omega.{arith}
-use mathlib.Core.Path.{sym, ap, _∙_}
+use Rattle.prelude.proofs.Basics.{_-_, arith, sym, ap, _∙_, length, needs}
+use Rattle.writer.proofs.Names.{anyTypeOf}
 use Rattle.writer.proofs.JudgeLaws.{Judging, starts, ends, no-field, advances, other-number, other-wire}
 use Rattle.writer.proofs.JudgeLaws.{bad-argument, goes-on}
 use Rattle.writer.proofs.judge.is_stretch.Statement.{statement}

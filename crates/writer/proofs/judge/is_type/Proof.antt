@@ -1,6 +1,6 @@
 -- Each arm is isType at that number.
-use mathlib.Core.Path.{sym, ap}
-use Rattle.writer.specs.Judge.{isType}
+use Rattle.prelude.proofs.Basics.{sym, ap}
+use Rattle.writer.proofs.Names.{isType}
 use Rattle.writer.proofs.JudgeLaws.{type-none}
 use Rattle.writer.proofs.judge.is_type.Statement.{statement}
 use Rattle.writer.proofs.judge.is_type.Tie as tie

@@ -1,8 +1,7 @@
 -- The sum of its fields' lengths.
-use Rattle.encode.proofs.FieldLaws.{number-short, optional-short}
+use Rattle.prelude.proofs.Basics.{arith, needs}
+use Rattle.writer.proofs.Names.{number-short, optional-short}
 use Rattle.writer.proofs.SizeLaws.{fetch-parts}
-use native.Mathlib.Omega.{arith}
-use borrow.Author.Needs.{needs}
 use Rattle.writer.proofs.payload.fetch_len.Statement.{statement}
 use Rattle.writer.proofs.payload.fetch_len.Tie as tie
 

@@ -1,9 +1,7 @@
 -- Each arm is payloadAs at its message type.
+use Rattle.prelude.proofs.Basics.{sym, ap, _∙_, length, needs}
 use Rattle.writer.proofs.PayloadLaws.{as-prepare, as-execute, as-deallocate, as-open, as-close, as-fetch}
 use Rattle.writer.proofs.PayloadLaws.{as-none}
-use lib.ListN.{length}
-use mathlib.Core.Path.{sym, ap, _∙_}
-use borrow.Author.Needs.{needs}
 use Rattle.writer.proofs.payload.payload_len.Statement.{statement}
 use Rattle.writer.proofs.payload.payload_len.Tie as tie
 

@@ -1,12 +1,7 @@
 -- The sum of its fields' lengths.
-use Rattle.encode.specs.Field.{prefixOf}
-use Rattle.encode.proofs.FieldLaws.{number-short, prefix-short}
+use Rattle.prelude.proofs.Basics.{ℕ, arith, ap, length, needs}
+use Rattle.writer.proofs.Names.{prefixOf, number-short, prefix-short}
 use Rattle.writer.proofs.SizeLaws.{prepare-stmt-parts}
-use Prim.Native.Nat.{ℕ}
-use lib.ListN.{length}
-use mathlib.Core.Path.{ap}
-use native.Mathlib.Omega.{arith}
-use borrow.Author.Needs.{needs}
 use Rattle.writer.proofs.payload.prepare_stmt_len.Statement.{statement}
 use Rattle.writer.proofs.payload.prepare_stmt_len.Tie as tie
 

@@ -1,10 +1,6 @@
 -- The id, the stretch of arguments and compact_metadata, one behind the other. Assumes nothing.
-use borrow.Author.Needs.{needs}
-use Prim.Native.Nat.{ℕ}
-use mathlib.Core.Path.{ap}
-use Rattle.encode.specs.Field.{optionalField}
-use Rattle.writer.specs.Payload.{executePayload}
-use Rattle.encode.proofs.PutsLaws.{puts-then, puts-as}
+use Rattle.prelude.proofs.Basics.{ℕ, ap, needs}
+use Rattle.writer.proofs.Names.{optionalField, puts-then, puts-as, executePayload}
 use Rattle.writer.proofs.payload.put_execute.Statement.{statement}
 use Rattle.writer.proofs.payload.put_execute.Tie as tie
 

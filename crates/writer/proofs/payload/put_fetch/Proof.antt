@@ -1,7 +1,6 @@
 -- The id and fetch_rows, one behind the other. Assumes nothing.
-use borrow.Author.Needs.{needs}
-use Rattle.writer.specs.Payload.{fetchPayload}
-use Rattle.encode.proofs.PutsLaws.{puts-then}
+use Rattle.prelude.proofs.Basics.{needs}
+use Rattle.writer.proofs.Names.{puts-then, fetchPayload}
 use Rattle.writer.proofs.payload.put_fetch.Statement.{statement}
 use Rattle.writer.proofs.payload.put_fetch.Tie as tie
 

@@ -1,8 +1,6 @@
 -- The cursor id, the statement with its length before it and fetch_rows, one behind the other. Assumes nothing.
-use borrow.Author.Needs.{needs}
-use Rattle.writer.specs.Payload.{openStmtPayload, openPayload}
-use Rattle.encode.proofs.PutsLaws.{puts-then}
-use Rattle.encode.proofs.FieldLaws.{puts-counted}
+use Rattle.prelude.proofs.Basics.{needs}
+use Rattle.writer.proofs.Names.{puts-then, puts-counted, openStmtPayload, openPayload}
 use Rattle.writer.proofs.payload.put_open.Statement.{statement}
 use Rattle.writer.proofs.payload.put_open.Tie as tie
 

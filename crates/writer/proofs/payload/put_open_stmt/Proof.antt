@@ -1,8 +1,6 @@
 -- The type, and the Execute with its length before it. Assumes nothing.
-use borrow.Author.Needs.{needs}
-use Rattle.writer.specs.Payload.{executePayload, openStmtPayload}
-use Rattle.encode.proofs.PutsLaws.{puts-then}
-use Rattle.encode.proofs.FieldLaws.{puts-counted}
+use Rattle.prelude.proofs.Basics.{needs}
+use Rattle.writer.proofs.Names.{puts-then, puts-counted, executePayload, openStmtPayload}
 use Rattle.writer.proofs.payload.put_open_stmt.Statement.{statement}
 use Rattle.writer.proofs.payload.put_open_stmt.Tie as tie
 

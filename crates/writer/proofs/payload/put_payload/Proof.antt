@@ -1,7 +1,7 @@
 -- By the message type. Assumes nothing.
-use borrow.Author.Needs.{needs}
-use mathlib.Core.Path.{sym}
-use Rattle.encode.proofs.PutsLaws.{puts-as, puts-nothing}
+use Rattle.prelude.proofs.Basics.{sym, needs}
+use Rattle.encode.proofs.PutsLaws.{puts-nothing}
+use Rattle.writer.proofs.Names.{puts-as}
 use Rattle.writer.proofs.PayloadLaws.{as-prepare, as-execute, as-deallocate, as-open, as-close, as-fetch}
 use Rattle.writer.proofs.PayloadLaws.{as-none}
 use Rattle.writer.proofs.payload.put_payload.Statement.{statement}

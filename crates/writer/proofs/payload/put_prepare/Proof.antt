@@ -1,8 +1,6 @@
 -- The id, and the statement with its length before it. Assumes nothing.
-use borrow.Author.Needs.{needs}
-use Rattle.writer.specs.Payload.{prepareStmtPayload, preparePayload}
-use Rattle.encode.proofs.PutsLaws.{puts-then}
-use Rattle.encode.proofs.FieldLaws.{puts-counted}
+use Rattle.prelude.proofs.Basics.{needs}
+use Rattle.writer.proofs.Names.{puts-then, puts-counted, prepareStmtPayload, preparePayload}
 use Rattle.writer.proofs.payload.put_prepare.Statement.{statement}
 use Rattle.writer.proofs.payload.put_prepare.Tie as tie
 

@@ -1,10 +1,6 @@
 -- The type, and the body in the field that it chooses. Assumes nothing.
-use borrow.Author.Needs.{needs}
-use Prim.Native.Nat.{ℕ}
-use mathlib.Core.Path.{ap}
-use Rattle.encode.specs.Field.{bytesField}
-use Rattle.writer.specs.Payload.{prepareStmtPayload}
-use Rattle.encode.proofs.PutsLaws.{puts-then, puts-as}
+use Rattle.prelude.proofs.Basics.{ℕ, ap, needs}
+use Rattle.writer.proofs.Names.{bytesField, puts-then, puts-as, prepareStmtPayload}
 use Rattle.writer.proofs.payload.put_prepare_stmt.Statement.{statement}
 use Rattle.writer.proofs.payload.put_prepare_stmt.Tie as tie
 

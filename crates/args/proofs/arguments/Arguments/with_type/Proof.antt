@@ -1,11 +1,9 @@
 -- `args::arguments::Arguments::with_type` meets its contract: each test of the code is one of withType's, in its order.
 -- Assumes nothing.
-use Prim.Native.Nat.{ℕ}
+use Rattle.prelude.proofs.Basics.{ℕ, ap, _∙_, needs}
 use native.Mathlib.Nat.{add-sub-cancel}
-use Rattle.args.specs.Arguments.{counted}
-use mathlib.Core.Path.{ap, _∙_}
+use Rattle.args.proofs.Names.{counted}
 use Rattle.args.proofs.ArgumentsLaws.{type-bad, type-scalar, type-later, type-first}
-use borrow.Author.Needs.{needs}
 use Rattle.args.proofs.arguments.Arguments.with_type.Statement.{statement}
 use Rattle.args.proofs.arguments.Arguments.with_type.Tie as tie
 
