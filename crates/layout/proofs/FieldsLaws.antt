@@ -302,6 +302,18 @@ module _ (rows : List (List ℕ)) {x : Slots} {g : Bool} {v w u : List ℕ} (l :
         (same-either (hasRequired rows (badSlots .count)) badSlots
         ∙ ap (checked rows) (sym (l .bad (sym (l .answer) ∙ e))))
 
+-- a good message is a good list
+pub checked-from : (rows : List (List ℕ)) (x : Slots) → checked rows x .good ≡ true → x .good ≡ true
+checked-from rows x = go (hasRequired rows (x .count))
+  where
+    go : (b : Bool) → cond b x badSlots .good ≡ true → x .good ≡ true
+    go true e = e
+    go false e = absurd (let z : _≡_ {A = ℕ} 0 1 = cc in omega arith)
+
+pub settled-good : (rows : List (List ℕ)) {x : Slots} {g r : Bool} {v w u times values starts : List ℕ} →
+    Listed x g v w u → Holds (checked rows x) r times values starts → r ≡ true → g ≡ true
+settled-good rows {x} l h e = l .answer ∙ checked-from rows x (sym (h .answer) ∙ e)
+
 -- a message that ends inside the bytes, or not
 module _ (rows : List (List ℕ)) (s : List ℕ) (from end : ℕ) {times values starts : List ℕ} where
   pub holds-inside : {g : Bool} → end ≤ length s → Holds (fieldsAt rows (take end s) from) g times values starts →

@@ -7,7 +7,7 @@ use Rattle.layout.proofs.Names.{fieldAt, Field, Tail, tail-length, slot
 use Rattle.layout.proofs.Names.{onField, fieldsFrom, fieldsOnto, hasRequired, checked, embedded, endOf, partOnto}
 use Rattle.layout.proofs.Names.{partsOnto, allGood, joined, Use, Part, Slots}
 use Rattle.layout.specs.MergedRules.{OnePart, EachGood, bytesIn, SameFields, MergesAsGuide}
-use Rattle.layout.proofs.FieldsLaws.{Towards, starts-onto, from-end, ends, goes-on, kept-slot}
+use Rattle.layout.proofs.FieldsLaws.{checked-from, Towards, starts-onto, from-end, ends, goes-on, kept-slot}
 use Rattle.layout.proofs.EnoughLaws.{fields-same}
 use Rattle.layout.proofs.KeptLaws.{zeros, same-or-not}
 use Rattle.layout.proofs.JointLaws.{not-both, Joint, here-length, there-length, j-along, joint-rest, rest-good}
@@ -99,13 +99,6 @@ one-part rows s p =
     go false y = sym (either-bad rows)
 
 -- ---- each part is good
-
-checked-from : (rows : List (List ℕ)) (x : Slots) → checked rows x .good ≡ true → x .good ≡ true
-checked-from rows x = go (hasRequired rows (x .count))
-  where
-    go : (b : Bool) → cond b x badSlots .good ≡ true → x .good ≡ true
-    go true e = e
-    go false e = not-both e refl
 
 -- a part is good behind good slots exactly where it is by itself
 module _ (rows : List (List ℕ)) (s : List ℕ) (p : Part) (x : Slots) (g : x .good ≡ true) where

@@ -5,7 +5,7 @@ ghost use Prim.Native.Nat.{_+_, _<_};
 ghost use Rattle.layout.specs.Slots.{badSlots};
 ghost use Rattle.layout.specs.Fields.{fieldsOnto, fieldsTo, hasRequired, met, useBy, useOf};
 ghost use Rattle.layout.specs.Padded.{listPadded, paddedTo};
-ghost use Rattle.layout.specs.private.Arrays.{Adds, Holds, Noted, upToTwo};
+ghost use Rattle.layout.specs.private.Arrays.{Adds, Holds, Noted, Settles, upToTwo};
 use crate::row::COLUMNS;
 use crate::row::NUMBER;
 use crate::row::REPEATED;
@@ -126,7 +126,7 @@ fn row_met(row: [u16; COLUMNS], times: &[u8]) -> bool
 }
 
 // Whether each required field of the message occurs.
-pub(crate) fn has_required(rows: &[[u16; COLUMNS]], times: &[u8]) -> bool
+fn has_required(rows: &[[u16; COLUMNS]], times: &[u8]) -> bool
     ensures { λ r. ⌜ r ≡ hasRequired (now (rows .entry)) (now (times .entry)) ⌝ }
 {
     let mut i = 0;
@@ -135,6 +135,31 @@ pub(crate) fn has_required(rows: &[[u16; COLUMNS]], times: &[u8]) -> bool
             return false;
         }
         i += 1;
+    }
+    true
+}
+
+// The list that the arrays hold as a message with these rows: it must be good and have each required field, and else
+// the arrays are cleared.
+pub(crate) fn settle(
+    rows: &[[u16; COLUMNS]],
+    good: bool,
+    times: &mut [u8; SLOTS],
+    values: &mut [u64; SLOTS],
+    starts: &mut [usize; SLOTS],
+) -> bool
+    ensures { λ r. ⌜
+        Settles (now (rows .entry)) good (now (times .entry)) (now (values .entry)) (now (starts .entry)) r
+        (now (times .exit)) (now (values .exit)) (now (starts .exit))
+        ⌝ }
+{
+    if !good {
+        clear(times, values, starts);
+        return false;
+    }
+    if !has_required(rows, times) {
+        clear(times, values, starts);
+        return false;
     }
     true
 }
@@ -161,13 +186,6 @@ pub fn fill_fields(
     if s.len() < end {
         return false;
     }
-    if !list_fields(rows, &s[..end], from, times, values, starts, padded) {
-        clear(times, values, starts);
-        return false;
-    }
-    if !has_required(rows, times) {
-        clear(times, values, starts);
-        return false;
-    }
-    true
+    let good = list_fields(rows, &s[..end], from, times, values, starts, padded);
+    settle(rows, good, times, values, starts)
 }

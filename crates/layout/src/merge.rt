@@ -5,8 +5,8 @@ ghost use Rattle.layout.specs.Merged.{isPart, merged, partsIn, partsOf, 
 ghost use Rattle.layout.specs.Padded.{partsPadded};
 ghost use Rattle.layout.specs.private.Arrays.{Adds, Holds};
 use crate::fields::clear;
-use crate::fields::has_required;
 use crate::fields::list_fields;
+use crate::fields::settle;
 use crate::row::COLUMNS;
 use crate::slots::SLOTS;
 use protocol::wire_type;
@@ -34,15 +34,8 @@ pub fn merge_fields(
         ⌝ }
 {
     clear(times, values, starts);
-    if !list_parts(rows, s, from, k, times, values, starts, padded) {
-        clear(times, values, starts);
-        return false;
-    }
-    if !has_required(rows, times) {
-        clear(times, values, starts);
-        return false;
-    }
-    true
+    let good = list_parts(rows, s, from, k, times, values, starts, padded);
+    settle(rows, good, times, values, starts)
 }
 
 // The same where the other one is itself in parts, the fields `outer` of a third.
@@ -71,15 +64,8 @@ pub fn merge_inner(
         ⌝ }
 {
     clear(times, values, starts);
-    if !list_inner(rows, s, from, outer, k, times, values, starts, padded) {
-        clear(times, values, starts);
-        return false;
-    }
-    if !has_required(rows, times) {
-        clear(times, values, starts);
-        return false;
-    }
-    true
+    let good = list_inner(rows, s, from, outer, k, times, values, starts, padded);
+    settle(rows, good, times, values, starts)
 }
 
 // Whether a field is a part of the message in field k.

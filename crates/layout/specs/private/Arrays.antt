@@ -6,6 +6,7 @@ use mathlib.Core.Path.{_≡_}
 use mathlib.Core.List.{List, map}
 use lib.Dec.{eqb}
 use Rattle.layout.specs.Slots.{badSlots}
+use Rattle.layout.specs.Fields.{checked}
 use Rattle.layout.specs.declared.slots.Slots.{Slots}
 
 -- how often each field number occurs, as far as it matters: never, once, or more often
@@ -36,6 +37,11 @@ pub record Adds (f : Slots → Slots) (times₀ value₀ start₀ : List ℕ) (g
 pub record Holds (x : Slots) (good : Bool) (times value start : List ℕ) : Type 0 where
   pub answer : good ≡ x .good
   pub held : Noted x times value start
+
+-- whatever list the arrays held before, they now hold the message with these rows that it is
+pub record Settles (rows : List (List ℕ)) (good₀ : Bool) (times₀ value₀ start₀ : List ℕ) (good : Bool)
+    (times value start : List ℕ) : Type 0 where
+  pub message : (x : Slots) → Listed x good₀ times₀ value₀ start₀ → Holds (checked rows x) good times value start
 
 -- slots from arrays: a field that occurs more than once counts twice, and of a field with bytes the value is the length
 abbrev pub fromArrays : Bool → List ℕ → List ℕ → List ℕ → Slots
