@@ -11,7 +11,7 @@
  * is one byte long in a frame, or as many as the number at the end of its name says. */
 enum { CURSOR = 8, OPENED = 32, EXECUTED, REPLACED, NOT_LIVE = 99, OTHERS = 1000 };
 enum { CURSOR_2 = 208, OPENED_2 = 232, REPLACED_2 = 234, NOT_LIVE_2 = 299, CURSOR_5 = 0x10000008 };
-enum { NULLS = 8190, OBJECTS = 16377, EMPTY_STRINGS = 5460 };
+enum { NULLS = 8190, OBJECTS = 16377, EMPTY_STRINGS = 5460, EMPTY_PARTS = 20000, SCALARS_AGAIN = 4000 };
 
 static const Report none = {.kind = REPORT_NONE}, done = {.kind = REPORT_DONE}, prepared = {.kind = REPORT_PREPARED},
                     result = {.kind = REPORT_RESULT, .columns = 7, .rows = 60000};
@@ -76,6 +76,8 @@ static void add_reading(void)
     prepare_frame(reading("read Prepare, 60 KB of SQL", true), 1, 60000, 0, NULL);
     prepare_frame(reading("read Prepare, 16377 objects", false), 1, 1, OBJECTS, put_object);
     find_frame(reading("read Prepare, find of 60 KB", false), 1, 60000);
+    prepare_again(reading("read Prepare, 20000 empty statements first", false), 1, EMPTY_PARTS);
+    repeat_frame(reading("read Execute, 4000 scalars that come twice", false), 2, SCALARS_AGAIN, put_scalar_again);
     reset_with(reading("read Reset, groups 32 deep, 60 KB", true), unknown_groups, 60000);
     reset_with(reading("read Reset, groups 32 deep, 64 bytes", true), unknown_groups, 60);
     reset_with(reading("read Reset, fields of 2 bytes, 65 KB", false), tiny_fields, MAX_FRAME);

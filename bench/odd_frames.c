@@ -71,3 +71,34 @@ void fetch_padded_tags(Frame *f, uint64_t cursor)
     put_padded_tag(f, 2, 1);
     finish(f);
 }
+
+/* ---- embedded messages that come again */
+
+void prepare_again(Frame *f, uint64_t id, unsigned empty)
+{
+    static Frame body, stmt;
+    body.len = 0;
+    put_bytes(&body, 1, "S", 1);
+    stmt.len = 0;
+    put_field(&stmt, 1, STMT_EXECUTE);
+    put_message(&stmt, 6, &body);
+    start(f, PREPARE);
+    put_field(f, 1, id);
+    while (empty-- > 0)
+        put_bytes(f, 2, "", 0);
+    put_message(f, 2, &stmt);
+    finish(f);
+}
+
+void put_scalar_again(Frame *f)
+{
+    static Frame scalar, any;
+    scalar.len = 0;
+    put_field(&scalar, 1, SINT);
+    any.len = 0;
+    put_field(&any, 1, ANY_SCALAR);
+    put_message(&any, 2, &scalar);
+    put_field(&scalar, 2, 1);
+    put_message(&any, 2, &scalar);
+    put_message(f, 2, &any);
+}

@@ -1,4 +1,5 @@
-/* Frames that are good, with fields that no message has or with numbers longer than they need be. */
+/* Frames that are good, with fields that no message has, with numbers longer than they need be, or with embedded
+ * messages that come again. */
 #ifndef ODD_FRAMES_H
 #define ODD_FRAMES_H
 
@@ -23,5 +24,10 @@ void fetch_with(Frame *f, uint64_t cursor, Fields fields, size_t len);
 /* A Fetch of one row whose own numbers, or tags, have ten bytes. */
 void fetch_padded_numbers(Frame *f, uint64_t cursor);
 void fetch_padded_tags(Frame *f, uint64_t cursor);
+
+/* A Prepare whose statement comes so often with no bytes, and then whole. */
+void prepare_again(Frame *f, uint64_t id, unsigned empty);
+/* An args field whose scalar comes twice, first with its type alone. */
+void put_scalar_again(Frame *f);
 
 #endif
