@@ -3,12 +3,12 @@ use Rattle.prelude.proofs.Basics.{ℕ, zero, suc, _+_, _<_, arith, Bool, true, 
 use Rattle.prelude.proofs.Basics.{subst, _∙_, List, [], _∷_, _++_, length, getD, take, length-append, length-set}
 use Rattle.prelude.proofs.Basics.{getD-set-other, getD-set-same, eqb, leb, ltb, eq-eqb, eqb-true, ltb-true, ne-eqb}
 use Rattle.prelude.proofs.Basics.{not-true}
-use Rattle.layout.proofs.Names.{fieldAt, Field, len, numberOf, wireOf, isRepeated, listedOf, rowFor, listed}
-use Rattle.layout.proofs.Names.{slotCount, takes, noSlots, badSlots, useOf, noted, onField, fieldsFrom}
+use Rattle.layout.proofs.Names.{fieldAt, Field, len, rowsOf, numberOf, wireOf, isRepeated, listedOf, rowFor}
+use Rattle.layout.proofs.Names.{listed, slotCount, takes, noSlots, badSlots, useOf, noted, onField, fieldsFrom}
 use Rattle.layout.proofs.Names.{fieldsOnto, hasRequired, checked, endOf, isPart, partBy, partsFrom, partsOf}
 use Rattle.layout.proofs.Names.{partsIn, partOnto, partsOnto, Use, Part, Slots}
 use Rattle.layout.specs.Part.{countOf, startOf, lenOf}
-use Rattle.layout.specs.MergedRules.{holdsBytes, lastStart, lastLen, Keeps, PartsKept}
+use Rattle.layout.specs.MergedRules.{holdsBytes, RowsHold, lastStart, lastLen, Keeps, PartsKept}
 use Rattle.layout.proofs.JointLaws.{not-both, and-first, and-second}
 use Rattle.layout.proofs.KeptLaws.{zeros, same-or-not}
 
@@ -244,6 +244,10 @@ parts-kept =
           checked-keeps rows (partsOnto rows s ps noSlots) k (partsIn k s ps)
           (λ good. from-none k (partsIn k s ps) (parts-grow rows k h s ps noSlots none-slotted good));
     }
+
+pub rows-hold : RowsHold
+unfolding rowsOf rowFor
+rows-hold = refl
 
 -- a field that occurs once has one part, which is kept
 pub one-only : (x : Slots) (k : ℕ) (ps : List Part) → Keeps x k ps → countOf x k ≡ 1 →
