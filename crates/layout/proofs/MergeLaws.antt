@@ -7,9 +7,10 @@ use Rattle.layout.proofs.Names.{partBy, partsFrom, partsOf, partsIn, pa
 use Rattle.layout.proofs.Names.{Slots}
 use Rattle.layout.specs.Padded.{partPadded, partsPadded}
 use Rattle.layout.specs.private.Arrays.{Noted, Listed, Adds}
+use Rattle.layout.specs.private.NextPart.{Found}
 use Rattle.layout.proofs.PartsLaws.{parts-end, parts-on}
 use Rattle.layout.proofs.JointLaws.{not-both}
-use Rattle.layout.proofs.PaddedLaws.{padded-inside}
+use Rattle.layout.proofs.PaddedLaws.{field-ahead, padded-inside}
 
 -- ---- one part after the other
 
@@ -70,78 +71,55 @@ module _ {f : Part → Slots → Slots} {g : Part → Bool} {k : ℕ} {s : List 
   pub ended : length s ≤ p → partsOf k s p ≡ []
   ended h = parts-end k s (length s) p h
 
-  module _ (inside : p < length s) where
-    pub no-more : fieldAt s p ≡ Field.Bad → partsOf k s p ≡ []
-    no-more e = parts-on k s p inside Field.Bad e
+  -- a part
+  module _ {start n next : ℕ} (found : Found k s p start n next) where
+    abbrev this : Part
+    this = record { start = start; len = n }
 
-    module _ {number wire v start n next : ℕ} (e : fieldAt s p ≡ Field.Good number wire v start n next) where
-      -- a field between the parts
-      pub passes-by : isPart k number wire ≡ false →
-          Passing f g k s from times₀ values₀ starts₀ padded₀ next times values starts padded
-      passes-by q =
-          let same : partsOf k s p ≡ partsOf k s next =
-          parts-on k s p inside _ e
-          ∙ sym (no (record { start = start; len = n } ∷ partsOf k s next) (partsOf k s next) q) in
+    module _ {times′ values′ starts′ : List ℕ} where
+      pub passes : {padded′ : Bool} → Adds (f this) times values starts true times′ values′ starts′ →
+          padded′ ≡ (padded || g this) →
+          Passing f g k s from times₀ values₀ starts₀ padded₀ next times′ values′ starts′ padded′
+      unfolding through anyPart
+      passes {padded′} a w =
           record {
-            onto = λ x good m.
-                subst
-                (λ (ps : List Part). Merging f (through f (partsOf k s from) x) ps times values starts) same
-                (l .onto x good m);
-            flag = ap (λ (ps : List Part). padded || anyPart g ps) (sym same) ∙ l .flag;
+            onto = λ x good m. on x (l .onto x good m);
+            flag =
+                ap (λ (b : Bool). b || anyPart g (partsOf k s next)) w
+                ∙ or-assoc padded (g this) (anyPart g (partsOf k s next))
+                ∙ ap (λ (ps : List Part). padded || anyPart g ps) (sym (found .parts))
+                ∙ l .flag;
           }
-
-      -- a part
-      module _ (q : isPart k number wire ≡ true) where
-        abbrev this : Part
-        this = record { start = start; len = n }
-
-        parts : partsOf k s p ≡ this ∷ partsOf k s next
-        parts = parts-on k s p inside _ e ∙ sym (yes (this ∷ partsOf k s next) (partsOf k s next) q)
-
-        module _ {times′ values′ starts′ : List ℕ} where
-          pub passes : {padded′ : Bool} → Adds (f this) times values starts true times′ values′ starts′ →
-              padded′ ≡ (padded || g this) →
-              Passing f g k s from times₀ values₀ starts₀ padded₀ next times′ values′ starts′ padded′
-          unfolding through anyPart
-          passes {padded′} a w =
+        where
+          on : (x : Slots) → Merging f (through f (partsOf k s from) x) (partsOf k s p) times values starts →
+              Merging f (through f (partsOf k s from) x) (partsOf k s next) times′ values′ starts′
+          on x m =
+              let listed = a .onto (m .slots) (m .sound) (m .held) in
+              let good = sym (listed .answer) in
               record {
-                onto = λ x good m. on x (l .onto x good m);
-                flag =
-                    ap (λ (b : Bool). b || anyPart g (partsOf k s next)) w
-                    ∙ or-assoc padded (g this) (anyPart g (partsOf k s next))
-                    ∙ ap (λ (ps : List Part). padded || anyPart g ps) (sym parts)
-                    ∙ l .flag;
+                slots = f this (m .slots);
+                sound = good;
+                whole =
+                    yes (through f (partsOf k s next) (f this (m .slots))) badSlots good
+                    ∙ ap (λ (ps : List Part). through f ps (m .slots)) (sym (found .parts))
+                    ∙ m .whole;
+                held = listed .held good;
               }
-            where
-              on : (x : Slots) → Merging f (through f (partsOf k s from) x) (partsOf k s p) times values starts →
-                  Merging f (through f (partsOf k s from) x) (partsOf k s next) times′ values′ starts′
-              on x m =
-                  let listed = a .onto (m .slots) (m .sound) (m .held) in
-                  let good = sym (listed .answer) in
-                  record {
-                    slots = f this (m .slots);
-                    sound = good;
-                    whole =
-                        yes (through f (partsOf k s next) (f this (m .slots))) badSlots good
-                        ∙ ap (λ (ps : List Part). through f ps (m .slots)) (sym parts)
-                        ∙ m .whole;
-                    held = listed .held good;
-                  }
 
-          pub spoils : Adds (f this) times values starts false times′ values′ starts′ →
-              Adds (through f (partsOf k s from)) times₀ values₀ starts₀ false times′ values′ starts′
-          unfolding through
-          spoils a = record { onto = λ x good m. bad x (l .onto x good m) }
-            where
-              bad : (x : Slots) → Merging f (through f (partsOf k s from) x) (partsOf k s p) times values starts →
-                  Listed (through f (partsOf k s from) x) false times′ values′ starts′
-              bad x m =
-                  let listed = a .onto (m .slots) (m .sound) (m .held) in
-                  subst (λ (y : Slots). Listed y false times′ values′ starts′)
-                  (no (through f (partsOf k s next) (f this (m .slots))) badSlots (sym (listed .answer))
-                  ∙ ap (λ (ps : List Part). through f ps (m .slots)) (sym parts)
-                  ∙ m .whole)
-                  (record { answer = refl; held = λ e. not-both e refl; bad = λ _. refl })
+      pub spoils : Adds (f this) times values starts false times′ values′ starts′ →
+          Adds (through f (partsOf k s from)) times₀ values₀ starts₀ false times′ values′ starts′
+      unfolding through
+      spoils a = record { onto = λ x good m. bad x (l .onto x good m) }
+        where
+          bad : (x : Slots) → Merging f (through f (partsOf k s from) x) (partsOf k s p) times values starts →
+              Listed (through f (partsOf k s from) x) false times′ values′ starts′
+          bad x m =
+              let listed = a .onto (m .slots) (m .sound) (m .held) in
+              subst (λ (y : Slots). Listed y false times′ values′ starts′)
+              (no (through f (partsOf k s next) (f this (m .slots))) badSlots (sym (listed .answer))
+              ∙ ap (λ (ps : List Part). through f ps (m .slots)) (sym (found .parts))
+              ∙ m .whole)
+              (record { answer = refl; held = λ e. not-both e refl; bad = λ _. refl })
 
 -- ---- what is done with each part
 
@@ -297,6 +275,29 @@ part-ends s p {start = start} {n = n} e = go (field-past s p)
   where
     go : PastField p (length s) (fieldAt s p) → start + n ≤ length s
     go = rw e (λ h. omega arith)
+
+-- going on to the next part
+module _ (k : ℕ) (s : List ℕ) (p : ℕ) (inside : p < length s) where
+  pub no-more : fieldAt s p ≡ Field.Bad → partsOf k s p ≡ []
+  no-more e = parts-on k s p inside Field.Bad e
+
+  module _ {number wire v start n next : ℕ} (e : fieldAt s p ≡ Field.Good number wire v start n next) where
+    pub passes-by : isPart k number wire ≡ false → partsOf k s next ≡ partsOf k s p
+    passes-by q =
+        no (record { start = start; len = n } ∷ partsOf k s next) (partsOf k s next) q
+        ∙ sym (parts-on k s p inside _ e)
+
+    pub found-here : {at : ℕ} → partsOf k s p ≡ partsOf k s at → at ≤ p → isPart k number wire ≡ true →
+        Found k s at start n next
+    found-here same before q =
+        record {
+          parts =
+              sym same
+              ∙ parts-on k s p inside _ e
+              ∙ sym (yes (record { start = start; len = n } ∷ partsOf k s next) (partsOf k s next) q);
+          inside = part-ends s p e;
+          onward = omega (arith, before, field-ahead s p e);
+        }
 
 module _ (rows : List (List ℕ)) (s : List ℕ) {times₀ values₀ starts₀ times values starts : List ℕ} {r : Bool} where
   module _ (p : Part) (inside : endOf p ≤ length s) where

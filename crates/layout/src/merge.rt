@@ -4,6 +4,7 @@ ghost use mathlib.Core.Bool.{_||_, true};
 ghost use Rattle.layout.specs.Merged.{isPart, merged, partsIn, partsOf, partsOnto};
 ghost use Rattle.layout.specs.Padded.{partsPadded};
 ghost use Rattle.layout.specs.private.Arrays.{Adds, Holds};
+ghost use Rattle.layout.specs.private.NextPart.{Tells};
 use crate::fields::clear;
 use crate::fields::list_fields;
 use crate::fields::settle;
@@ -11,6 +12,16 @@ use crate::row::COLUMNS;
 use crate::slots::SLOTS;
 use protocol::wire_type;
 use wire::field::Field;
+
+// Where a part stands, and the place behind it; or there is no more.
+pub enum NextPart {
+    At {
+        start: usize,
+        len: usize,
+        next: usize,
+    },
+    End,
+}
 
 // The message with these rows whose parts are the fields k of another one, which goes from `from` to the end of s. The
 // arrays and the answer are as fill_fields has them; of a bad message the flag says nothing.
@@ -78,8 +89,34 @@ fn is_part(k: u64, number: u64, wire: u64) -> bool
     wire == wire_type::LEN
 }
 
-// The fields of each part, noted behind what the arrays hold; answers whether all are good. The fields between the
-// parts were read before, so that their flag, `unread`, is not looked at.
+// The next part in field k at or behind a place. The fields between the parts were read before, so that their flag,
+// `unread`, is not looked at; behind a bad one there is no part.
+fn next_part(s: &[u8], at: usize, k: u64) -> NextPart
+    ensures { λ r. ⌜ Tells k (now (s .entry)) at r ⌝ }
+{
+    let mut unread = false;
+    let mut p = at;
+    while p < s.len() {
+        let Field::Good {
+            number,
+            wire,
+            value: _,
+            start,
+            len,
+            next,
+        } = wire::field::long_field(s, p, &mut unread)
+        else {
+            return NextPart::End;
+        };
+        if is_part(k, number, wire) {
+            return NextPart::At { start, len, next };
+        }
+        p = next;
+    }
+    NextPart::End
+}
+
+// The fields of each part, noted behind what the arrays hold; answers whether all are good.
 fn list_parts(
     rows: &[[u16; COLUMNS]],
     s: &[u8],
@@ -99,29 +136,16 @@ fn list_parts(
         now (padded .exit) ≡ (now (padded .entry) || partsPadded (now (s .entry)) (partsOf k (now (s .entry)) from)))
         ⌝ }
 {
-    let mut unread = false;
     let mut p = from;
     while p < s.len() {
-        let Field::Good {
-            number,
-            wire,
-            value: _,
-            start,
-            len,
-            next,
-        } = wire::field::long_field(s, p, &mut unread)
-        else {
+        let NextPart::At { start, len, next } = next_part(s, p, k) else {
             return true;
         };
-        if is_part(k, number, wire) {
-            let end = start + len;
-            if !list_fields(rows, &s[..end], start, times, values, starts, padded) {
-                return false;
-            }
-            p = next;
-        } else {
-            p = next;
+        let end = start + len;
+        if !list_fields(rows, &s[..end], start, times, values, starts, padded) {
+            return false;
         }
+        p = next;
     }
     true
 }
@@ -152,29 +176,16 @@ fn list_inner(
         || partsPadded (now (s .entry)) (partsIn k (now (s .entry)) (partsOf outer (now (s .entry)) from))))
         ⌝ }
 {
-    let mut unread = false;
     let mut p = from;
     while p < s.len() {
-        let Field::Good {
-            number,
-            wire,
-            value: _,
-            start,
-            len,
-            next,
-        } = wire::field::long_field(s, p, &mut unread)
-        else {
+        let NextPart::At { start, len, next } = next_part(s, p, outer) else {
             return true;
         };
-        if is_part(outer, number, wire) {
-            let end = start + len;
-            if !list_parts(rows, &s[..end], start, k, times, values, starts, padded) {
-                return false;
-            }
-            p = next;
-        } else {
-            p = next;
+        let end = start + len;
+        if !list_parts(rows, &s[..end], start, k, times, values, starts, padded) {
+            return false;
         }
+        p = next;
     }
     true
 }

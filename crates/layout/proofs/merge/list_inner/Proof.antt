@@ -1,133 +1,95 @@
--- `layout::merge::list_inner` meets its contract: each turn reads the field at the place, and lists the parts in a
--- part. Assumes nothing.
-use Rattle.prelude.proofs.Basics.{ℕ, _+_, _-_, _≤_, _<_, arith, Bool, true, false, _≡_, sym, _∙_, length, length-take}
-use Rattle.prelude.proofs.Basics.{needs, not-false, not-true, or-same}
-use Rattle.layout.proofs.Names.{fieldAt, Field, isPart, partsOf, Part}
+-- `layout::merge::list_inner` meets its contract: the parts in each part are listed in turn. Assumes nothing.
+use Rattle.prelude.proofs.Basics.{_+_, _-_, arith, Bool, true, false, _≡_, refl, subst, _∙_, length, length-take, needs}
+use Rattle.prelude.proofs.Basics.{not-false, not-true, or-same}
+use Rattle.layout.proofs.Names.{partsOf, Part}
 use Rattle.layout.specs.private.Arrays.{Adds}
-use Rattle.layout.proofs.PaddedLaws.{field-ahead}
-use Rattle.layout.proofs.MergeLaws.{Passing, passing, passed, passed-flag, ended, no-more, passes-by, passes}
-use Rattle.layout.proofs.MergeLaws.{spoils, part-ends, innerOnto, innerPadded, inner-adds, inner-done}
-use Rattle.layout.proofs.MergeLaws.{inner-flag, inner-told}
+use Rattle.layout.specs.private.NextPart.{Found, Tells}
+use Rattle.layout.proofs.JointLaws.{not-both}
+use Rattle.layout.proofs.MergeLaws.{Passing, passing, passed, passed-flag, ended, passes, spoils, innerOnto}
+use Rattle.layout.proofs.MergeLaws.{innerPadded, inner-adds, inner-done, inner-flag, inner-told}
 use Rattle.layout.proofs.merge.list_inner.Statement.{statement}
 use Rattle.layout.proofs.merge.list_inner.Tie as tie
 
 abbrev Inv-loop : tie.InvT-loop
-Inv-loop rows s from outer k times₀ values₀ starts₀ padded₀ unread₀ p₀ times values starts padded unread p =
-    Passing (innerOnto rows k s) (innerPadded k s) outer s from times₀ values₀ starts₀ padded₀ p times values starts
-    padded
+Inv-loop rows s from outer k times₀ values₀ starts₀ padded₀ p₀ times values starts padded p =
+    Passing (innerOnto rows k s) (innerPadded k s) outer s from times₀ values₀ starts₀ padded₀ p times values starts padded
 
 abbrev μ-loop : tie.MeasureT-loop
-μ-loop rows s from outer k times₀ values₀ starts₀ padded₀ unread₀ p₀ times values starts padded unread p = length s - p
+μ-loop rows s from outer k times₀ values₀ starts₀ padded₀ p₀ times values starts padded p = length s - p
 
-abbrev start : tie.After-long-field Inv-loop μ-loop → tie.Start Inv-loop μ-loop
-start r = r .before .before .before .before .before
+abbrev start : tie.After-next-part Inv-loop μ-loop → tie.Start Inv-loop μ-loop
+start r = r .before .before .before .before
 
-abbrev loop : tie.After-long-field Inv-loop μ-loop → tie.At-loop Inv-loop μ-loop
-loop r = r .before .before .before
+abbrev loop : tie.After-next-part Inv-loop μ-loop → tie.At-loop Inv-loop μ-loop
+loop r = r .before .before
 
--- the field that a turn reads
-read : (r : tie.After-long-field Inv-loop μ-loop) {f : Field} → r .long-field .result ≡ f →
-    fieldAt (start r .args .s .now) (loop r .loop .p) ≡ f
-read r e = sym (r .long-field .ensures .0) ∙ e
+module _ (f : tie.After-start Inv-loop μ-loop) where
+  abbrev back : tie.After-next-part Inv-loop μ-loop
+  back = f .before .before
 
--- a turn in the loop
-abbrev inside : tie.After-long-field Inv-loop μ-loop → tie.In-loop Inv-loop μ-loop
-inside r = r .before .before
+  abbrev part : Part
+  part = record { start = f .start .given .0 .0; len = f .start .given .0 .1 .0 }
+
+  found : Found (start back .args .outer) (start back .args .s .now) (loop back .loop .p) (part .start) (part .len)
+      (f .start .given .0 .1 .1 .0)
+  found =
+      subst (Tells (start back .args .outer) (start back .args .s .now) (loop back .loop .p)) (f .start .given .1)
+      (back .next-part .ensures)
+
+-- where a part was listed
+abbrev told-of : tie.After-list-parts Inv-loop μ-loop → tie.After-start Inv-loop μ-loop
+told-of t = t .before .before .before .before .before .before .before
+
+-- its fields, behind what the arrays held
+listed : (t : tie.After-list-parts Inv-loop μ-loop) (b : Bool) → t .list-parts .result ≡ b →
+    Adds (innerOnto (start (back (told-of t)) .args .rows .now) (start (back (told-of t)) .args .k) (start (back (told-of t)) .args .s .now) (part (told-of t)))
+    (loop (back (told-of t)) .loop .times) (loop (back (told-of t)) .loop .values)
+    (loop (back (told-of t)) .loop .starts) b (t .list-parts .last .1 .1 .1 .1 .0)
+    (t .list-parts .last .1 .1 .1 .1 .1 .0) (t .list-parts .last .1 .1 .1 .1 .1 .1 .0)
+listed t b e =
+    inner-adds (start (back (told-of t)) .args .rows .now) (start (back (told-of t)) .args .s .now) (part (told-of t)) (found (told-of t) .inside) (start (back (told-of t)) .args .k)
+    (rw e at (t .list-parts .ensures .0))
 
 returns : tie.Need-returns Inv-loop μ-loop
 returns c =
     let r = c .before .before in
     let a = start r .args in
     let l = loop r .loop .inv in
-    let none = no-more l (inside r .loop-test .taken) (read r (c .enum-told .given .1)) in
-    let ps = partsOf (a .outer) (a .s .now) (a .from) in (
-      inner-done (a .rows .now) (a .s .now) (a .k) ps (passed l none),
-      λ _. passed-flag l none ∙ inner-told (a .s .now) (a .k) ps (a .padded .now),
-    )
-
-module _ (f : tie.After-number Inv-loop μ-loop) where
-  abbrev back : tie.After-long-field Inv-loop μ-loop
-  back = f .before .before
-
-  abbrev part : Part
-  part = record { start = f .number .given .0 .1 .1 .1 .0; len = f .number .given .0 .1 .1 .1 .1 .0 }
-
-  part-inside : part .start + part .len ≤ length (start back .args .s .now)
-  part-inside = part-ends (start back .args .s .now) (loop back .loop .p) (read back (f .number .given .1))
-
-  onward : (loop back .loop .p < f .number .given .0 .1 .1 .1 .1 .1 .0)
-      × (loop back .loop .p < length (start back .args .s .now))
-  onward = (
-    field-ahead (start back .args .s .now) (loop back .loop .p) (read back (f .number .given .1)),
-    inside back .loop-test .taken,
-  )
-
--- where a part was listed
-abbrev number : tie.After-list-parts Inv-loop μ-loop → tie.After-number Inv-loop μ-loop
-number t = t .before .before .before .before .before .before .before .before .before
-
-abbrev args : tie.After-list-parts Inv-loop μ-loop → tie.Start Inv-loop μ-loop
-args t = start (back (number t))
-
-module _ (t : tie.After-list-parts Inv-loop μ-loop) where
-  abbrev taken : tie.Then1 Inv-loop μ-loop
-  taken = t .before .before .before .before .before .before
-
-  -- the field is a part
-  parts : isPart (args t .args .outer) (number t .number .given .0 .0) (number t .number .given .0 .1 .0) ≡ true
-  parts = sym (taken .before .is-part .ensures) ∙ taken .if1 .taken
-
-  -- the fields of the part, behind what the arrays held
-  listed : (b : Bool) → t .list-parts .result ≡ b →
-      Adds (innerOnto (args t .args .rows .now) (args t .args .k) (args t .args .s .now) (part (number t)))
-      (loop (back (number t)) .loop .times) (loop (back (number t)) .loop .values)
-      (loop (back (number t)) .loop .starts) b (t .list-parts .last .1 .1 .1 .1 .0)
-      (t .list-parts .last .1 .1 .1 .1 .1 .0) (t .list-parts .last .1 .1 .1 .1 .1 .1 .0)
-  listed b e =
-      inner-adds (args t .args .rows .now) (args t .args .s .now) (part (number t)) (part-inside (number t))
-      (args t .args .k)
-      (rw e at (t .list-parts .ensures .0))
+    let none = subst (Tells (a .outer) (a .s .now) (loop r .loop .p)) (c .enum-told .given .1) (r .next-part .ensures) in
+    let ps = partsOf (a .outer) (a .s .now) (a .from) in
+    (inner-done (a .rows .now) (a .s .now) (a .k) ps (passed l none), λ _. passed-flag l none ∙ inner-told (a .s .now) (a .k) ps (a .padded .now))
 
 returns-2 : tie.Need-returns-2 Inv-loop μ-loop
 returns-2 c =
     let t = c .before in
-    let f = number t in
-    let a = args t .args in (
+    let f = told-of t in
+    let a = start (back f) .args in (
       inner-done (a .rows .now) (a .s .now) (a .k) (partsOf (a .outer) (a .s .now) (a .from))
-          (spoils (loop (back f) .loop .inv) (onward f .1) (read (back f) (f .number .given .1)) (parts t)
-          (listed t false (not-true _ (c .if2 .taken)))),
-      λ e. absurd (let z : _≡_ {A = ℕ} 0 1 = cc in omega arith),
+          (spoils (loop (back f) .loop .inv) (found f) (listed t false (not-true _ (c .if1 .taken)))),
+      λ e. not-both e refl,
     )
 
 again : tie.Need-loop-again Inv-loop μ-loop
 again c =
     let t = c .before in
-    let f = number t in
-    let a = args t .args in
-    passes (loop (back f) .loop .inv) (onward f .1) (read (back f) (f .number .given .1)) (parts t)
-    (listed t true (not-false _ (c .if2 .left)))
-    (t .list-parts .ensures .1 (not-false _ (c .if2 .left))
-    ∙ or-same (loop (back f) .loop .padded) (inner-flag (a .s .now) (part f) (part-inside f) (a .k)))
+    let f = told-of t in
+    passes (loop (back f) .loop .inv) (found f) (listed t true (not-false _ (c .if1 .left)))
+    (t .list-parts .ensures .1 (not-false _ (c .if1 .left)) ∙ or-same (loop (back f) .loop .padded) (inner-flag (start (back (told-of t)) .args .s .now) (part f) (found f .inside) (start (back (told-of t)) .args .k)))
 
 pub list-inner-spec : {M : Type 1} → statement M
 list-inner-spec = tie.close (tie.spec Inv-loop μ-loop
-    (λ c. let a = c .before .args in
-    passing (innerOnto (a .rows .now) (a .k) (a .s .now)) (innerPadded (a .k) (a .s .now)) (a .outer) (a .s .now)
-    (a .from) (a .times .now) (a .values .now) (a .starts .now) (a .padded .now))
-    (λ c κs. tt) (λ c. search needs) (λ c. search needs) returns (λ c κs. tt)
-    (λ c. omega (arith, part-inside (c .before .before .before)))
-    (λ c. let f = c .before .before .before .before in omega (
+    (λ c. let a = c .before .args in passing (innerOnto (a .rows .now) (a .k) (a .s .now)) (innerPadded (a .k) (a .s .now)) (a .outer)
+    (a .s .now) (a .from) (a .times .now) (a .values .now) (a .starts .now) (a .padded .now))
+    (λ c κs. tt) (λ c. search needs) (λ c. search needs) returns
+    (λ c. omega (arith, found (c .before) .inside))
+    (λ c. let f = c .before .before in omega (
       arith,
-      part-inside f,
+      found f .inside,
       length-take (part f .start + part f .len) (start (back f) .args .s .now),
     )) (λ c κs. tt) returns-2
-    (λ c. let w = onward (number (c .before)) in omega (arith, w .0, w .1)) again
-    (λ c. let w = onward (c .before .before .before) in omega (arith, w .0, w .1))
-    (λ c. let f = c .before .before .before in passes-by (loop (back f) .loop .inv) (onward f .1)
-    (read (back f) (f .number .given .1)) (sym (c .before .is-part .ensures) ∙ c .if1 .left))
+    (λ c. let f = told-of (c .before) in
+    omega (arith, found f .onward, back f .before .loop-test .taken)) again
     (λ c. let a = c .before .before .before .args in let l = c .before .loop .inv in
     let none = ended l (c .loop-test .left) in
-    let ps = partsOf (a .outer) (a .s .now) (a .from) in (
-      inner-done (a .rows .now) (a .s .now) (a .k) ps (passed l none),
-      λ _. passed-flag l none ∙ inner-told (a .s .now) (a .k) ps (a .padded .now),
-    )))
+    let ps = partsOf (a .outer) (a .s .now) (a .from) in
+    (inner-done (a .rows .now) (a .s .now) (a .k) ps (passed l none), λ _. passed-flag l none ∙ inner-told (a .s .now) (a .k) ps (a .padded .now))))
