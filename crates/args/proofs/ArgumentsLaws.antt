@@ -116,16 +116,16 @@ unfolding Each
 nth-within s from index =
     handed-out-ends s (length s) (getD (argumentsAt s from) index (Va.Refused 9)) (from-each s (length s) from index)
 
-together-none : (x : Arguments) → together x [] ≡ x
+pub together-none : (x : Arguments) → together x [] ≡ x
 unfolding together
 together-none x = refl
 
-together-bad : (x : Arguments) (a : Argument) (rest : List Argument) → anyTypeOf a ≡ 0 →
+pub together-bad : (x : Arguments) (a : Argument) (rest : List Argument) → anyTypeOf a ≡ 0 →
     together x (a ∷ rest) ≡ badArguments
 unfolding together
 together-bad x a rest h = simp (eq-eqb (anyTypeOf a) 0 h)
 
-together-on : (x : Arguments) (a : Argument) (rest : List Argument) → (anyTypeOf a ≡ 0 → ⊥) →
+pub together-on : (x : Arguments) (a : Argument) (rest : List Argument) → (anyTypeOf a ≡ 0 → ⊥) →
     together x (a ∷ rest) ≡ together (withType x (anyTypeOf a)) rest
 unfolding together
 together-on x a rest h =

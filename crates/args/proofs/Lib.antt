@@ -6,6 +6,7 @@ pub mod KindLaws
 pub mod ScalarLaws
 pub mod PlaceLaws
 pub mod ArgumentsLaws
+pub mod ToldLaws
 pub mod TypedLaws
 pub mod ArrayLaws
 pub mod EnoughLaws

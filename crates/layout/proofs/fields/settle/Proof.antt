@@ -8,7 +8,8 @@ use Rattle.layout.proofs.fields.settle.Tie as tie
 returns : tie.Need-returns
 returns c =
     let t = c .before .before .before .before in
-    record { message = λ x l. lists-bad (t .before .args .rows .now) l (c .clear .ensures) (not-true _ (t .if1 .taken)) }
+    let rows = t .before .args .rows .now in
+    record { message = λ x l. lists-bad rows l (c .clear .ensures) (not-true _ (t .if1 .taken)) }
 
 returns-2 : tie.Need-returns-2
 returns-2 c =

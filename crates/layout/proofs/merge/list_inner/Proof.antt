@@ -12,7 +12,8 @@ use Rattle.layout.proofs.merge.list_inner.Tie as tie
 
 abbrev Inv-loop : tie.InvT-loop
 Inv-loop rows s from outer k times₀ values₀ starts₀ padded₀ p₀ times values starts padded p =
-    Passing (innerOnto rows k s) (innerPadded k s) outer s from times₀ values₀ starts₀ padded₀ p times values starts padded
+    Passing (innerOnto rows k s) (innerPadded k s) outer s from times₀ values₀ starts₀ padded₀ p times values starts
+    padded
 
 abbrev μ-loop : tie.MeasureT-loop
 μ-loop rows s from outer k times₀ values₀ starts₀ padded₀ p₀ times values starts padded p = length s - p
@@ -40,14 +41,18 @@ module _ (f : tie.After-start Inv-loop μ-loop) where
 abbrev told-of : tie.After-list-parts Inv-loop μ-loop → tie.After-start Inv-loop μ-loop
 told-of t = t .before .before .before .before .before .before .before
 
+abbrev begin : tie.After-list-parts Inv-loop μ-loop → tie.Start Inv-loop μ-loop
+begin t = start (back (told-of t))
+
 -- its fields, behind what the arrays held
 listed : (t : tie.After-list-parts Inv-loop μ-loop) (b : Bool) → t .list-parts .result ≡ b →
-    Adds (innerOnto (start (back (told-of t)) .args .rows .now) (start (back (told-of t)) .args .k) (start (back (told-of t)) .args .s .now) (part (told-of t)))
+    Adds (innerOnto (begin t .args .rows .now) (begin t .args .k) (begin t .args .s .now) (part (told-of t)))
     (loop (back (told-of t)) .loop .times) (loop (back (told-of t)) .loop .values)
     (loop (back (told-of t)) .loop .starts) b (t .list-parts .last .1 .1 .1 .1 .0)
     (t .list-parts .last .1 .1 .1 .1 .1 .0) (t .list-parts .last .1 .1 .1 .1 .1 .1 .0)
 listed t b e =
-    inner-adds (start (back (told-of t)) .args .rows .now) (start (back (told-of t)) .args .s .now) (part (told-of t)) (found (told-of t) .inside) (start (back (told-of t)) .args .k)
+    inner-adds (begin t .args .rows .now) (begin t .args .s .now) (part (told-of t))
+    (found (told-of t) .inside) (begin t .args .k)
     (rw e at (t .list-parts .ensures .0))
 
 returns : tie.Need-returns Inv-loop μ-loop
@@ -55,9 +60,12 @@ returns c =
     let r = c .before .before in
     let a = start r .args in
     let l = loop r .loop .inv in
-    let none = subst (Tells (a .outer) (a .s .now) (loop r .loop .p)) (c .enum-told .given .1) (r .next-part .ensures) in
-    let ps = partsOf (a .outer) (a .s .now) (a .from) in
-    (inner-done (a .rows .now) (a .s .now) (a .k) ps (passed l none), λ _. passed-flag l none ∙ inner-told (a .s .now) (a .k) ps (a .padded .now))
+    let none =
+    subst (Tells (a .outer) (a .s .now) (loop r .loop .p)) (c .enum-told .given .1) (r .next-part .ensures) in
+    let ps = partsOf (a .outer) (a .s .now) (a .from) in (
+      inner-done (a .rows .now) (a .s .now) (a .k) ps (passed l none),
+      λ _. passed-flag l none ∙ inner-told (a .s .now) (a .k) ps (a .padded .now),
+    )
 
 returns-2 : tie.Need-returns-2 Inv-loop μ-loop
 returns-2 c =
@@ -74,11 +82,14 @@ again c =
     let t = c .before in
     let f = told-of t in
     passes (loop (back f) .loop .inv) (found f) (listed t true (not-false _ (c .if1 .left)))
-    (t .list-parts .ensures .1 (not-false _ (c .if1 .left)) ∙ or-same (loop (back f) .loop .padded) (inner-flag (start (back (told-of t)) .args .s .now) (part f) (found f .inside) (start (back (told-of t)) .args .k)))
+    (t .list-parts .ensures .1 (not-false _ (c .if1 .left))
+    ∙ or-same (loop (back f) .loop .padded)
+    (inner-flag (begin t .args .s .now) (part f) (found f .inside) (begin t .args .k)))
 
 pub list-inner-spec : {M : Type 1} → statement M
 list-inner-spec = tie.close (tie.spec Inv-loop μ-loop
-    (λ c. let a = c .before .args in passing (innerOnto (a .rows .now) (a .k) (a .s .now)) (innerPadded (a .k) (a .s .now)) (a .outer)
+    (λ c. let a = c .before .args in passing (innerOnto (a .rows .now) (a .k) (a .s .now))
+    (innerPadded (a .k) (a .s .now)) (a .outer)
     (a .s .now) (a .from) (a .times .now) (a .values .now) (a .starts .now) (a .padded .now))
     (λ c κs. tt) (λ c. search needs) (λ c. search needs) returns
     (λ c. omega (arith, found (c .before) .inside))
@@ -91,5 +102,7 @@ list-inner-spec = tie.close (tie.spec Inv-loop μ-loop
     omega (arith, found f .onward, back f .before .loop-test .taken)) again
     (λ c. let a = c .before .before .before .args in let l = c .before .loop .inv in
     let none = ended l (c .loop-test .left) in
-    let ps = partsOf (a .outer) (a .s .now) (a .from) in
-    (inner-done (a .rows .now) (a .s .now) (a .k) ps (passed l none), λ _. passed-flag l none ∙ inner-told (a .s .now) (a .k) ps (a .padded .now))))
+    let ps = partsOf (a .outer) (a .s .now) (a .from) in (
+      inner-done (a .rows .now) (a .s .now) (a .k) ps (passed l none),
+      λ _. passed-flag l none ∙ inner-told (a .s .now) (a .k) ps (a .padded .now),
+    )))

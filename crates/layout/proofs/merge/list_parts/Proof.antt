@@ -40,14 +40,17 @@ module _ (f : tie.After-start Inv-loop μ-loop) where
 abbrev told-of : tie.After-list-fields Inv-loop μ-loop → tie.After-start Inv-loop μ-loop
 told-of t = t .before .before .before .before .before .before .before
 
+abbrev begin : tie.After-list-fields Inv-loop μ-loop → tie.Start Inv-loop μ-loop
+begin t = start (back (told-of t))
+
 -- its fields, behind what the arrays held
 listed : (t : tie.After-list-fields Inv-loop μ-loop) (b : Bool) → t .list-fields .result ≡ b →
-    Adds (partOnto (start (back (told-of t)) .args .rows .now) (start (back (told-of t)) .args .s .now) (part (told-of t)))
+    Adds (partOnto (begin t .args .rows .now) (begin t .args .s .now) (part (told-of t)))
     (loop (back (told-of t)) .loop .times) (loop (back (told-of t)) .loop .values)
     (loop (back (told-of t)) .loop .starts) b (t .list-fields .last .1 .1 .1 .0)
     (t .list-fields .last .1 .1 .1 .1 .0) (t .list-fields .last .1 .1 .1 .1 .1 .0)
 listed t b e =
-    own-adds (start (back (told-of t)) .args .rows .now) (start (back (told-of t)) .args .s .now) (part (told-of t)) (found (told-of t) .inside)
+    own-adds (begin t .args .rows .now) (begin t .args .s .now) (part (told-of t)) (found (told-of t) .inside)
     (rw e at (t .list-fields .ensures .0))
 
 returns : tie.Need-returns Inv-loop μ-loop
@@ -56,8 +59,10 @@ returns c =
     let a = start r .args in
     let l = loop r .loop .inv in
     let none = subst (Tells (a .k) (a .s .now) (loop r .loop .p)) (c .enum-told .given .1) (r .next-part .ensures) in
-    let ps = partsOf (a .k) (a .s .now) (a .from) in
-    (own-done (a .rows .now) (a .s .now) ps (passed l none), λ _. passed-flag l none ∙ own-told (a .s .now) ps (a .padded .now))
+    let ps = partsOf (a .k) (a .s .now) (a .from) in (
+      own-done (a .rows .now) (a .s .now) ps (passed l none),
+      λ _. passed-flag l none ∙ own-told (a .s .now) ps (a .padded .now),
+    )
 
 returns-2 : tie.Need-returns-2 Inv-loop μ-loop
 returns-2 c =
@@ -74,7 +79,8 @@ again c =
     let t = c .before in
     let f = told-of t in
     passes (loop (back f) .loop .inv) (found f) (listed t true (not-false _ (c .if1 .left)))
-    (t .list-fields .ensures .1 ∙ or-same (loop (back f) .loop .padded) (own-flag (start (back (told-of t)) .args .s .now) (part f) (found f .inside)))
+    (t .list-fields .ensures .1
+    ∙ or-same (loop (back f) .loop .padded) (own-flag (begin t .args .s .now) (part f) (found f .inside)))
 
 pub list-parts-spec : {M : Type 1} → statement M
 list-parts-spec = tie.close (tie.spec Inv-loop μ-loop
@@ -91,5 +97,7 @@ list-parts-spec = tie.close (tie.spec Inv-loop μ-loop
     omega (arith, found f .onward, back f .before .loop-test .taken)) again
     (λ c. let a = c .before .before .before .args in let l = c .before .loop .inv in
     let none = ended l (c .loop-test .left) in
-    let ps = partsOf (a .k) (a .s .now) (a .from) in
-    (own-done (a .rows .now) (a .s .now) ps (passed l none), λ _. passed-flag l none ∙ own-told (a .s .now) ps (a .padded .now))))
+    let ps = partsOf (a .k) (a .s .now) (a .from) in (
+      own-done (a .rows .now) (a .s .now) ps (passed l none),
+      λ _. passed-flag l none ∙ own-told (a .s .now) ps (a .padded .now),
+    )))

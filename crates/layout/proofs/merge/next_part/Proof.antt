@@ -1,4 +1,5 @@
--- `layout::merge::next_part` meets its contract: the parts from each place on are those from the first. Assumes nothing.
+-- `layout::merge::next_part` meets its contract: the parts from each place on are those from the first. Assumes
+-- nothing.
 use Rattle.prelude.proofs.Basics.{_-_, _≤_, _<_, arith, _≡_, refl, sym, _∙_, length, needs}
 use Rattle.layout.proofs.Names.{fieldAt, Field, partsOf}
 use Rattle.layout.proofs.PaddedLaws.{field-ahead}
@@ -26,7 +27,8 @@ module _ (f : tie.After-number Inv-loop μ-loop) where
   back = f .before .before
 
   ahead : f .before .before .before .before .before .loop .p < f .number .given .0 .1 .1 .1 .1 .1 .0
-  ahead = field-ahead (start back .args .s .now) (back .before .before .before .loop .p) (read back (f .number .given .1))
+  ahead =
+      field-ahead (start back .args .s .now) (back .before .before .before .loop .p) (read back (f .number .given .1))
 
 pub next-part-spec : {M : Type 1} → statement M
 next-part-spec = tie.close (tie.spec Inv-loop μ-loop
