@@ -4,9 +4,8 @@ use Rattle.prelude.proofs.Basics.{_∙_, List, [], _∷_, length, getD, eqb, lt
 use Rattle.prelude.proofs.Basics.{lt-ltb, ne-eqb, both, before-suc}
 use Rattle.scalar.specs.declared.argument.Argument.the-variants as Va
 use Rattle.args.proofs.Names.{reasonOf, Argument, nextArgument, andMore, argumentsFrom, argumentsAt, anyTypeOf}
-use Rattle.args.proofs.Names.{noArguments, badArguments, counted, withType, argumentsIn, handedOut, EndsBy}
-use Rattle.args.proofs.Names.{GoesOn, Arguments, NextArgument}
-use Rattle.args.specs.Arguments.{together}
+use Rattle.args.proofs.Names.{noArguments, badArguments, counted, withType, together, argumentsIn, handedOut}
+use Rattle.args.proofs.Names.{EndsBy, GoesOn, Arguments, NextArgument}
 use Rattle.args.specs.WithinRules.{FewArguments, NthWithin}
 use Rattle.args.proofs.PlaceLaws.{next-goes-on, next-end}
 use Rattle.args.proofs.WithinLaws.{ends-later}

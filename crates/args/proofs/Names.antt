@@ -35,8 +35,8 @@ unfoldable pub use Rattle.args.specs.Value.{bad, present, bytesOf, bytes
 unfoldable pub use Rattle.args.specs.Value.{anyOf, argumentIn}
 unfoldable pub use Rattle.args.specs.Arguments.{isArgs, ofField, placeFrom, argPlace, placeOf, ofPlace}
 unfoldable pub use Rattle.args.specs.Arguments.{nextArgument, andMore, argumentsFrom, argumentsAt, anyTypeOf}
-unfoldable pub use Rattle.args.specs.Arguments.{noArguments, badArguments, counted, withType, argumentsIn}
-unfoldable pub use Rattle.args.specs.Arguments.{handedOut}
+unfoldable pub use Rattle.args.specs.Arguments.{noArguments, badArguments, counted, withType, together}
+unfoldable pub use Rattle.args.specs.Arguments.{argumentsIn, handedOut}
 unfoldable pub use Rattle.args.specs.Padded.{bytesPadded, insideScalar, scalarPadded, insideAny, argumentPadded}
 unfoldable pub use Rattle.args.specs.Padded.{insideArgs}
 pub use Rattle.args.specs.WithinRules.{EndsBy, GoesOn}

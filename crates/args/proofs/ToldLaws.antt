@@ -1,8 +1,8 @@
 -- What is told of arguments: their number, and the first object or array among them. Assumes nothing.
 use Rattle.prelude.proofs.Basics.{ℕ, _+_, _≤_, _<_, arith, add-one, true, _≡_, refl, sym, ap, subst, _∙_, List, [], _∷_}
 use Rattle.prelude.proofs.Basics.{length, getD, le-ltb, lt-ltb, less-or-not}
-use Rattle.args.proofs.Names.{Argument, bad, argumentsAt, anyTypeOf, noArguments, counted, withType, Arguments}
-use Rattle.args.specs.Arguments.{together}
+use Rattle.args.proofs.Names.{Argument, bad, argumentsAt, anyTypeOf, noArguments, counted, withType, together}
+use Rattle.args.proofs.Names.{Arguments}
 use Rattle.args.specs.ArgumentsRules.{firstOther, FirstTold}
 use Rattle.args.proofs.ArgumentsLaws.{type-scalar, type-later, type-first, together-none, together-bad}
 use Rattle.args.proofs.ArgumentsLaws.{together-on}

@@ -8,8 +8,7 @@ use Rattle.wire.proofs.AgreeLaws.{Tails}
 use Rattle.layout.specs.SameBut.{SameBut}
 use Rattle.layout.specs.Reaches.{Reaches, stays, passes}
 use Rattle.layout.specs.Fields.{fieldsFrom}
-use Rattle.layout.specs.FieldsRules.{startIn, endIn}
-use Rattle.layout.specs.Part.{absent}
+use Rattle.layout.specs.Part.{endIn, absent}
 use Rattle.layout.proofs.CountLaws.{good-list}
 use Rattle.layout.proofs.ApartLaws.{kept-apart}
 use Rattle.layout.proofs.UnreadLaws.{from-tail, kept-behind, bytes-unread, reaches-later, field-itself, field-on-way}
@@ -80,11 +79,11 @@ module _ (rows : List (List ℕ)) (s : List ℕ) (at n k : ℕ) (bytes′ : wire
     good′ = ap (λ (y : Slots). y .good) is ∙ good
 
     -- a field lies in the message
-    pub field-in : (absent x k ≡ false) → (at < startIn x k) × (endIn x k ≤ at + n)
+    pub field-in : (absent x k ≡ false) → (at < startOf x k) × (endIn x k ≤ at + n)
     field-in there = (
       omega (
         arith,
-        ap (λ (y : Slots). startIn y k) is,
+        ap (λ (y : Slots). startOf y k) is,
         kept-behind rows k bytes′ once (take (at + n) s) at good′
             (λ z. eqb-false (countOf x k) 0 there (ap (λ (y : Slots). countOf y k) (sym is) ∙ z)),
       ),
@@ -97,19 +96,19 @@ module _ (rows : List (List ℕ)) (s : List ℕ) (at n k : ℕ) (bytes′ : wire
     )
 
     -- and beside every other field of it
-    pub field-beside : (i : ℕ) → (i ≡ k → ⊥) → (endIn x i ≤ startIn x k) ⊎ (endIn x k ≤ startIn x i)
+    pub field-beside : (i : ℕ) → (i ≡ k → ⊥) → (endIn x i ≤ startOf x k) ⊎ (endIn x k ≤ startOf x i)
     field-beside i h =
-        subst (λ (y : Slots). (endIn y i ≤ startIn y k) ⊎ (endIn y k ≤ startIn y i)) is
+        subst (λ (y : Slots). (endIn y i ≤ startOf y k) ⊎ (endIn y k ≤ startOf y i)) is
         (kept-apart rows (take (at + n) s) at i k h)
 
     -- its bytes are not read
-    pub embedded-unread : (t : List ℕ) → absent x k ≡ false → SameBut s t (startIn x k) (endIn x k) →
+    pub embedded-unread : (t : List ℕ) → absent x k ≡ false → SameBut s t (startOf x k) (endIn x k) →
         embedded rows t at n ≡ x
     embedded-unread t there b =
         sym (part-within rows t at n (omega (arith, within, b .size)))
         ∙ bytes-unread rows (take (at + n) s) (take (at + n) t) at k bytes′ once good′
         (λ z. eqb-false (countOf x k) 0 there (ap (λ (y : Slots). countOf y k) (sym is) ∙ z))
-        (subst (λ (y : Slots). SameBut (take (at + n) s) (take (at + n) t) (startIn y k) (endIn y k)) (sym is)
+        (subst (λ (y : Slots). SameBut (take (at + n) s) (take (at + n) t) (startOf y k) (endIn y k)) (sym is)
         (same-take b (at + n)))
         ∙ is
 
@@ -186,8 +185,8 @@ type-local s t x c f g = go (eqb c 4) refl (eqb c 8) refl
     go false e false e′ = rw (e, e′)
 
 -- the bytes of one field beside those of another
-bytes-beside : (octets : Bool) (s t : List ℕ) (x : Slots) (i k : ℕ) → SameBut s t (startIn x k) (endIn x k) →
-    (endIn x i ≤ startIn x k) ⊎ (endIn x k ≤ startIn x i) →
+bytes-beside : (octets : Bool) (s t : List ℕ) (x : Slots) (i k : ℕ) → SameBut s t (startOf x k) (endIn x k) →
+    (endIn x i ≤ startOf x k) ⊎ (endIn x k ≤ startOf x i) →
     bytesIn octets t (startOf x i) (lenOf x i) ≡ bytesIn octets s (startOf x i) (lenOf x i)
 bytes-beside octets s t x i k b beside =
     ap (bytesOf octets)

@@ -9,7 +9,7 @@ use Rattle.wire.specs.declared.field.Field.{Field}
 use Rattle.layout.specs.SameBut.{SameBut}
 use Rattle.layout.specs.Reaches.{Reaches}
 use Rattle.layout.specs.Table.{rowsOf, any, scalar, len}
-use Rattle.layout.specs.FieldsRules.{startIn, endIn}
+use Rattle.layout.specs.Part.{startOf, endIn}
 use Rattle.layout.specs.declared.slots.Slots.{Slots}
 use Rattle.layout.specs.Part.{embedded, absent, valueOf, startOf, lenOf, low32}
 use Rattle.args.specs.Value.{scalarIn, argumentIn}
@@ -23,7 +23,7 @@ typeIn x = low32 (valueOf x 1)
 pub record OnlyField (x : Slots) (k : ℕ) (s t : List ℕ) : Type 0 where
   pub good : x .good ≡ true
   pub there : absent x k ≡ false
-  pub same : SameBut s t (startIn x k) (endIn x k)
+  pub same : SameBut s t (startOf x k) (endIn x k)
 
 -- an Any that is no scalar does not read its scalar, field 2
 abbrev pub AnyUnread : Type 0

@@ -4,7 +4,7 @@ use Rattle.prelude.proofs.Basics.{ℕ, zero, suc, _+_, _≤_, _<_, arith, Bool,
 use Rattle.prelude.proofs.Basics.{List, length, getD, set, length-set, getD-set-other, getD-set-same, less-or-not}
 use Rattle.layout.proofs.Names.{fieldAt, PastField, Field, field-past, movedField, field-moved, Tail}
 use Rattle.layout.proofs.Names.{tail-length, isRepeated, rowFor, slotCount, noSlots, badSlots, useOf, noted}
-use Rattle.layout.proofs.Names.{fieldsOnto, hasRequired, checked, fieldsAt, startIn, Use, Slots}
+use Rattle.layout.proofs.Names.{fieldsOnto, hasRequired, checked, fieldsAt, startOf, Use, Slots}
 use Rattle.layout.proofs.FieldsLaws.{Towards, starts-onto, ends, no-field, advances, goes-on, kept-slot}
 use Rattle.layout.proofs.FieldsLaws.{checked-good, checked-bad}
 use Rattle.layout.proofs.KeptLaws.{zeros, same-or-not, Kept, none-kept, bad-kept, noted-kept}
@@ -20,7 +20,7 @@ pub record Alike (rows : List (List ℕ)) (d n : ℕ) (x y : Slots) : Type 0 whe
   pub starts : length (y .start) ≡ slotCount
   -- a field that is kept and occurs
   pub start : (k : ℕ) → isRepeated (rowFor rows k) ≡ false → (getD (x .count) k 0 ≡ 0 → ⊥) →
-      startIn y k ≡ d + startIn x k
+      startOf y k ≡ d + startOf x k
 
 module _ (rows : List (List ℕ)) (d n : ℕ) where
   pub none-alike : Alike rows d n noSlots noSlots

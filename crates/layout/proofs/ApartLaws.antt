@@ -2,14 +2,14 @@
 use Rattle.prelude.proofs.Basics.{ℕ, zero, suc, _+_, _≤_, _<_, arith, _≡_, refl, sym, ap, _∙_, _⊎_, inl, inr, ⊎-elim}
 use Rattle.prelude.proofs.Basics.{List, length, getD, set, length-set, getD-set-other, getD-set-same, ltb, both}
 use Rattle.layout.proofs.Names.{fieldAt, PastField, Field, field-past, slotCount, noSlots, badSlots, useOf}
-use Rattle.layout.proofs.Names.{noted, onField, fieldsFrom, fieldList, hasRequired, startIn, endIn, Use, Slots}
+use Rattle.layout.proofs.Names.{noted, onField, fieldsFrom, fieldList, hasRequired, startOf, endIn, Use, Slots}
 use Rattle.layout.specs.FieldsRules.{KeptApart}
 use Rattle.layout.proofs.FieldsLaws.{kept-slot}
 use Rattle.layout.proofs.KeptLaws.{zeros, same-or-not}
 
 -- no two fields overlap
 abbrev Clear : Slots → Type 0
-Clear x = (i k : ℕ) → (i ≡ k → ⊥) → (endIn x i ≤ startIn x k) ⊎ (endIn x k ≤ startIn x i)
+Clear x = (i k : ℕ) → (i ≡ k → ⊥) → (endIn x i ≤ startOf x k) ⊎ (endIn x k ≤ startOf x i)
 
 -- the same before the place p, where all of them end
 record Apart (p : ℕ) (x : Slots) : Type 0 where
@@ -33,12 +33,12 @@ apart-later a q h =
 
 -- one field more: k is as it was, or is the one
 record Was (k : ℕ) (x y : Slots) : Type 0 where
-  start : startIn y k ≡ startIn x k
+  start : startOf y k ≡ startOf x k
   end : endIn y k ≡ endIn x k
 
 record Now (k number st ln : ℕ) (y : Slots) : Type 0 where
   is : k ≡ number
-  start : startIn y k ≡ st
+  start : startOf y k ≡ st
   end : endIn y k ≡ st + ln
 
 module _ {p : ℕ} {x : Slots} (a : Apart p x) (number v st ln next : ℕ) (slot : number < slotCount) (behind : p < st)

@@ -5,9 +5,9 @@ use Rattle.prelude.proofs.Basics.{getD-set-other, getD-set-same, eqb, leb, ltb,
 use Rattle.prelude.proofs.Basics.{not-true}
 use Rattle.layout.proofs.Names.{fieldAt, Field, len, rowsOf, numberOf, wireOf, isRepeated, listedOf, rowFor}
 use Rattle.layout.proofs.Names.{listed, slotCount, takes, noSlots, badSlots, useOf, noted, onField, fieldsFrom}
-use Rattle.layout.proofs.Names.{fieldsOnto, hasRequired, checked, endOf, isPart, partBy, partsFrom, partsOf}
-use Rattle.layout.proofs.Names.{partsIn, partOnto, partsOnto, Use, Part, Slots}
-use Rattle.layout.specs.Part.{countOf, startOf, lenOf}
+use Rattle.layout.proofs.Names.{fieldsOnto, hasRequired, checked, startOf, endOf, isPart, partBy, partsFrom}
+use Rattle.layout.proofs.Names.{partsOf, partsIn, partOnto, partsOnto, Use, Part, Slots}
+use Rattle.layout.specs.Part.{countOf, lenOf}
 use Rattle.layout.specs.MergedRules.{holdsBytes, RowsHold, lastStart, lastLen, Keeps, PartsKept}
 use Rattle.layout.proofs.JointLaws.{not-both, and-first, and-second}
 use Rattle.layout.proofs.KeptLaws.{zeros, same-or-not}

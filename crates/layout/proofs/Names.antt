@@ -11,11 +11,10 @@ unfoldable pub use Rattle.layout.specs.Row.{slotCount, takes}
 pub use Rattle.layout.specs.Slots.{noSlots, badSlots}
 unfoldable pub use Rattle.layout.specs.Fields.{useBy, useOf, noted, onField, fieldsFrom, fieldsOnto, fieldList}
 unfoldable pub use Rattle.layout.specs.Fields.{hasRequired, checked, fieldsAt, fieldsTo}
-pub use Rattle.layout.specs.Part.{embedded}
+pub use Rattle.layout.specs.Part.{embedded, startOf, endIn}
 unfoldable pub use Rattle.layout.specs.Merged.{endOf, isPart, partBy, partsFrom, partsOf, partsIn, partOnto}
 unfoldable pub use Rattle.layout.specs.Merged.{partsOnto}
 unfoldable pub use Rattle.layout.specs.Padded.{onward, paddedFrom, nothingInside, listPadded, paddedTo}
-pub use Rattle.layout.specs.FieldsRules.{startIn, endIn}
 unfoldable pub use Rattle.layout.specs.MergedRules.{allGood, joined}
 pub use Rattle.layout.specs.declared.fields.Use.{Use}
 pub use Rattle.layout.specs.declared.part.Part.{Part}

@@ -5,7 +5,7 @@ use Rattle.prelude.proofs.Basics.{getD-set-same, eqb, ltb, eqb-true, lt-ltb, bo
 use Rattle.wire.proofs.AgreeLaws.{Agree, reach, reach-le, field-kept, Tails, tails-later, field-tail}
 use Rattle.layout.proofs.Names.{fieldAt, PastField, Field, field-past, len, numberOf, wireOf, isRepeated, rowFor}
 use Rattle.layout.proofs.Names.{slotCount, takes, noSlots, badSlots, useOf, noted, onField, fieldsFrom}
-use Rattle.layout.proofs.Names.{fieldList, hasRequired, checked, fieldsAt, startIn, endIn, Use, Slots}
+use Rattle.layout.proofs.Names.{fieldList, hasRequired, checked, fieldsAt, startOf, endIn, Use, Slots}
 use Rattle.layout.specs.SameBut.{SameBut}
 use Rattle.layout.specs.FieldsRules.{BytesUnread, FieldUnread}
 use Rattle.layout.specs.Reaches.{Reaches, stays, passes}
@@ -58,13 +58,13 @@ kept-wire rows number w v h = go (eqb (wireOf (rowFor rows number)) w) refl
 -- y has of k what x has
 record Quiet (k : ℕ) (x y : Slots) : Type 0 where
   count : getD (y .count) k 0 ≡ getD (x .count) k 0
-  start : startIn y k ≡ startIn x k
+  start : startOf y k ≡ startOf x k
   end : endIn y k ≡ endIn x k
 
 -- y has k noted at a place
 record Here (k w st ln : ℕ) (y : Slots) : Type 0 where
   wire : w ≡ len
-  start : startIn y k ≡ st
+  start : startOf y k ≡ st
   end : endIn y k ≡ st + ln
 
 quiet : (k : ℕ) (x : Slots) → Quiet k x x
@@ -121,7 +121,7 @@ module _ (rows : List (List ℕ)) (k : ℕ) (bytes : wireOf (rowFor rows k) ≡ 
 
   -- the rest of a good list has no more of k, or notes it further on
   abbrev Later : ℕ → Slots → Slots → Type 0
-  Later p x y = y .good ≡ true → Quiet k x y ⊎ (p < startIn y k)
+  Later p x y = y .good ≡ true → Quiet k x y ⊎ (p < startOf y k)
 
   module _ (s : List ℕ) where
     field-later : (p : ℕ) (x : Slots) → Kept (length s) x → (more : ℕ → Slots → Slots) →
@@ -159,12 +159,12 @@ module _ (rows : List (List ℕ)) (k : ℕ) (bytes : wireOf (rowFor rows k) ≡ 
     (once : isRepeated (rowFor rows k) ≡ false) (s t : List ℕ) where
   abbrev Walk : ℕ → ℕ → Slots → Slots → Type 0
   Walk most p x y =
-      y .good ≡ true → p < startIn y k → endIn y k ≤ length s → SameBut s t (startIn y k) (endIn y k) →
+      y .good ≡ true → p < startOf y k → endIn y k ≤ length s → SameBut s t (startOf y k) (endIn y k) →
       fieldsFrom most rows t p x ≡ y
 
-  field-walk : (most p : ℕ) (x : Slots) → Kept (length s) x → startIn x k ≤ p → (z : Field) → fieldAt s p ≡ z →
+  field-walk : (most p : ℕ) (x : Slots) → Kept (length s) x → startOf x k ≤ p → (z : Field) → fieldAt s p ≡ z →
       PastField p (length s) z →
-      ((q : ℕ) (y : Slots) → Kept (length s) y → startIn y k ≤ q → Walk most q y (fieldsFrom most rows s q y)) →
+      ((q : ℕ) (y : Slots) → Kept (length s) y → startOf y k ≤ q → Walk most q y (fieldsFrom most rows s q y)) →
       Walk (suc most) p x (onField rows x (λ next y. fieldsFrom most rows s next y) z)
   field-walk most p x a low (Field.Good number w v st ln next) f h on g l n b =
       let u = useOf rows number w v in
@@ -172,15 +172,15 @@ module _ (rows : List (List ℕ)) (k : ℕ) (bytes : wireOf (rowFor rows k) ≡ 
       let end = fieldsFrom most rows s next y in
       let kept = noted-kept rows (length s) a number w v st ln (omega arith) u refl in
       let told = noted-told rows k bytes once (length s) a number w v st ln u refl in
-      let same : Agree s t p (startIn end k) =
+      let same : Agree s t p (startOf end k) =
       record {
         here = omega arith;
         there = omega (arith, b .size);
         same = λ i _ j. b .same i (inl j);
       } in
       let there : p < length t = omega (arith, b .size, h .2, h .3) in
-      let turn : reach w st next ≤ startIn end k → fieldsFrom (suc most) rows t p x ≡ fieldsFrom most rows t next y =
-      λ r. step most rows t p x there (field-kept s t (startIn end k) p same f r (omega (arith, b .size, h .3))) in
+      let turn : reach w st next ≤ startOf end k → fieldsFrom (suc most) rows t p x ≡ fieldsFrom most rows t next y =
+      λ r. step most rows t p x there (field-kept s t (startOf end k) p same f r (omega (arith, b .size, h .3))) in
       ⊎-elim
       (λ q.
       ⊎-elim (λ d. absurd (omega (arith, d .start, q .start, low)))
@@ -197,7 +197,7 @@ module _ (rows : List (List ℕ)) (k : ℕ) (bytes : wireOf (rowFor rows k) ≡ 
       (from-later rows k bytes once s most next y kept g)
   field-walk most p x a low Field.Bad f h on g l n b = absurd (let z : _≡_ {A = ℕ} 0 1 = cc in omega arith)
 
-  walk : (most p : ℕ) (x : Slots) → Kept (length s) x → startIn x k ≤ p → Walk most p x (fieldsFrom most rows s p x)
+  walk : (most p : ℕ) (x : Slots) → Kept (length s) x → startOf x k ≤ p → Walk most p x (fieldsFrom most rows s p x)
   unfolding fieldsFrom
   walk zero p x a low = λ g l n b. refl
   walk (suc most) p x a low =
@@ -214,13 +214,13 @@ checked-is rows x = both (λ (y : Slots). y .good ≡ true → y ≡ x) (hasRequ
 -- a field that occurs stands behind the list's start
 pub kept-behind : (rows : List (List ℕ)) (k : ℕ) → wireOf (rowFor rows k) ≡ len → isRepeated (rowFor rows k) ≡ false →
     (s : List ℕ) (from : ℕ) → fieldsAt rows s from .good ≡ true → (getD (fieldsAt rows s from .count) k 0 ≡ 0 → ⊥) →
-    from < startIn (fieldsAt rows s from) k
+    from < startOf (fieldsAt rows s from) k
 kept-behind rows k bytes once s from g some =
     let x = fieldList rows s from in
     let is = checked-is rows x g in
     ⊎-elim
     (λ q. absurd (some (ap (λ (y : Slots). getD (y .count) k 0) is ∙ q .count ∙ zeros slotCount k)))
-    (λ l. omega (arith, ap (λ (y : Slots). startIn y k) is))
+    (λ l. omega (arith, ap (λ (y : Slots). startOf y k) is))
     (from-later rows k bytes once s (length s) from noSlots (none-kept (length s))
     (ap (λ (y : Slots). y .good) (sym is) ∙ g))
 
@@ -232,9 +232,9 @@ bytes-unread rows s t from k bytes once g some b =
     let same : fieldList rows t from ≡ x =
     ap (λ (m : ℕ). fieldsFrom m rows t from noSlots) (b .size)
     ∙ walk rows k bytes once s t (length s) from noSlots (none-kept (length s)) (omega (arith, zeros slotCount k))
-    (ap (λ (y : Slots). y .good) (sym is) ∙ g) (omega (arith, ap (λ (y : Slots). startIn y k) is))
+    (ap (λ (y : Slots). y .good) (sym is) ∙ g) (omega (arith, ap (λ (y : Slots). startOf y k) is))
     (from-kept rows s (length s) from (none-kept (length s)) .inside k)
-    (subst (λ (y : Slots). SameBut s t (startIn y k) (endIn y k)) is b) in
+    (subst (λ (y : Slots). SameBut s t (startOf y k) (endIn y k)) is b) in
     ap (checked rows) same
 
 -- ---- a field on the way

@@ -13,20 +13,13 @@ use Rattle.layout.specs.Row.{wireOf, isRepeated, rowFor}
 use Rattle.layout.specs.Table.{len}
 use Rattle.layout.specs.Slots.{noSlots}
 use Rattle.layout.specs.Fields.{fieldsFrom, fieldList, fieldsAt}
-use Rattle.layout.specs.declared.slots.Slots.{Slots}
+use Rattle.layout.specs.Part.{startOf, endIn}
 
 -- the number of fields is no limit: any that is enough for the bytes left gives the same (W9)
 abbrev pub EnoughFields : Type 0
 EnoughFields =
     (most : ℕ) (rows : List (List ℕ)) (s : List ℕ) (from : ℕ) →
     length s ≤ from + most → fieldsFrom most rows s from noSlots ≡ fieldList rows s from
-
--- the place and length that a list keeps of a field number, and the place behind
-abbrev pub startIn : Slots → ℕ → ℕ
-startIn x k = getD (x .start) k 0
-
-abbrev pub endIn : Slots → ℕ → ℕ
-endIn x k = startIn x k + getD (x .len) k 0
 
 -- the bytes of each field that is kept lie within those of the list (W8)
 abbrev pub KeptWithin : Type 0
@@ -37,8 +30,8 @@ abbrev pub KeptApart : Type 0
 KeptApart =
     (rows : List (List ℕ)) (s : List ℕ) (from i k : ℕ) →
     (i ≡ k → ⊥) →
-    (endIn (fieldsAt rows s from) i ≤ startIn (fieldsAt rows s from) k)
-    ⊎ (endIn (fieldsAt rows s from) k ≤ startIn (fieldsAt rows s from) i)
+    (endIn (fieldsAt rows s from) i ≤ startOf (fieldsAt rows s from) k)
+    ⊎ (endIn (fieldsAt rows s from) k ≤ startOf (fieldsAt rows s from) i)
 
 -- a list does not read the bytes of a field that has bytes: with any others of the same length it is the same (L10)
 abbrev pub BytesUnread : Type 0
@@ -48,7 +41,7 @@ BytesUnread =
     isRepeated (rowFor rows k) ≡ false →
     fieldsAt rows s from .good ≡ true →
     (getD (fieldsAt rows s from .count) k 0 ≡ 0 → ⊥) →
-    SameBut s t (startIn (fieldsAt rows s from) k) (endIn (fieldsAt rows s from) k) →
+    SameBut s t (startOf (fieldsAt rows s from) k) (endIn (fieldsAt rows s from) k) →
     fieldsAt rows t from ≡ fieldsAt rows s from
 
 -- the same of any field with bytes on the way, be it counted, skipped or one of several

@@ -1,6 +1,6 @@
 -- What holds of every message in parts: it is what the encoding guide makes of it, the message whose bytes are those of
 -- its parts, one after the other.
-use Prim.Native.Nat.{ℕ, _+_, _≤_}
+use Prim.Native.Nat.{ℕ, _≤_}
 use mathlib.Core.Bool.{Bool, true, not, _&&_, _||_}
 use mathlib.Core.Path.{_≡_}
 use mathlib.Core.List.{List, [], _∷_, _++_}
@@ -10,7 +10,7 @@ use Rattle.layout.specs.Row.{messageOf, numberOf, wireOf, isRepeated, li
 use Rattle.layout.specs.Table.{len, layout, rowsOf}
 use Rattle.layout.specs.TableRules.{all}
 use Rattle.layout.specs.Fields.{fieldsAt}
-use Rattle.layout.specs.Part.{embedded, countOf, startOf, lenOf}
+use Rattle.layout.specs.Part.{embedded, countOf, startOf, lenOf, endIn}
 use Rattle.layout.specs.Merged.{partsOf, partsIn, merged}
 use Rattle.layout.specs.declared.part.Part.{Part}
 use Rattle.layout.specs.declared.slots.Slots.{Slots}
@@ -62,7 +62,7 @@ OnePart =
 abbrev pub MergedWithin : Type 0
 MergedWithin =
     (rows : List (List ℕ)) (s : List ℕ) (ps : List Part) (k : ℕ) →
-    startOf (merged rows s ps) k + lenOf (merged rows s ps) k ≤ length s
+    endIn (merged rows s ps) k ≤ length s
 
 -- a field with bytes that is not repeated and lists no values: each occurrence is kept
 abbrev pub holdsBytes : List (List ℕ) → ℕ → Bool

@@ -28,6 +28,10 @@ startOf x k = getD (x .start) k 0
 abbrev pub lenOf : Slots → ℕ → ℕ
 lenOf x k = getD (x .len) k 0
 
+-- the place behind it
+abbrev pub endIn : Slots → ℕ → ℕ
+endIn x k = startOf x k + lenOf x k
+
 -- a uint32 and an enum keep the low 32 bits (W3)
 abbrev pub low32 : ℕ → ℕ
 low32 v = v % 2 ^ 32

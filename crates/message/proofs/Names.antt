@@ -19,8 +19,7 @@ unfoldable pub use Rattle.layout.specs.Row.{rowFor}
 pub use Rattle.layout.specs.Slots.{noSlots}
 pub use Rattle.layout.specs.Fields.{noted, checked, fieldsAt}
 unfoldable pub use Rattle.layout.specs.Fields.{hasRequired}
-pub use Rattle.layout.specs.Part.{embedded, countOf, absent, valueOf, startOf, lenOf, low32}
-pub use Rattle.layout.specs.FieldsRules.{startIn, endIn}
+pub use Rattle.layout.specs.Part.{embedded, countOf, absent, valueOf, startOf, lenOf, endIn, low32}
 pub use Rattle.layout.specs.declared.fields.Use.{Use}
 pub use Rattle.layout.specs.declared.part.Part.{Part}
 pub use Rattle.layout.specs.declared.slots.Slots.{Slots}

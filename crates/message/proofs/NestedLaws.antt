@@ -8,7 +8,7 @@ use Rattle.layout.specs.Slots.{badSlots}
 use Rattle.layout.proofs.UnreadLaws.{kept-behind, bytes-unread}
 use Rattle.args.proofs.UnreadLaws.{field-in, embedded-unread}
 use Rattle.message.proofs.Names.{len, wireOf, rowFor, fieldsAt, hasRequired, embedded, countOf, absent, startOf}
-use Rattle.message.proofs.Names.{lenOf, startIn, endIn, Slots, same-wider, payload}
+use Rattle.message.proofs.Names.{lenOf, endIn, Slots, same-wider, payload}
 
 -- a field that has bytes and stands once
 abbrev pub Bytes : List (List ℕ) → ℕ → Type 0
@@ -35,17 +35,17 @@ module _ (rows rows′ : List (List ℕ)) (j k : ℕ) (row : Bytes rows j) (row�
 
   module _ (good : x .good ≡ true) (some : countOf x j ≡ 0 → ⊥) (good′ : y .good ≡ true)
       (there′ : absent y k ≡ false) where
-    inside : (startOf x j < startIn y k) × (endIn y k ≤ startOf x j + lenOf x j)
+    inside : (startOf x j < startOf y k) × (endIn y k ≤ startOf x j + lenOf x j)
     inside = field-in rows′ f (startOf x j) (lenOf x j) k (row′ .0) (row′ .1) good′ there′
 
-    pub payload-before : payload < startIn y k
+    pub payload-before : payload < startOf y k
     payload-before = omega (arith, inside .0, kept-behind rows j (row .0) (row .1) f payload good some)
 
-    module _ (g : List ℕ) (b : SameBut f g (startIn y k) (endIn y k)) where
+    module _ (g : List ℕ) (b : SameBut f g (startOf y k) (endIn y k)) where
       pub same-outer : fieldsAt rows g payload ≡ x
       same-outer =
           bytes-unread rows f g payload j (row .0) (row .1) good some
-          (same-wider b (startIn x j) (endIn x j) (omega (arith, inside .0)) (omega (arith, inside .1)))
+          (same-wider b (startOf x j) (endIn x j) (omega (arith, inside .0)) (omega (arith, inside .1)))
 
       pub same-inner : embedded rows′ g (startOf (fieldsAt rows g payload) j) (lenOf (fieldsAt rows g payload) j) ≡ y
       same-inner =

@@ -8,12 +8,12 @@ use Rattle.args.specs.UnreadRules.{OneField}
 use Rattle.args.proofs.ArgumentsLaws.{together-kept}
 use Rattle.args.proofs.UnreadLaws.{one-inside, one-cut, cut-start, one-embedded, one-list}
 use Rattle.message.proofs.Names.{Argument, prepareStmt, stmtExecute, openStmt, len, rowsOf, rowFor, fieldsAt}
-use Rattle.message.proofs.Names.{hasRequired, embedded, absent, valueOf, startOf, lenOf, low32, startIn, endIn}
-use Rattle.message.proofs.Names.{Slots, argumentsAt, noArguments, badArguments, together, typeIn, Arguments}
-use Rattle.message.proofs.Names.{same-wider, take-size, headOf, argsOf, payload, optionalOf, resetFrame}
-use Rattle.message.proofs.Names.{sessionCloseFrame, deallocateFrame, closeFrame, fetchFrame, argumentsWithin}
-use Rattle.message.proofs.Names.{executeIn, executeFrame, openFrame, prepareFrame, frameIn, ofHead, frameOf}
-use Rattle.message.proofs.Names.{usedOf, PartsInside, prepareIn, stmtIn, Head, Execute, Frame, Request}
+use Rattle.message.proofs.Names.{hasRequired, embedded, absent, valueOf, startOf, lenOf, endIn, low32, Slots}
+use Rattle.message.proofs.Names.{argumentsAt, noArguments, badArguments, together, typeIn, Arguments, same-wider}
+use Rattle.message.proofs.Names.{take-size, headOf, argsOf, payload, optionalOf, resetFrame, sessionCloseFrame}
+use Rattle.message.proofs.Names.{deallocateFrame, closeFrame, fetchFrame, argumentsWithin, executeIn}
+use Rattle.message.proofs.Names.{executeFrame, openFrame, prepareFrame, frameIn, ofHead, frameOf, usedOf}
+use Rattle.message.proofs.Names.{PartsInside, prepareIn, stmtIn, Head, Execute, Frame, Request}
 use Rattle.message.specs.Operation as Operation
 use Rattle.message.specs.Prepare.{bodyIn}
 use Rattle.message.specs.UnreadRules.{ArgumentUnread}
@@ -194,7 +194,7 @@ open-one f g used q e o =
     let at = ap (λ (b : Arguments). b .start) args ∙ place .0 in
     let o′ = one-as f g at (ap (λ (b : Arguments). b .end) args ∙ place .1) o in
     let i = one-inside o′ in
-    let wide = same-wider (o′ .same) (startIn y 2) (endIn y 2) (omega arith) (omega arith) in
+    let wide = same-wider (o′ .same) (startOf y 2) (endIn y 2) (omega arith) (omega arith) in
     let there = required-there (rowsOf Client.open') 4 four-needed f (inv .0) in
     let rows = open-rows in
     let p = rowsOf Client.open' in
@@ -254,7 +254,7 @@ prepare-one f g used q e o =
     let at = ap (λ (b : Arguments). b .start) args ∙ place .0 in
     let o′ = one-as f g at (ap (λ (b : Arguments). b .end) args ∙ place .1) o in
     let i = one-inside o′ in
-    let wide = same-wider (o′ .same) (startIn y k) (endIn y k) (omega arith) (omega arith) in (
+    let wide = same-wider (o′ .same) (startOf y k) (endIn y k) (omega arith) (omega arith) in (
       frame-shape g
           ∙ ap (λ (z : Slots). shape (length g) z (stmtIn g) (bodyBy g (stmtIn g)))
           (same-outer p r 2 k stmt-row row f (inv .0) there (stmt .0) (stmt .1) g wide)
