@@ -16,6 +16,7 @@ pub mod PartsLaws
 pub mod MergeLaws
 pub mod KeepsLaws
 pub mod MergedPlaceLaws
+pub mod MergedSampleLaws
 pub mod PaddedLaws
 pub mod AbsentLaws
 pub mod MovedFlagLaws

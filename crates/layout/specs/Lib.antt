@@ -8,6 +8,7 @@ pub mod Padded
 pub mod TableRules
 pub mod FieldsRules
 pub mod MergedRules
+pub mod MergedSamples
 pub mod SameBut
 pub mod Reaches
 pub mod private
