@@ -52,6 +52,8 @@ const char *differ_reading(const uint8_t *frame, size_t len)
     library_read(frame, len, &b);
     if (!same_message(&a, &b))
         return "the message";
+    if (a.reason != ACCEPTED && !library_refuses(frame, len, a.reason))
+        return "the body or the arguments of a refused frame";
     for (size_t at = a.args.start; at < a.args.end; at = v.next) {
         plain_next_argument(frame, a.args.end, at, &v);
         library_next_argument(frame, a.args.end, at, &w);

@@ -87,6 +87,12 @@ void library_next_argument(const uint8_t *frame, size_t end, size_t at, Value *v
     *v = (Value){narrow(k.reason), narrow(k.kind), k.value, narrow(k.start), narrow(k.len), narrow(k.next)};
 }
 
+bool library_refuses(const uint8_t *frame, size_t len, uint32_t reason)
+{
+    return karramotx_body(frame, len).len == 0 && karramotx_argument(frame, len, 0).reason == reason &&
+           karramotx_argument(frame, len, SIZE_MAX).reason == reason;
+}
+
 static Look look_of(struct karramotx_look k)
 {
     return (Look){narrow(k.reason), (uint16_t)narrow(k.work), k.padded, narrow(k.first), narrow(k.count)};

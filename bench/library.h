@@ -22,6 +22,8 @@ LibraryReport library_report(const Report *report);
 void library_fresh(LibrarySession *session);
 bool library_holds(const LibrarySession *session, const Session *plain);
 void library_read(const uint8_t *frame, size_t len, Message *m);
+/* Whether the frame has no body and its arguments are refused for this reason. */
+bool library_refuses(const uint8_t *frame, size_t len, uint32_t reason);
 void library_next_argument(const uint8_t *frame, size_t end, size_t at, Value *v);
 Look library_look(const LibrarySession *session, const uint8_t *frame, size_t len);
 void library_inspect(const LibrarySession *session, const uint8_t *frame, size_t len, Inspection *told);

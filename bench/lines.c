@@ -12,11 +12,12 @@
 enum { CURSOR = 8, OPENED = 32, EXECUTED, REPLACED, NOT_LIVE = 99, OTHERS = 1000 };
 enum { CURSOR_2 = 208, OPENED_2 = 232, REPLACED_2 = 234, NOT_LIVE_2 = 299, CURSOR_5 = 0x10000008 };
 enum { NULLS = 8190, OBJECTS = 16377, EMPTY_STRINGS = 5460, EMPTY_PARTS = 20000, SCALARS_AGAIN = 4000 };
+enum { TYPE_PARTS = 16000, SCALARS_IN_PARTS = 5000 };
 
 static const Report none = {.kind = REPORT_NONE}, done = {.kind = REPORT_DONE}, prepared = {.kind = REPORT_PREPARED},
                     result = {.kind = REPORT_RESULT, .columns = 7, .rows = 60000};
 
-static Line lines[64];
+static Line lines[96];
 static size_t count;
 
 static Line *add(const char *name, Side plain, Side library, Report report)
@@ -78,6 +79,10 @@ static void add_reading(void)
     find_frame(reading("read Prepare, find of 60 KB", false), 1, 60000);
     prepare_again(reading("read Prepare, 20000 empty statements first", false), 1, EMPTY_PARTS);
     repeat_frame(reading("read Execute, 4000 scalars that come twice", false), 2, SCALARS_AGAIN, put_scalar_again);
+    prepare_in_parts(reading("read Prepare, statement in 16000 parts", false), 1, TYPE_PARTS);
+    repeat_frame(reading("read Execute, 5000 scalars in two parts", false), 2, SCALARS_IN_PARTS, put_scalar_in_parts);
+    repeat_frame(arguments("args Execute, 5000 scalars in two parts"), 2, SCALARS_IN_PARTS, put_scalar_in_parts);
+    open_in_parts(reading("read Open, type and Execute apart", true), 1, 1, 0, 300);
     reset_with(reading("read Reset, groups 32 deep, 60 KB", true), unknown_groups, 60000);
     reset_with(reading("read Reset, groups 32 deep, 64 bytes", true), unknown_groups, 60);
     reset_with(reading("read Reset, fields of 2 bytes, 65 KB", false), tiny_fields, MAX_FRAME);
@@ -91,6 +96,7 @@ static void add_looking(void)
     prepare_frame(looking("look Prepare, 120 bytes of SQL"), REPLACED, 120, 0, NULL);
     execute_frame(looking("look Execute, 4 arguments"), EXECUTED, 4);
     open_frame(looking("look Open, 1 argument"), CURSOR, OPENED, 1, 300);
+    open_in_parts(looking("look Open, type and Execute apart"), CURSOR, OPENED, 1, 300);
     fetch_frame(inspecting("inspect Fetch"), CURSOR, 300);
     open_frame(inspecting("inspect Open, 1 argument"), CURSOR, OPENED, 1, 300);
 }
@@ -101,6 +107,7 @@ static void add_small_steps(void)
     prepare_frame(stepping("step Prepare, 120 bytes of SQL", prepared), REPLACED, 120, 0, NULL);
     execute_frame(stepping("step Execute, 4 arguments", result), EXECUTED, 4);
     open_frame(stepping("step Open, 1 argument", result), CURSOR, OPENED, 1, 300);
+    open_in_parts(stepping("step Open, type and Execute apart", result), CURSOR, OPENED, 1, 300);
     fetch_frame(stepping("step Fetch, refused 10", done), NOT_LIVE, 1);
     id_frame(stepping("step Deallocate, refused 7", none), DEALLOCATE, NOT_LIVE);
     fetch_with(stepping("step Fetch, groups 32 deep", done), CURSOR, unknown_groups, 20);

@@ -1,5 +1,7 @@
 #include "odd_frames.h"
 
+#include <stdbool.h>
+
 enum { UNKNOWN = 9, LONGEST = 10 };
 
 void unknown_groups(Frame *f, size_t len)
@@ -72,16 +74,22 @@ void fetch_padded_tags(Frame *f, uint64_t cursor)
     finish(f);
 }
 
-/* ---- embedded messages that come again */
+/* ---- embedded messages in parts */
+
+static void put_body(Frame *stmt)
+{
+    static Frame body;
+    body.len = 0;
+    put_bytes(&body, 1, "S", 1);
+    put_message(stmt, 6, &body);
+}
 
 void prepare_again(Frame *f, uint64_t id, unsigned empty)
 {
-    static Frame body, stmt;
-    body.len = 0;
-    put_bytes(&body, 1, "S", 1);
+    static Frame stmt;
     stmt.len = 0;
     put_field(&stmt, 1, STMT_EXECUTE);
-    put_message(&stmt, 6, &body);
+    put_body(&stmt);
     start(f, PREPARE);
     put_field(f, 1, id);
     while (empty-- > 0)
@@ -90,15 +98,58 @@ void prepare_again(Frame *f, uint64_t id, unsigned empty)
     finish(f);
 }
 
+void prepare_in_parts(Frame *f, uint64_t id, unsigned types)
+{
+    static Frame type, rest;
+    type.len = rest.len = 0;
+    put_field(&type, 1, STMT_EXECUTE);
+    put_body(&rest);
+    start(f, PREPARE);
+    put_field(f, 1, id);
+    while (types-- > 0)
+        put_message(f, 2, &type);
+    put_message(f, 2, &rest);
+    finish(f);
+}
+
+/* A scalar's type, then its value, or both, in the second part. */
+static void put_two_parts(Frame *f, bool again)
+{
+    static Frame part, any;
+    part.len = any.len = 0;
+    put_field(&any, 1, ANY_SCALAR);
+    put_field(&part, 1, SINT);
+    put_message(&any, 2, &part);
+    if (!again)
+        part.len = 0;
+    put_field(&part, 2, 1);
+    put_message(&any, 2, &part);
+    put_message(f, 2, &any);
+}
+
 void put_scalar_again(Frame *f)
 {
-    static Frame scalar, any;
-    scalar.len = 0;
-    put_field(&scalar, 1, SINT);
-    any.len = 0;
-    put_field(&any, 1, ANY_SCALAR);
-    put_message(&any, 2, &scalar);
-    put_field(&scalar, 2, 1);
-    put_message(&any, 2, &scalar);
-    put_message(f, 2, &any);
+    put_two_parts(f, true);
+}
+
+void put_scalar_in_parts(Frame *f)
+{
+    put_two_parts(f, false);
+}
+
+void open_in_parts(Frame *f, uint64_t cursor, uint64_t stmt, unsigned args, uint64_t rows)
+{
+    static Frame execute, type, rest;
+    execute.len = type.len = rest.len = 0;
+    put_field(&execute, 1, stmt);
+    for (unsigned i = 0; i < args; i++)
+        put_argument(&execute, i);
+    put_field(&type, 1, 0);
+    put_message(&rest, 2, &execute);
+    start(f, OPEN);
+    put_field(f, 1, cursor);
+    put_message(f, 4, &type);
+    put_message(f, 4, &rest);
+    put_field(f, 5, rows);
+    finish(f);
 }

@@ -1,5 +1,5 @@
 /* Frames that are good, with fields that no message has, with numbers longer than they need be, or with embedded
- * messages that come again. */
+ * messages in parts. */
 #ifndef ODD_FRAMES_H
 #define ODD_FRAMES_H
 
@@ -27,7 +27,13 @@ void fetch_padded_tags(Frame *f, uint64_t cursor);
 
 /* A Prepare whose statement comes so often with no bytes, and then whole. */
 void prepare_again(Frame *f, uint64_t id, unsigned empty);
+/* A Prepare whose statement comes in so many parts with its type, and one with its body. */
+void prepare_in_parts(Frame *f, uint64_t id, unsigned types);
 /* An args field whose scalar comes twice, first with its type alone. */
 void put_scalar_again(Frame *f);
+/* One whose scalar comes in two parts, its type and its value. */
+void put_scalar_in_parts(Frame *f);
+/* An Open whose statement comes in two parts, its type and its Execute. */
+void open_in_parts(Frame *f, uint64_t cursor, uint64_t stmt, unsigned args, uint64_t rows);
 
 #endif

@@ -29,7 +29,7 @@ typedef struct {
     uint64_t rows;
     Part body;
     Arguments args;
-    /* whether a varint that was read is padded; not where the frame is refused */
+    /* whether a varint that was read is padded; not where the frame is refused 1, 2, 5 or 6 */
     bool padded;
 } Message;
 

@@ -73,9 +73,9 @@ static uint8_t *put_text(uint8_t *at, uint32_t reason, const Message *m)
 uint32_t put_error(uint8_t *reply, uint32_t reason, const Message *m, const Report *report)
 {
     static const uint16_t codes[REASONS] = {
-        [CLOSED] = 6004,       [UNKNOWN_TYPE] = 6005,  [BAD_PAYLOAD] = 5000,  [NO_STMT] = 5110,
-        [NOT_SCALAR] = 6008,   [FEW_ARGUMENTS] = 6009, [NO_CURSOR] = 5111,    [ALL_SENT] = 6011,
-        [OTHER_CURSOR] = 6012, [STMTS_FULL] = 6013,    [CURSORS_FULL] = 6014, [BAD_REPORT] = 6015,
+        [CLOSED] = 6004,        [UNKNOWN_TYPE] = 6005, [BAD_PAYLOAD] = 5000, [NO_STMT] = 5110,      [NOT_SCALAR] = 6008,
+        [FEW_ARGUMENTS] = 6009, [NO_CURSOR] = 5111,    [ALL_SENT] = 6011,    [OTHER_CURSOR] = 6012, [STMTS_FULL] = 6013,
+        [CURSORS_FULL] = 6014,  [BAD_REPORT] = 6015,   [BODY_TWICE] = 6017,
     };
     uint8_t *at = reply + HEAD, *text;
     *at++ = ERROR;

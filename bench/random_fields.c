@@ -2,6 +2,7 @@
 
 #include <string.h>
 
+#include "plain_wire.h"
 #include "random.h"
 
 /* How many numbers come ahead of the next padded one; and whether others follow it. */
@@ -54,6 +55,34 @@ void put_some_bytes(Frame *f, uint32_t number, const Frame *bytes)
     put_some_number(f, bytes->len);
     memcpy(f->bytes + f->len, bytes->bytes, bytes->len);
     f->len += bytes->len;
+}
+
+/* Where a part that begins at `from` ends. Which field ends where does not matter for what is compared, so the plain
+ * side's reader tells it. */
+static size_t part_end(const Frame *message, size_t from)
+{
+    const uint8_t *at = message->bytes + from, *end = message->bytes + message->len;
+    Field f;
+    if (one_in(60))
+        return from + pick((uint32_t)(message->len - from + 1));
+    for (bool ignored = false; at && at < end && !one_in(3);)
+        at = read_field(at, end, &f, &ignored);
+    return at ? (size_t)(at - message->bytes) : message->len;
+}
+
+void put_some_parts(Frame *f, uint32_t number, const Frame *message)
+{
+    static Frame part;
+    bool whole = !one_in(3);
+    size_t from = 0;
+    do {
+        size_t end = whole ? message->len : part_end(message, from);
+        part.len = end - from;
+        memcpy(part.bytes, message->bytes + from, part.len);
+        put_some_bytes(f, number, &part);
+        maybe_noise(f);
+        from = end;
+    } while (from < message->len);
 }
 
 void put_random_bytes(Frame *f, size_t len)

@@ -11,6 +11,8 @@ void random_padding(void);
 void put_some_number(Frame *f, uint64_t v);
 void put_some_field(Frame *f, uint32_t number, uint64_t v);
 void put_some_bytes(Frame *f, uint32_t number, const Frame *bytes);
+/* A message in one part or several, cut between its fields, now and then anywhere; some parts are empty. */
+void put_some_parts(Frame *f, uint32_t number, const Frame *message);
 void put_random_bytes(Frame *f, size_t len);
 
 /* A field of any number and wire type; one in forty is no field at all. */

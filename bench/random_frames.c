@@ -15,8 +15,10 @@ static void put_some_string(Frame *f, uint32_t number)
     maybe_noise(&string);
     if (!one_in(30))
         put_some_bytes(&string, 1, &text);
+    if (one_in(12))
+        put_some_bytes(&string, 1, &text);
     maybe_noise(&string);
-    put_some_bytes(f, number, &string);
+    put_some_parts(f, number, &string);
 }
 
 /* The value of a scalar's type. */
@@ -51,8 +53,8 @@ static void some_scalar(Frame *f)
     uint32_t type = 1 + pick(STRING);
     f->len = 0;
     maybe_noise(f);
-    if (one_in(12))
-        put_some_value(f, 1 + pick(STRING));
+    if (one_in(6))
+        put_some_value(f, one_in(2) ? type : 1 + pick(STRING));
     if (!one_in(30))
         put_some_field(f, 1, one_in(20) ? random_number() : type);
     maybe_noise(f);
@@ -63,18 +65,27 @@ static void some_scalar(Frame *f)
     maybe_noise(f);
 }
 
+static void put_some_type(Frame *any)
+{
+    put_some_field(any, 1, one_in(40) ? random_number() : one_in(12) ? ANY_OBJECT + pick(2) : ANY_SCALAR);
+}
+
+/* The scalar may come again, and the type behind it. */
 static void put_some_argument(Frame *f)
 {
     static Frame any, scalar;
+    bool behind = one_in(6);
     any.len = 0;
     maybe_noise(&any);
-    if (!one_in(60))
-        put_some_field(&any, 1, one_in(40) ? random_number() : one_in(12) ? ANY_OBJECT + pick(2) : ANY_SCALAR);
+    if (!behind)
+        put_some_type(&any);
     do {
         some_scalar(&scalar);
         if (!one_in(30))
-            put_some_bytes(&any, 2, &scalar);
+            put_some_parts(&any, 2, &scalar);
     } while (one_in(15));
+    if (behind && !one_in(10))
+        put_some_type(&any);
     if (one_in(30))
         put_some_field(&any, 1, pick(5));
     maybe_noise(&any);
@@ -146,23 +157,28 @@ static void some_body(Frame *f, uint32_t type)
         put_noise(f);
 }
 
-/* A Prepare's statement. */
+/* A Prepare's statement. One in twelve has its body again, and some of these bodies are good only together. */
 static void some_operation(Frame *f)
 {
     static const uint8_t types[] = {0, 1, 2, 4, 5, 5, 5, 5}, fields[] = {2, 3, 4, 7, 5, 6};
     static Frame body;
     uint32_t type = one_in(60) ? 3 : types[pick(8)];
+    bool behind = one_in(6);
     f->len = 0;
     maybe_noise(f);
-    if (!one_in(60))
+    if (!behind && !one_in(60))
         put_some_field(f, 1, type);
     do {
         some_body(&body, type);
-        if (!one_in(60))
+        if (one_in(20))
+            put_some_parts(f, fields[type], &body);
+        else if (!one_in(60))
             put_some_bytes(f, fields[type], &body);
         if (one_in(12))
             put_some_bytes(f, 2 + pick(5), &body);
     } while (one_in(12));
+    if (behind)
+        put_some_field(f, 1, type);
     if (one_in(30))
         put_some_field(f, 1, random_number());
     maybe_noise(f);
@@ -172,27 +188,32 @@ static void some_operation(Frame *f)
 static void some_open(Frame *f)
 {
     static Frame execute;
+    bool behind = one_in(6);
     f->len = 0;
     maybe_noise(f);
-    if (!one_in(60))
+    if (!behind && !one_in(60))
         put_some_field(f, 1, one_in(30) ? random_number() : 0);
     do {
         execute.len = 0;
         some_execute(&execute);
-        if (!one_in(60))
+        if (one_in(20))
+            put_some_parts(f, 2, &execute);
+        else if (!one_in(60))
             put_some_bytes(f, 2, &execute);
     } while (one_in(20));
+    if (behind)
+        put_some_field(f, 1, 0);
     maybe_noise(f);
 }
 
-/* An embedded statement; the last one counts. */
+/* An embedded statement; what comes again is merged. */
 static void put_stmt(Frame *f, uint32_t number, void (*make)(Frame *f))
 {
     static Frame stmt;
     do {
         make(&stmt);
         if (!one_in(60))
-            put_some_bytes(f, number, &stmt);
+            put_some_parts(f, number, &stmt);
         maybe_noise(f);
     } while (one_in(20));
 }

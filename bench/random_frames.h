@@ -6,8 +6,9 @@
 
 /* Ids of frames are from 0 to below this. Few ids meet each other often. */
 void random_ids(uint32_t range);
-/* A frame of one of the eight types, with fields repeated, padded, unknown or bad among the others; one in six has
- * some bytes changed, some have a length that is not theirs. */
+/* A frame of one of the eight types, with fields repeated, padded, unknown or bad among the others, with messages in
+ * parts at every layer and bodies that come twice; one in six has some bytes changed, some have a length that is not
+ * theirs. */
 void random_frame(Frame *f);
 
 #endif

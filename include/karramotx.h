@@ -108,7 +108,9 @@ enum karramotx_reason {
     KARRAMOTX_STMTS_FULL = 13,     /* 64 statements are live, the id not among them */
     KARRAMOTX_CURSORS_FULL = 14,   /* 16 cursors are live, the id not among them */
     KARRAMOTX_BAD_REPORT = 15,     /* the report is of the wrong kind or outside its limits */
-    KARRAMOTX_ENGINE_FAILED = 16
+    KARRAMOTX_ENGINE_FAILED = 16,
+    KARRAMOTX_BODY_TWICE = 17      /* the body that a Prepare's type chooses, or an Open's Execute, comes more than
+                                      once; judged after 6 and before 7 */
 };
 
 /* ---- The session ---- */
@@ -281,16 +283,18 @@ struct karramotx_next_frame karramotx_next_frame(struct karramotx_reader reader,
  *     of an Open, its own fields, those of its statement and of its Execute, and all that is read of the arguments
  *     of the other five, their own fields
  *
+ * A message that comes in several parts counts in each of them.
+ *
  * What does not count: the rest of a group; the bytes inside a Prepare's body; and the bytes inside a part that is
- * skipped unread, which is an embedded message that a later occurrence of its field replaces, or a body, a scalar,
- * octets or a string that the type beside it does not choose. The tag and the length of such a part do count.
+ * skipped unread, which is one of a body, a scalar, octets or a string that the type does not choose, the one that all
+ * parts together have. The tag and the length of such a part do count.
  *
  * A value that its field cuts down is not padded for that: an enum of 2^32 + 5, a bool of 2.
  *
  * Of a frame refused 1 to 6 they say false, whatever it holds: 3 in a step and 4 in a closed session are among these.
  * Of any other frame, refused or accepted, they say what was read. So a look and a step say the same, unless the step
- * is refused 3. karramotx_read knows of no session, and says false where the frame is refused by itself: 1, 2, 5 or 6.
- * So in a closed session an inspection's look says false, and its message what was read.
+ * is refused 3. karramotx_read knows of no session, and says false where it refuses the frame 1, 2, 5 or 6, but at 17
+ * what was read. So in a closed session an inspection's look says false, and its message what was read.
  */
 
 /* The work that a frame wants of your engine. */
@@ -367,6 +371,20 @@ struct karramotx_answer karramotx_step(struct karramotx_session *session, const 
 
 /* ---- Reading a frame by itself ---- */
 
+/*
+ * Messages in parts. A message inside another may come in several parts, such as a statement's type in one and its
+ * body in the next: the statement of a Prepare or an Open, the scalar of an argument, the octets or the string of a
+ * scalar. The fields of all parts count as if they stood in one, and of a field that is not repeated the last
+ * occurrence counts. Each part that is read must be a good list of fields by itself, and what is required may stand in
+ * any of them. A body, scalar, octets or string that the type does not choose is skipped unread, in every part; the
+ * type is the one that all parts together have. Arguments are repeated: each is one of its own.
+ *
+ * The body that a Prepare's type chooses and an Open's Execute are handed out as one part of the frame, so they must
+ * not come twice. A frame in which one does, in one part of the statement or in several, is refused 17 where it would
+ * otherwise be good: all parts of the body are read first, together as one message, and where they are bad the frame
+ * is refused 6.
+ */
+
 struct karramotx_optional {
     bool present;
     uint64_t value;                /* 0 where it is absent */
@@ -402,7 +420,7 @@ KARRAMOTX_FIELD(karramotx_arguments, end, 40);
 
 /* What a frame holds. What its type does not have is 0 or absent. */
 struct karramotx_message {
-    uint64_t reason;               /* 0, or 1, 2, 5, 6: refused whatever the session, all numbers but `used` 0 */
+    uint64_t reason;               /* 0, or 1, 2, 5, 6, 17: refused whatever the session, all numbers but `used` 0 */
     size_t used;                   /* the frame's length; 0 where it is refused 1 or 2 */
     uint64_t kind;                 /* enum karramotx_kind */
     uint64_t stmt;                 /* the statement id */
@@ -412,7 +430,7 @@ struct karramotx_message {
     uint64_t operation;            /* of a Prepare, enum karramotx_operation */
     struct karramotx_part body;    /* the body that a Prepare's type chooses; an Open's Execute */
     struct karramotx_arguments args;
-    bool padded;                   /* whether a varint read in the payload is padded; refused: false */
+    bool padded;                   /* whether a varint read in the payload is padded; refused 1, 2, 5, 6: false */
 };
 KARRAMOTX_SIZE(karramotx_message, 152);
 KARRAMOTX_FIELD(karramotx_message, reason, 0);
@@ -429,13 +447,13 @@ KARRAMOTX_FIELD(karramotx_message, padded, 144);
 
 struct karramotx_message karramotx_read(const uint8_t *frame, size_t len);
 
-/* The chosen body alone, as a part of the frame; empty where there is none. */
+/* The chosen body alone, as a part of the frame; empty where there is none or karramotx_read refuses the frame. */
 struct karramotx_part karramotx_body(const uint8_t *frame, size_t len);
 
 /* ---- Arguments ---- */
 
 struct karramotx_value {
-    uint64_t reason;               /* 0, or 1, 2, 5, 6 as the frame's; 8 an object or array; 9 no more */
+    uint64_t reason;               /* 0, or 1, 2, 5, 6, 17 as the frame's; 8 an object or array; 9 no more */
     uint64_t kind;                 /* enum karramotx_scalar_kind; 0 where it is refused */
     uint64_t value;                /* a sint (cast it to int64_t), a uint, a bool as 0 or 1, the bits of a
                                       double, the bits of a float; else 0 */

@@ -40,6 +40,23 @@ size_t drafted_frame(uint8_t *frame, size_t room)
     return karramotx_write(draft, body, sizeof body, object, below(16) == 0 ? sizeof object : 0, frame, room).len;
 }
 
+size_t parted(uint8_t *frame, size_t len)
+{
+    static const uint8_t body[LONGEST_PART] = {0x12, 0x05, 0x32, 0x03, 0x0a, 0x01, 'S'};
+    static const uint8_t execute[] = {0x22, 0x04, 0x12, 0x02, 0x08, 0x01};
+    bool is_open = frame[4] == KARRAMOTX_CURSOR_OPEN, is_short = len < UINT8_MAX - LONGEST_PART;
+    if (!is_short || (!is_open && frame[4] != KARRAMOTX_PREPARE))
+        return len;
+    size_t more = is_open ? sizeof execute : sizeof body;
+    memcpy(frame + len, is_open ? execute : body, more);
+    if (below(2)) {
+        frame[len + 1] = 0;
+        more = 2;
+    }
+    frame[0] = (uint8_t)(frame[0] + more);
+    return len + more;
+}
+
 size_t padded(uint8_t *frame, size_t len)
 {
     frame[0]++;

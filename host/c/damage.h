@@ -16,6 +16,13 @@ uint8_t *guarded_end(size_t room);
 size_t drafted_frame(uint8_t *frame, size_t room);
 
 /*
+ * Puts one part more of its statement behind a short Prepare or Open: one without bytes, or one with a body or an
+ * Execute in it, which then comes twice. Answers the length then; there is room for LONGEST_PART bytes more.
+ */
+enum { LONGEST_PART = 7 };
+size_t parted(uint8_t *frame, size_t len);
+
+/*
  * Puts a byte of 0 behind the last byte of a short frame: a number that stands there is then padded. Answers the length
  * then; there is room for one byte more.
  */

@@ -99,11 +99,25 @@ uint64_t live_cursors(const struct karramotx_session *session)
     return all_ends(session, &(struct karramotx_message){.kind = KARRAMOTX_SESS_RESET});
 }
 
+/* Of a frame that is refused by itself nothing else is told: no type, no body, and each argument is refused alike. */
+static bool refused_alike(const struct karramotx_message *m, const uint8_t *frame, size_t len)
+{
+    enum { SOME_ARGUMENTS = 3 };
+    if (m->reason == KARRAMOTX_ACCEPTED)
+        return true;
+    for (size_t index = 0; index < SOME_ARGUMENTS; index++) {
+        struct karramotx_value value = karramotx_argument(frame, len, index);
+        if (value.reason != m->reason || value.kind != 0)
+            return false;
+    }
+    return m->kind == 0 && m->body.len == 0 && m->args.count == 0 && karramotx_body(frame, len).len == 0;
+}
+
 bool inspection_agrees(const struct karramotx_inspection *told, const struct karramotx_session *session,
                        const uint8_t *frame, size_t len)
 {
     struct karramotx_message message = karramotx_read(frame, len);
     return same_look(told->look, karramotx_look(session, frame, len)) && same_message(&told->message, &message) &&
            told->stmt_place == own_stmt(session, &message) && told->cursor_place == own_cursor(session, &message) &&
-           told->ends == all_ends(session, &message);
+           told->ends == all_ends(session, &message) && refused_alike(&message, frame, len);
 }

@@ -17,7 +17,8 @@
 #include <stdlib.h>
 #include <string.h>
 
-enum { ROOM = 8192, GUARD = 64, MAX_REPLY = 200 };
+/* SPARE bytes take what a part, padding and damage add to a frame. */
+enum { ROOM = 8192, GUARD = 64, MAX_REPLY = 200, SPARE = 16 };
 
 /* A frame of the client's conversation. */
 static size_t spoken_frame(const uint8_t *talk, size_t talk_len, uint8_t *frame)
@@ -30,10 +31,12 @@ static size_t spoken_frame(const uint8_t *talk, size_t talk_len, uint8_t *frame)
     return len;
 }
 
-/* A frame, now and then padded, more often whole than damaged. */
+/* A frame, now and then with a statement in parts or padded, more often whole than damaged. */
 static size_t some_frame(const uint8_t *talk, size_t talk_len, uint8_t *frame, size_t room)
 {
     size_t len = below(200) == 0 ? spoken_frame(talk, talk_len, frame) : drafted_frame(frame, room);
+    if (below(8) == 0)
+        len = parted(frame, len);
     if (below(8) == 0)
         len = padded(frame, len);
     for (uint64_t times = below(8); times > 5; times--)
@@ -80,7 +83,7 @@ static bool untouched(const uint8_t *bytes, size_t len)
 static uint8_t *frame_end, *reply_end;
 static uint8_t talk[ROOM / 2];
 static size_t talk_len;
-static uint64_t met[KARRAMOTX_ENGINE_FAILED + 1], met_padded;
+static uint64_t met[KARRAMOTX_BODY_TWICE + 1], met_padded;
 
 /* The places of results that a host keeps, as bits; it goes by what it is told alone. */
 static uint64_t kept_results;
@@ -161,7 +164,7 @@ static bool counts_agree(const struct karramotx_session *s)
 /* Steps from a fresh session on, or `wild` from any words. */
 static bool steps_survive(uint64_t steps, bool wild)
 {
-    static uint8_t bytes[ROOM / 2 + 8];
+    static uint8_t bytes[ROOM / 2 + SPARE];
     memset(met, 0, sizeof met);
     met_padded = 0;
     begin_fresh();
@@ -170,7 +173,7 @@ static bool steps_survive(uint64_t steps, bool wild)
             host.session = wild_session();
         else if (host.session.closed && below(4) == 0)
             begin_fresh();
-        size_t len = some_frame(talk, talk_len, bytes, sizeof bytes - 8);
+        size_t len = some_frame(talk, talk_len, bytes, sizeof bytes - SPARE);
         bool good = survives(bytes, len) && counts_agree(&host.session);
         bool sound = session_is_sound(&host.session) && kept_results == live_cursors(&host.session);
         if (!good || (!wild && !sound)) {

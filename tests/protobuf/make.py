@@ -195,4 +195,5 @@ def main():
         fetch()
 
 
-main()
+if __name__ == "__main__":
+    main()

@@ -24,6 +24,10 @@ class Bad(Exception):
     pass
 
 
+class Twice(Exception):
+    """The chosen body, or an Open's Execute, comes more than once."""
+
+
 # --- the wire format -------------------------------------------------------------------------------
 def varint(s, at, end):
     value = 0
@@ -112,30 +116,43 @@ LAYOUT = {
 }
 
 
-def read(name, s, at, end):
-    """last occurrence of each known field: number -> (value, start, length)"""
+def read(name, s, parts):
+    """the fields of a message in parts: number -> (value, start, length) of each occurrence that is known"""
     rows, got = LAYOUT[name], {}
-    for n, w, v, start, length, _ in fields(s, at, end):
-        if n not in rows or rows[n][0] != w:
-            continue
-        if len(rows[n]) == 3 and v % 2**32 not in rows[n][2]:
-            continue
-        got[n] = (v, start, length)
+    for at, end in parts:
+        for n, w, v, start, length, _ in fields(s, at, end):
+            if n not in rows or rows[n][0] != w:
+                continue
+            if len(rows[n]) == 3 and v % 2**32 not in rows[n][2]:
+                continue
+            got.setdefault(n, []).append((v, start, length))
     for n, row in rows.items():
         if row[1] and n not in got:
             raise Bad()
     return got
 
 
-def scalar(s, at, n):
-    x = read("scalar", s, at, at + n)
-    t = x[1][0] % 2**32
+def number(x, n):
+    """the last one counts"""
+    return x[n][-1][0]
+
+
+def parts_of(x, n):
+    """all occurrences of an embedded message"""
+    if n not in x:
+        raise Bad()
+    return [(start, start + length) for _, start, length in x[n]]
+
+
+def scalar(s, parts):
+    x = read("scalar", s, parts)
+    t = number(x, 1) % 2**32
     if t == 3:
         return "null"
     k = {1: 2, 2: 3, 4: 5, 5: 6, 6: 7, 7: 8, 8: 9}[t]
     if k not in x:
         raise Bad()
-    v, start, length = x[k]
+    v = number(x, k)
     if t == 1:
         return "sint %d" % (v >> 1 if v % 2 == 0 else -(v >> 1) - 1)
     if t == 2:
@@ -146,24 +163,23 @@ def scalar(s, at, n):
         return "float nan %d" % v if v % 2**31 > 0xFF << 23 else "float %r" % struct.unpack("<f", struct.pack("<I", v))
     if t == 7:
         return "bool true" if v else "bool false"
-    y = read("bytes", s, start, start + length)
-    return "%s %d+%d" % ("octets" if t == 4 else "string", y[1][1], y[1][2])
+    y = read("bytes", s, parts_of(x, k))
+    return "%s %d+%d" % ("octets" if t == 4 else "string", y[1][-1][1], y[1][-1][2])
 
 
 def any_value(s, at, n):
-    x = read("any", s, at, at + n)
-    t = x[1][0] % 2**32
+    x = read("any", s, [(at, at + n)])
+    t = number(x, 1) % 2**32
     if t == 2:
         return "object"
     if t == 3:
         return "array"
-    if 2 not in x:
-        raise Bad()
-    return scalar(s, x[2][1], x[2][2])
+    return scalar(s, parts_of(x, 2))
 
 
-def arguments(s, at, end):
-    return [any_value(s, f[3], f[4]) for f in fields(s, at, end) if f[0] == 2 and f[1] == LEN]
+def arguments(s, parts):
+    """each is one of its own, in whatever part"""
+    return [any_value(s, f[3], f[4]) for at, end in parts for f in fields(s, at, end) if f[0] == 2 and f[1] == LEN]
 
 
 def message(s):
@@ -182,48 +198,54 @@ def message(s):
         line, args = accepted(s[:used], kind, used)
     except Bad:
         return 6, used, "", []
+    except Twice:
+        return 17, used, "", []
     return 0, used, line, args
+
+
+def once(parts):
+    """the place and length of a body that comes once; it has been read before, all of it"""
+    if len(parts) > 1:
+        raise Twice()
+    return parts[0][0], parts[0][1] - parts[0][0]
 
 
 def accepted(s, kind, end):
     stmt = cursor = operation = 0
     rows = compact = None
     body, args = (0, 0), []
+    whole = [(5, end)]
     if kind in (6, 7):
-        read("plain", s, 5, end)
+        read("plain", s, whole)
     elif kind == 40:
-        x = read("prepare", s, 5, end)
-        stmt = x[1][0] % 2**32
-        y = read("prepare stmt", s, x[2][1], x[2][1] + x[2][2])
-        operation = y[1][0] % 2**32
-        k = {0: 2, 1: 3, 2: 4, 4: 5, 5: 6}[operation]
-        if k not in y:
-            raise Bad()
-        body = y[k][1:]
-        read("stmt execute" if operation == 5 else "plain", s, body[0], sum(body))
+        x = read("prepare", s, whole)
+        stmt = number(x, 1) % 2**32
+        y = read("prepare stmt", s, parts_of(x, 2))
+        operation = number(y, 1) % 2**32
+        bodies = parts_of(y, {0: 2, 1: 3, 2: 4, 4: 5, 5: 6}[operation])
+        read("stmt execute" if operation == 5 else "plain", s, bodies)
         if operation == 5:
-            args = arguments(s, body[0], sum(body))
+            args = arguments(s, bodies)
+        body = once(bodies)
     elif kind == 42:
-        stmt = read("deallocate", s, 5, end)[1][0] % 2**32
+        stmt = number(read("deallocate", s, whole), 1) % 2**32
     elif kind in (44, 45):
-        x = read("close" if kind == 44 else "fetch", s, 5, end)
-        cursor = x[1][0] % 2**32
-        rows = x[2][0] if kind == 45 and 2 in x else None
+        x = read("close" if kind == 44 else "fetch", s, whole)
+        cursor = number(x, 1) % 2**32
+        rows = number(x, 2) if kind == 45 and 2 in x else None
     else:
-        at, stop = 5, end
+        executes = whole
         if kind == 43:
-            x = read("open", s, 5, end)
-            cursor = x[1][0] % 2**32
-            rows = x[5][0] if 5 in x else None
-            y = read("open stmt", s, x[4][1], x[4][1] + x[4][2])
-            if 2 not in y:
-                raise Bad()
-            body = y[2][1:]
-            at, stop = body[0], sum(body)
-        e = read("execute", s, at, stop)
-        stmt = e[1][0] % 2**32
-        compact = (1 if e[3][0] else 0) if 3 in e else None
-        args = arguments(s, at, stop)
+            x = read("open", s, whole)
+            cursor = number(x, 1) % 2**32
+            rows = number(x, 5) if 5 in x else None
+            executes = parts_of(read("open stmt", s, parts_of(x, 4)), 2)
+        e = read("execute", s, executes)
+        stmt = number(e, 1) % 2**32
+        compact = (1 if number(e, 3) else 0) if 3 in e else None
+        args = arguments(s, executes)
+        if kind == 43:
+            body = once(executes)
     first = [k for k, a in enumerate(args) if a in ("object", "array")][:1]
     line = " kind %d stmt %d cursor %d" % (kind, stmt, cursor)
     line += "" if rows is None else " rows %d" % rows
@@ -327,6 +349,21 @@ def opened(execute, more=b"", cursor=3):
     return frame(43, num(1, cursor) + sub(4, num(1, 0) + sub(2, execute)) + more)
 
 
+def parted(*parts):
+    """a Prepare whose statement comes in parts"""
+    return frame(40, num(1, 1) + b"".join(sub(2, p) for p in parts))
+
+
+def opens(*parts, more=b""):
+    """an Open whose statement comes in parts"""
+    return frame(43, num(1, 3) + b"".join(sub(4, p) for p in parts) + more)
+
+
+def arg(*fields_of_any):
+    """an Execute with one argument, a scalar if no other type comes"""
+    return frame(41, EXEC + sub(2, num(1, 1) + b"".join(fields_of_any)))
+
+
 VECTORS = [
     # the encoding guide's published examples
     ("V", H("01")), ("V", H("9601")), ("V", H("feffffffffffffffff01")), ("F", H("089601")), ("F", H("120774657374696e67")),
@@ -358,7 +395,7 @@ VECTORS = [
     ("M", prepare(0, 2, H("08"))), ("M", prepare(5, 6, b"")), ("M", prepare(5, 6, num(1, 1))), ("M", frame(40, num(1, 1))), ("M", frame(40, sub(2, b""))),
     ("M", frame(40, num(1, 1) + sub(2, num(1, 5) + sub(6, SQL) + num(1, 3)))), ("M", frame(40, num(1, 1) + sub(2, num(1, 5) + sub(6, SQL) + num(1, 0) + sub(2, b"")))),
     ("M", frame(40, num(1, 1) + sub(2, num(1, 5) + sub(2, H("ff")) + sub(6, SQL)))),
-    # an earlier embedded message is skipped unread, at each layer
+    # an earlier embedded message is read, at each layer; a bad one spoils the frame
     ("M", frame(40, num(1, 1) + sub(2, H("ff")) + sub(2, num(1, 5) + sub(6, H("08")) + sub(6, SQL)))),
     ("M", frame(40, num(1, 1) + sub(2, num(1, 5) + sub(6, SQL)) + sub(2, H("ff")))),
     # StmtExecute's arguments inside a Prepare
@@ -375,6 +412,41 @@ VECTORS = [
     ("M", opened(EXEC)), ("M", opened(EXEC, num(5, 1))), ("M", opened(EXEC + num(3, 1) + SCALARS[8] + ARRAY, num(5, 2**40))), ("M", opened(b"")), ("M", opened(EXEC, num(2, 4) + nested(3))),
     ("M", frame(43, num(1, 3) + sub(4, num(1, 0)))), ("M", frame(43, num(1, 3) + sub(4, num(1, 1) + sub(2, EXEC)))), ("M", frame(43, num(1, 3))), ("M", frame(43, sub(4, num(1, 0) + sub(2, EXEC)))),
     ("M", frame(43, num(1, 3) + sub(4, H("ff")) + sub(4, num(1, 0) + sub(2, H("ff")) + sub(2, EXEC)))),
+    # a statement in parts: its type and body apart, either first; empty parts; the last type; type or body in no part
+    ("M", parted(num(1, 5), sub(6, SQL))), ("M", parted(sub(6, SQL), num(1, 5))),
+    ("M", parted(b"", num(1, 0), b"", sub(2, num(1, 2)), b"")), ("M", parted(num(1, 0), sub(6, SQL), num(1, 5))),
+    ("M", parted(num(1, 5), sub(2, b""), num(1, 0) + num(1, 3))), ("M", parted(b"", sub(6, SQL))),
+    ("M", parted(num(1, 5), b"")), ("M", parted(num(1, 5), sub(2, b""))),
+    ("M", parted(num(1, 5) + H("4b"), H("4c") + sub(6, SQL))), ("M", parted(num(1, 5), sub(6, SQL), H("ff"))),
+    ("M", parted(num(1, 5) + sub(2, H("ff")), sub(6, SQL) + sub(2, H("08")))),
+    ("M", parted(num(1, 0) + sub(6, H("ff")), sub(6, H("08")), sub(2, b""))), ("M", opens(num(1, 0), sub(2, EXEC))),
+    ("M", opens(sub(2, EXEC + SCALARS[8]), b"", num(1, 0), more=num(5, 9))), ("M", opens(num(1, 1), sub(2, EXEC))),
+    ("M", opens(num(1, 0), H("08"))),
+    # an argument's scalar in parts, and its octets or string; an argument is no part of another
+    ("M", arg(sub(2, num(1, 2)), sub(2, num(3, 7)))),
+    ("M", arg(sub(2, num(3, 7)), b"", sub(2, b""), sub(2, num(1, 2)))),
+    ("M", arg(sub(2, num(1, 2) + num(3, 7)), sub(2, num(1, 3)))), ("M", arg(sub(2, num(1, 2)), sub(2, num(2, 7)))),
+    ("M", arg(sub(2, num(3, 7)), sub(2, b""))), ("M", arg(sub(2, H("ff")), sub(2, num(1, 3)))),
+    ("M", arg(sub(2, H("ff")), num(1, 2), sub(2, H("08")))),
+    ("M", arg(sub(2, num(1, 4) + sub(5, b"")), sub(2, sub(5, sub(1, b"abc"))))),
+    ("M", arg(sub(2, num(1, 8) + sub(9, sub(1, b"a")) + sub(9, sub(1, b"bc") + num(2, 1)) + sub(9, num(2, 2))))),
+    ("M", arg(sub(2, num(1, 4) + sub(5, H("ff")) + sub(5, sub(1, b"a"))))),
+    ("M", arg(sub(2, num(1, 4) + sub(5, b"")), sub(2, sub(5, num(2, 1))))),
+    ("M", arg(sub(2, num(1, 4) + sub(5, sub(1, b"a")) + sub(9, H("ff"))), sub(2, sub(9, H("08"))))),
+    ("M", frame(41, EXEC + sub(2, num(1, 1)) + sub(2, sub(2, num(1, 3))))),
+    # a chosen body that comes twice: read first, then refused 17; what is not chosen may come again
+    ("M", parted(num(1, 0) + sub(2, b"") + sub(2, b""))), ("M", parted(num(1, 0), sub(2, num(1, 2)), sub(2, b""))),
+    ("M", parted(num(1, 0) + sub(2, b"") + sub(2, H("08")))), ("M", parted(num(1, 5) + sub(6, SQL), sub(6, SQL))),
+    ("M", parted(num(1, 5) + sub(6, SCALARS[0]), sub(6, SQL))),
+    ("M", parted(num(1, 5) + sub(6, SCALARS[0]), sub(6, OBJECT))),
+    ("M", parted(num(1, 5) + sub(6, SQL), sub(6, sub(2, num(1, 1))))),
+    ("M", parted(num(1, 5) + sub(6, SQL), sub(6, H("ff")))),
+    ("M", parted(num(1, 0) + sub(2, b""), sub(3, H("ff")), sub(3, b""))),
+    ("M", parted(num(1, 0) + sub(2, b""), sub(3, b""), sub(3, b"") + num(1, 1))),
+    ("M", opens(num(1, 0) + sub(2, EXEC) + sub(2, EXEC))),
+    ("M", opens(num(1, 0) + sub(2, b""), sub(2, EXEC + OBJECT))),
+    ("M", opens(num(1, 0) + sub(2, b""), sub(2, num(3, 1)))),
+    ("M", opens(num(1, 0) + sub(2, EXEC), sub(2, sub(2, num(1, 4))))),
 ]
 
 GUIDE = {  # what the encoding guide publishes

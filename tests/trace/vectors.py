@@ -25,6 +25,10 @@ class Bad(Exception):
     pass
 
 
+class Twice(Exception):
+    """the chosen body, or an Open's Execute, comes more than once"""
+
+
 class Cut(Exception):
     pass
 
@@ -100,14 +104,21 @@ def need(x):
     return x
 
 
-def scalar(s):
-    fs = fields(s)
+def inside(fs, number):
+    """the fields of a message that is embedded in one part or several, and how often it comes; each part is read"""
+    parts = [f[3] for f in fs if f[0] == number and f[1] == 2]
+    if not parts:
+        raise Bad()
+    return [f for part in parts for f in fields(part)], len(parts)
+
+
+def scalar(fs):
     kind = need(last(fs, 1, 0, range(1, 9))) % 2**32
     number, wire = {1: (2, 0), 2: (3, 0), 3: (0, 0), 4: (5, 2), 5: (6, 1), 6: (7, 5), 7: (8, 0), 8: (9, 2)}[kind]
-    if kind != 3:
-        value = need(last(fs, number, wire))
-        if kind in (4, 8):
-            need(last(fields(value), 1, 2))
+    if kind in (4, 8):
+        need(last(inside(fs, number)[0], 1, 2))
+    elif kind != 3:
+        need(last(fs, number, wire))
 
 
 def argument(s):
@@ -115,7 +126,7 @@ def argument(s):
     fs = fields(s)
     kind = need(last(fs, 1, 0, (1, 2, 3))) % 2**32
     if kind == 1:
-        scalar(need(last(fs, 2, 2)))
+        scalar(inside(fs, 2)[0])
     return kind
 
 
@@ -123,44 +134,45 @@ def arguments(fs):
     return [argument(f[3]) for f in fs if f[0] == 2 and f[1] == 2]
 
 
-def execute_of(s):
-    fs = fields(s)
+def execute_of(fs):
     args = arguments(fs)
     return need(last(fs, 1, 0)) % 2**32, args
 
 
-def body_of(s):
-    """a Prepare's or an Open's stmt"""
-    fs = fields(s)
+def body_of(fs):
+    """a Prepare's stmt; how often its body comes"""
     kind = need(last(fs, 1, 0, (0, 1, 2, 4, 5))) % 2**32
-    number = {0: 2, 1: 3, 2: 4, 4: 5, 5: 6}[kind]
-    body = fields(need(last(fs, number, 2)))
+    body, times = inside(fs, {0: 2, 1: 3, 2: 4, 4: 5, 5: 6}[kind])
     if kind == 5:
         arguments(body)
         need(last(body, 1, 2))
+    return times
 
 
 def read(kind, s):
     """a message: statement id, cursor id, fetch_rows or None, arguments"""
     fs = fields(s)
     stmt = cursor = rows = None
-    args = []
+    args, bodies = [], 1
     if kind == 40:
         stmt = need(last(fs, 1, 0)) % 2**32
-        body_of(need(last(fs, 2, 2)))
+        bodies = body_of(inside(fs, 2)[0])
     elif kind == 41:
-        stmt, args = execute_of(s)
+        stmt, args = execute_of(fs)
     elif kind == 42:
         stmt = need(last(fs, 1, 0)) % 2**32
     elif kind == 43:
         cursor = need(last(fs, 1, 0)) % 2**32
         rows = last(fs, 5, 0)
-        inner = fields(need(last(fs, 4, 2)))
+        inner = inside(fs, 4)[0]
         need(last(inner, 1, 0, (0,)))
-        stmt, args = execute_of(need(last(inner, 2, 2)))
+        execute, bodies = inside(inner, 2)
+        stmt, args = execute_of(execute)
     elif kind in (44, 45):
         cursor = need(last(fs, 1, 0)) % 2**32
         rows = last(fs, 2, 0) if kind == 45 else None
+    if bodies > 1:
+        raise Twice()
     return stmt, cursor, rows, args
 
 
@@ -200,6 +212,8 @@ def refusal(session, frame, report):
         m = read(kind, frame[5:4 + size])
     except Bad:
         return 6, None, None
+    except Twice:
+        return 17, None, None
     stmt, cursor, rows, args = m
     return table_refusal(session, kind, m) or report_refusal(kind, report), kind, m
 
@@ -372,7 +386,7 @@ PREPARED = rec(prepare(1), 1, 0)
 # the power cut: the statement is prepared anew, and its cursor is gone
 POWER_CUT = [PREPARED, rec(open_(1, 1, 200), 2, 3, 1000), rec(fetch(1, 300), 3), PREPARED, rec(fetch(1, 300), 3),
              rec(open_(1, 1, 200), 2, 3, 1000), rec(fetch(1), 3), rec(fetch(1), 3)]
-# each refusal but 3, 4, 13 and 14, on the session of one statement with one placeholder
+# each refusal but 3, 4, 13, 14 and 17, on the session of one statement with one placeholder
 REFUSALS = [rec(b"", 0), rec(b"\1\0\0", 0), rec(RESET[:4], 0), rec(b"\0\0\0\0", 0), rec(b"\xfd\xff\0\0", 0),
             rec(frame(99), 0), rec(frame(42), 0), rec(prepare(1, 3), 1, 0), rec(deallocate(1), 0), rec(execute(1), 2, 1, 1),
             rec(prepare(1), 1, 1), rec(prepare(1), 1, 65536), rec(prepare(1), 3), rec(prepare(1), 4, 77), rec(prepare(2), 4, 0),
@@ -389,6 +403,37 @@ FULL = ([rec(prepare(i), 1, 0) for i in range(65)] + [rec(prepare(63), 1, 0)]
 # everything ends; a closed session refuses 4, but 1 and 2 come first
 ENDS = POWER_CUT + [rec(RESET, 0), rec(fetch(1), 3), PREPARED, rec(open_(7, 1, 1), 2, 1, 3), rec(CLOSE, 2, 1, 1), rec(RESET, 0),
                     PREPARED, rec(frame(99), 0), rec(b"\0\0\0\0", 0), rec(RESET[:3], 0)]
+# messages in parts are merged; a body that comes twice is refused 17, or 6 where all of it together is bad
+BODY, TYPE, EXECUTE, NO_BODY = part(6, part(1, b"S")), num(1, 5), part(2, num(1, 1)), part(6, b"")
+
+
+def in_parts(kind, *parts, report=(1, 0)):
+    """a Prepare of statement 1, or an Open of cursor 9, whose stmt comes in parts"""
+    own, number = (num(1, 1), 2) if kind == 40 else (num(1, 9), 4)
+    return rec(frame(kind, own + b"".join(part(number, p) for p in parts)), *report)
+
+
+def argument_in_parts(*parts):
+    """an Execute with an argument whose scalar comes in parts"""
+    return rec(execute(1, part(2, num(1, 1) + b"".join(part(2, p) for p in parts))), 2, 0, 0)
+
+
+OPENED = (2, 1, 5)
+IN_PARTS = [in_parts(40, TYPE, BODY, report=(1, 1)), in_parts(40, TYPE, b""), in_parts(40, b"", BODY),
+            in_parts(40, TYPE, BODY, b"\xff"),
+            argument_in_parts(num(1, 4) + part(5, b""), part(5, part(1, b"x"))),
+            argument_in_parts(num(1, 4) + part(5, b"\xff"), part(5, part(1, b"x"))),
+            argument_in_parts(num(1, 1), num(2, 5)), argument_in_parts(b"\xff", num(1, 3)),
+            rec(execute(1, part(2, num(1, 1)) + part(2, part(2, num(1, 3)))), 2, 0, 0),
+            in_parts(40, num(1, 0) + BODY, TYPE), in_parts(43, EXECUTE, b"", num(1, 0), report=OPENED),
+            in_parts(40, TYPE + BODY, BODY), in_parts(40, TYPE + BODY + BODY, report=(4, 77)),
+            in_parts(40, TYPE + NO_BODY + BODY), in_parts(40, TYPE + NO_BODY, NO_BODY),
+            in_parts(40, num(1, 0) + part(2, b""), part(2, b"")),
+            in_parts(40, TYPE + BODY, part(6, b"\xff")), in_parts(43, num(1, 0) + EXECUTE + EXECUTE, report=OPENED),
+            in_parts(43, num(1, 0) + EXECUTE, part(2, OBJECT), report=OPENED),
+            in_parts(43, num(1, 0) + part(2, num(1, 7)), part(2, b""), report=OPENED),
+            in_parts(43, num(1, 0) + part(2, b""), part(2, b""), report=OPENED), rec(fetch(9, 2), 3), rec(CLOSE, 0),
+            in_parts(40, TYPE + BODY + BODY)]
 LARGE = frame(6, part(15, b"\0" * 65527))
 NUMBERS = [v(len(RESET), 8) + RESET + v(0, 9), b"\x90\x80\x80\x80\x80\x80\x80\x80\x80\x02" + prepare(1) + b"\1\xff\xff\xff\xff\xff\xff\xff\xff\xff\1",
            rec(prepare(1), 4, 2**64 - 1), rec(prepare(1), 4, 2**32 - 1)]
@@ -396,6 +441,7 @@ LONG = b"\x80" * 10
 RESULT = rec(open_(1, 1, 130), 2, 300, 70000)
 
 RUNS = [b"", EXAMPLE, b"".join(POWER_CUT), b"".join(REFUSALS), b"".join(FULL), b"".join(ENDS), b"".join(NUMBERS)]
+RUNS += [b"".join(IN_PARTS)]
 RUNS += [PREPARED + RESULT[:k] for k in range(len(RESULT) + 1)]
 RUNS += [rec(LARGE, 0) + PREPARED, v(65537) + LARGE + b"\0\0", v(65536) + LARGE[:9]]
 RUNS += [rec(RESET, 5), rec(RESET, 4), LONG + b"\0", v(5) + RESET + LONG, v(5) + RESET + b"\1" + LONG, v(5) + RESET + b"\2\1" + LONG,
@@ -406,7 +452,7 @@ def main():
     assert len(LARGE) == 65536 and trace(EXAMPLE) == EXAMPLE_OUT
     out = [line for run in RUNS for line in trace(run)]
     told = {line.split()[1] for line in out if line[0].isdigit()}
-    assert told == {str(k) for k in range(17) if k != 3}, told
+    assert told == {str(k) for k in range(18) if k != 3}, told
     assert {line.split()[4] for line in out if line[0].isdigit()} == set("OSDXEN")
     with open(os.path.join(HERE, "runs.bin"), "wb") as f:
         for run in RUNS:

@@ -351,7 +351,7 @@ module _ (s : List ℕ) (at n : ℕ) where
   execute-cut h = yes _ false (le-leb (at + n) (length s) h)
 
 -- an args field by the code's test
-tests : (number wire v : ℕ) → isArgs number wire v ≡ testsArgs number wire
+pub tests : (number wire v : ℕ) → isArgs number wire v ≡ testsArgs number wire
 tests number wire v = args-field .tested number wire v ∙ go (eqb number 2)
   where
     go : (a : Bool) → (a && eqb wire 2) ≡ cond a (eqb wire 2) false

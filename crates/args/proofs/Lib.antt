@@ -9,12 +9,15 @@ pub mod ArgumentsLaws
 pub mod ToldLaws
 pub mod TypedLaws
 pub mod ArrayLaws
+pub mod CutLaws
 pub mod EnoughLaws
 pub mod ArgsFieldLaws
 pub mod WithinLaws
 pub mod MovedArgLaws
 pub mod BoundLaws
 pub mod UnreadLaws
+pub mod PartedLaws
+pub mod JudgeLaws
 pub mod PaddedLaws
 pub mod InsideLaws
 pub mod MovedFlagLaws

@@ -1,6 +1,7 @@
 -- Arguments read in bytes and in a byte string that holds these bytes: the same, moved. Assumes nothing.
-use Rattle.prelude.proofs.Basics.{ℕ, zero, suc, _+_, _≤_, _<_, arith, Bool, true, false, not, cond, _≡_, refl, sym, ap}
-use Rattle.prelude.proofs.Basics.{_∙_, List, _∷_, map, length, getD, take, length-take-le, eqb, leb, eq-eqb, eqb-false}
+use Rattle.prelude.proofs.Basics.{ℕ, zero, suc, _+_, _≤_, _<_, arith, Bool, true, false, not, cond, _≡_, refl, sym}
+use Rattle.prelude.proofs.Basics.{ap, ap₂, _∙_, List, _∷_, map, length, getD, take, length-take-le, eqb, leb, eq-eqb}
+use Rattle.prelude.proofs.Basics.{eqb-false}
 use Rattle.prelude.proofs.Basics.{eqb-true, less-or-not}
 use lib.Ieee.{Float, Format, binary32, binary64, nanBits}
 use Rattle.varint.proofs.TailLaws.{chosen-alike, Tail, tail-length, tail-stands, stands-length, stands-take}
@@ -8,11 +9,16 @@ use Rattle.scalar.specs.Argument.{carried}
 use Rattle.scalar.specs.declared.argument.Argument.the-variants as Va
 use Rattle.wire.proofs.MovedLaws.{movedField, field-moved}
 use Rattle.layout.proofs.AlikeLaws.{alike-as, fields-alike}
+use Rattle.layout.proofs.MergedPlaceLaws.{movedParts, merged-alike, parts-moved, inner-moved}
+use Rattle.layout.proofs.CutLaws.{within-later}
+use Rattle.layout.specs.Merged.{partsOnto}
 use Rattle.args.proofs.Names.{Stands, signedOf, doubleOf, floatOf, Argument, fieldAt, PastField, Field}
-use Rattle.args.proofs.Names.{field-past, any, scalar, bytes, rowsOf, isRepeated, rowFor, badSlots, fieldList}
+use Rattle.args.proofs.Names.{field-past, any, scalar, bytes, rowsOf, isRepeated, rowFor, noSlots, badSlots}
 use Rattle.args.proofs.Names.{checked, fieldsAt, hasRequired, embedded, countOf, valueOf, startOf, lenOf, low32}
-use Rattle.args.proofs.Names.{Slots, Alike, part-within, bad, present, bytesOf, bytesIn, ofType, scalarOf}
-use Rattle.args.proofs.Names.{ofAnyType, anyOf, argumentIn, argPlace, ofPlace, nextArgument, andMore}
+use Rattle.args.proofs.Names.{partsOf, partsIn, merged, Part, Slots, Alike, part-within, AllWithin, parts-by}
+use Rattle.args.proofs.Names.{inner-within, bad, present, bytesOf, bytesIn, ofType, scalarOf, scalarIn}
+use Rattle.args.proofs.Names.{ofAnyType, anyOf, scalarParts, argumentIn, argPlace, ofPlace, nextArgument}
+use Rattle.args.proofs.Names.{andMore}
 use Rattle.args.proofs.Names.{argumentsFrom, moved, ArgPlace, NextArgument}
 use Rattle.args.proofs.PlaceLaws.{Seeking, starts, ends, no-field, advances, found, other-wire, other-number}
 use Rattle.args.proofs.PlaceLaws.{next-end, next-placed}
@@ -64,32 +70,22 @@ one-needed : (count : List ℕ) → hasRequired (rowsOf bytes) count ≡ true �
 unfolding rowsOf hasRequired
 one-needed count e z = let f = rw (eq-eqb (getD count 1 0) 0 z) at e in let y : _≡_ {A = ℕ} 0 1 = cc in omega arith
 
-bytes-there : (s : List ℕ) (at n : ℕ) → embedded (rowsOf bytes) s at n .good ≡ true →
-    countOf (embedded (rowsOf bytes) s at n) 1 ≡ 0 → ⊥
-bytes-there s at n = go (leb (at + n) (length s)) (fieldList (rowsOf bytes) (take (at + n) s) at)
+bytes-there : (s : List ℕ) (ps : List Part) → merged (rowsOf bytes) s ps .good ≡ true →
+    countOf (merged (rowsOf bytes) s ps) 1 ≡ 0 → ⊥
+bytes-there s ps = go (partsOnto (rowsOf bytes) s ps noSlots)
   where
-    listed : (x : Slots) (b : Bool) → hasRequired (rowsOf bytes) (x .count) ≡ b → cond b x badSlots .good ≡ true →
-        countOf (cond b x badSlots) 1 ≡ 0 → ⊥
-    listed x true e g z = one-needed (x .count) e z
-    listed x false e g z = let y : _≡_ {A = ℕ} 0 1 = cc in omega arith
-
-    go : (b : Bool) (x : Slots) → cond b (checked (rowsOf bytes) x) badSlots .good ≡ true →
-        countOf (cond b (checked (rowsOf bytes) x) badSlots) 1 ≡ 0 → ⊥
-    go true x g z = listed x (hasRequired (rowsOf bytes) (x .count)) refl g z
-    go false x g z = let y : _≡_ {A = ℕ} 0 1 = cc in omega arith
+    go : (x : Slots) → checked (rowsOf bytes) x .good ≡ true → countOf (checked (rowsOf bytes) x) 1 ≡ 0 → ⊥
+    go x = by (hasRequired (rowsOf bytes) (x .count)) refl
+      where
+        by : (b : Bool) → hasRequired (rowsOf bytes) (x .count) ≡ b → cond b x badSlots .good ≡ true →
+            countOf (cond b x badSlots) 1 ≡ 0 → ⊥
+        by true e g z = one-needed (x .count) e z
+        by false e g z = let y : _≡_ {A = ℕ} 0 1 = cc in omega arith
 
 -- no row of these is a repeated one
 once-bytes : isRepeated (rowFor (rowsOf bytes) 1) ≡ false
 unfolding rowsOf rowFor
 once-bytes = refl
-
-once-scalar : (isRepeated (rowFor (rowsOf scalar) 5) ≡ false) × (isRepeated (rowFor (rowsOf scalar) 9) ≡ false)
-unfolding rowsOf rowFor
-once-scalar = (refl, refl)
-
-once-any : isRepeated (rowFor (rowsOf any) 2) ≡ false
-unfolding rowsOf rowFor
-once-any = refl
 
 carried-moved : (d : ℕ) (f : Format) (n : ℕ) →
     (carried f Va.DoubleNan Va.Double n ≡ moved d (carried f Va.DoubleNan Va.Double n))
@@ -115,94 +111,96 @@ module _ {s : List ℕ} {d : ℕ} {t q : List ℕ} (k : Stands s d t q) where
       go true g = rw (places g .0, places g .1) (chosen-alike (moved d) octets refl refl)
       go false g = refl
 
-  bytes-moved : (octets : Bool) (at n : ℕ) → at + n ≤ length t →
-      bytesIn octets s (d + at) n ≡ moved d (bytesIn octets t at n)
-  bytes-moved octets at n h =
-      bytesOf-moved octets (embedded (rowsOf bytes) t at n) (embedded (rowsOf bytes) s (d + at) n)
-      (embedded-alike (rowsOf bytes) k at n h)
-      (bytes-there t at n)
+  bytes-moved : (octets : Bool) (ps : List Part) → AllWithin (length t) ps →
+      bytesIn octets s (movedParts d ps) ≡ moved d (bytesIn octets t ps)
+  bytes-moved octets ps w =
+      bytesOf-moved octets (merged (rowsOf bytes) t ps) (merged (rowsOf bytes) s (movedParts d ps))
+      (merged-alike (rowsOf bytes) k ps w) (bytes-there t ps)
 
-  module _ (x y : Slots) (a : Alike (rowsOf scalar) d (length t) x y) where
-    same-count : (i : ℕ) → countOf y i ≡ countOf x i
-    same-count i = ap (λ (l : List ℕ). getD l i 0) (a .count)
+  module _ (ps : List Part) (w : AllWithin (length t) ps) (x y : Slots) (a : Alike (rowsOf scalar) d (length t) x y)
+    where
+      same-count : (i : ℕ) → countOf y i ≡ countOf x i
+      same-count i = ap (λ (l : List ℕ). getD l i 0) (a .count)
 
-    same-value : (i : ℕ) → valueOf y i ≡ valueOf x i
-    same-value i = ap (λ (l : List ℕ). getD l i 0) (a .value)
+      same-value : (i : ℕ) → valueOf y i ≡ valueOf x i
+      same-value i = ap (λ (l : List ℕ). getD l i 0) (a .value)
 
-    -- a number by its field
-    number-moved : (i : ℕ) (f : ℕ → Argument) → ((v : ℕ) → f v ≡ moved d (f v)) →
-        present (countOf y i) (f (valueOf y i)) ≡ moved d (present (countOf x i) (f (valueOf x i)))
-    number-moved i f h =
-        rw (same-count i, same-value i)
-        (present-moved d (countOf x i) (f (valueOf x i)) (f (valueOf x i)) (λ _. h (valueOf x i)))
+      -- a number by its field
+      number-moved : (i : ℕ) (f : ℕ → Argument) → ((v : ℕ) → f v ≡ moved d (f v)) →
+          present (countOf y i) (f (valueOf y i)) ≡ moved d (present (countOf x i) (f (valueOf x i)))
+      number-moved i f h =
+          rw (same-count i, same-value i)
+          (present-moved d (countOf x i) (f (valueOf x i)) (f (valueOf x i)) (λ _. h (valueOf x i)))
 
-    -- bytes by their field
-    part-moved : (i : ℕ) → isRepeated (rowFor (rowsOf scalar) i) ≡ false → (octets : Bool) →
-        present (countOf y i) (bytesIn octets s (startOf y i) (lenOf y i)) ≡ moved d
-        (present (countOf x i) (bytesIn octets t (startOf x i) (lenOf x i)))
-    part-moved i r octets =
-        ap (λ (n : ℕ). present n (bytesIn octets s (startOf y i) (lenOf y i))) (same-count i)
-        ∙ present-moved d (countOf x i) (bytesIn octets t (startOf x i) (lenOf x i))
-        (bytesIn octets s (startOf y i) (lenOf y i))
-        (λ z.
-        ap (λ (m : ℕ). bytesIn octets s m (lenOf y i)) (a .start i r z)
-        ∙ ap (λ (m : ℕ). bytesIn octets s (d + startOf x i) m) (ap (λ (l : List ℕ). getD l i 0) (a .len))
-        ∙ bytes-moved octets (startOf x i) (lenOf x i) (a .kept .inside i))
+      -- bytes by their field
+      part-moved : (i : ℕ) (octets : Bool) →
+          present (countOf y i) (bytesIn octets s (partsIn i s (movedParts d ps)))
+          ≡ moved d (present (countOf x i) (bytesIn octets t (partsIn i t ps)))
+      part-moved i octets =
+          ap₂ (λ (n : ℕ) (qs : List Part). present n (bytesIn octets s qs)) (same-count i) (inner-moved i k ps w)
+          ∙ present-moved d (countOf x i) (bytesIn octets t (partsIn i t ps))
+          (bytesIn octets s (movedParts d (partsIn i t ps)))
+          (λ _. bytes-moved octets (partsIn i t ps) (inner-within i t (length t) ps w))
 
-    type-moved : (c : ℕ) → ofType s y c ≡ moved d (ofType t x c)
-    unfolding ofType
-    type-moved c =
-        chosen-alike (moved d) (eqb c 1) (number-moved 2 signedOf (λ _. refl))
-        (chosen-alike (moved d) (eqb c 2) (number-moved 3 Va.Unsigned (λ _. refl))
-        (chosen-alike (moved d) (eqb c 3) refl
-        (chosen-alike (moved d) (eqb c 4) (part-moved 5 (once-scalar .0) true)
-        (chosen-alike (moved d) (eqb c 5) (number-moved 6 doubleOf (λ v. carried-moved d binary64 v .0))
-        (chosen-alike (moved d) (eqb c 6)
-        (number-moved 7 (λ v. floatOf (low32 v)) (λ v. carried-moved d binary32 (low32 v) .1))
-        (chosen-alike (moved d) (eqb c 7) (number-moved 8 (λ v. Va.Bool (not (eqb v 0))) (λ _. refl))
-        (chosen-alike (moved d) (eqb c 8) (part-moved 9 (once-scalar .1) false) refl)))))))
+      type-moved : (c : ℕ) → ofType s (movedParts d ps) y c ≡ moved d (ofType t ps x c)
+      unfolding ofType
+      type-moved c =
+          chosen-alike (moved d) (eqb c 1) (number-moved 2 signedOf (λ _. refl))
+          (chosen-alike (moved d) (eqb c 2) (number-moved 3 Va.Unsigned (λ _. refl))
+          (chosen-alike (moved d) (eqb c 3) refl
+          (chosen-alike (moved d) (eqb c 4) (part-moved 5 true)
+          (chosen-alike (moved d) (eqb c 5) (number-moved 6 doubleOf (λ v. carried-moved d binary64 v .0))
+          (chosen-alike (moved d) (eqb c 6)
+          (number-moved 7 (λ v. floatOf (low32 v)) (λ v. carried-moved d binary32 (low32 v) .1))
+          (chosen-alike (moved d) (eqb c 7) (number-moved 8 (λ v. Va.Bool (not (eqb v 0))) (λ _. refl))
+          (chosen-alike (moved d) (eqb c 8) (part-moved 9 false) refl)))))))
 
-    scalar-moved : scalarOf s y ≡ moved d (scalarOf t x)
-    unfolding scalarOf
-    scalar-moved =
-        ap (λ (b : Bool). cond b (ofType s y (low32 (valueOf y 1))) bad) (a .good)
-        ∙ chosen-alike (moved d) (x .good)
-        (ap (λ (v : ℕ). ofType s y (low32 v)) (same-value 1) ∙ type-moved (low32 (valueOf x 1))) refl
+      scalarOf-moved : scalarOf s (movedParts d ps) y ≡ moved d (scalarOf t ps x)
+      unfolding scalarOf
+      scalarOf-moved =
+          ap (λ (b : Bool). cond b (ofType s (movedParts d ps) y (low32 (valueOf y 1))) bad) (a .good)
+          ∙ chosen-alike (moved d) (x .good)
+          (ap (λ (v : ℕ). ofType s (movedParts d ps) y (low32 v)) (same-value 1) ∙ type-moved (low32 (valueOf x 1)))
+          refl
 
-  module _ (x y : Slots) (a : Alike (rowsOf any) d (length t) x y) where
-    scalar-in : (countOf x 2 ≡ 0 → ⊥) →
-        scalarOf s (embedded (rowsOf scalar) s (startOf y 2) (lenOf y 2)) ≡ moved d
-        (scalarOf t (embedded (rowsOf scalar) t (startOf x 2) (lenOf x 2)))
-    scalar-in z =
-        ap (λ (m : ℕ). scalarOf s (embedded (rowsOf scalar) s m (lenOf y 2))) (a .start 2 once-any z)
-        ∙ ap (λ (m : ℕ). scalarOf s (embedded (rowsOf scalar) s (d + startOf x 2) m))
-        (ap (λ (l : List ℕ). getD l 2 0) (a .len))
-        ∙ scalar-moved (embedded (rowsOf scalar) t (startOf x 2) (lenOf x 2))
-        (embedded (rowsOf scalar) s (d + startOf x 2) (lenOf x 2))
-        (embedded-alike (rowsOf scalar) k (startOf x 2) (lenOf x 2) (a .kept .inside 2))
+  scalar-moved : (ps : List Part) → AllWithin (length t) ps →
+      scalarIn s (movedParts d ps) ≡ moved d (scalarIn t ps)
+  scalar-moved ps w =
+      scalarOf-moved ps w (merged (rowsOf scalar) t ps) (merged (rowsOf scalar) s (movedParts d ps))
+      (merged-alike (rowsOf scalar) k ps w)
 
-    any-type-moved : (c : ℕ) → ofAnyType s y c ≡ moved d (ofAnyType t x c)
+  module _ (ps : List Part) (w : AllWithin (length t) ps) (x y : Slots) (a : Alike (rowsOf any) d (length t) x y) where
+    any-type-moved : (c : ℕ) → ofAnyType s (movedParts d ps) y c ≡ moved d (ofAnyType t ps x c)
     unfolding ofAnyType
     any-type-moved c =
         chosen-alike (moved d) (eqb c 1)
-        (ap (λ (n : ℕ). present n (scalarOf s (embedded (rowsOf scalar) s (startOf y 2) (lenOf y 2))))
-        (ap (λ (l : List ℕ). getD l 2 0) (a .count))
-        ∙ present-moved d (countOf x 2) (scalarOf t (embedded (rowsOf scalar) t (startOf x 2) (lenOf x 2)))
-        (scalarOf s (embedded (rowsOf scalar) s (startOf y 2) (lenOf y 2))) scalar-in)
+        (ap (λ (l : List ℕ). present (getD l 2 0) (scalarIn s (movedParts d ps))) (a .count)
+        ∙ present-moved d (countOf x 2) (scalarIn t ps) (scalarIn s (movedParts d ps)) (λ _. scalar-moved ps w))
         (chosen-alike (moved d) (eqb c 2) refl (chosen-alike (moved d) (eqb c 3) refl refl))
 
-    any-moved : anyOf s y ≡ moved d (anyOf t x)
+    any-moved : anyOf s (movedParts d ps) y ≡ moved d (anyOf t ps x)
     unfolding anyOf
     any-moved =
-        ap (λ (b : Bool). cond b (ofAnyType s y (low32 (valueOf y 1))) bad) (a .good)
+        ap (λ (b : Bool). cond b (ofAnyType s (movedParts d ps) y (low32 (valueOf y 1))) bad) (a .good)
         ∙ chosen-alike (moved d) (x .good)
-        (ap (λ (v : ℕ). ofAnyType s y (low32 v)) (ap (λ (l : List ℕ). getD l 1 0) (a .value))
+        (ap (λ (v : ℕ). ofAnyType s (movedParts d ps) y (low32 v)) (ap (λ (l : List ℕ). getD l 1 0) (a .value))
         ∙ any-type-moved (low32 (valueOf x 1))) refl
+
+  -- the parts of its scalar
+  pub parted-moved : (at n : ℕ) → at + n ≤ length t → scalarParts s (d + at) n ≡ movedParts d (scalarParts t at n)
+  parted-moved at n h =
+      let e : d + at + n ≡ d + (at + n) = omega arith in
+      ap (λ (m : ℕ). partsOf 2 (take m s) (d + at)) e ∙ parts-moved 2 (stands-take k (at + n) h) at
+
+  pub parted-within : (at n : ℕ) → at + n ≤ length t → AllWithin (length t) (scalarParts t at n)
+  parted-within at n h =
+      within-later (at + n) (length t) h (scalarParts t at n) (parts-by 2 t at (at + n))
 
   pub argument-moved : (at n : ℕ) → at + n ≤ length t → argumentIn s (d + at) n ≡ moved d (argumentIn t at n)
   argument-moved at n h =
-      any-moved (embedded (rowsOf any) t at n) (embedded (rowsOf any) s (d + at) n)
-      (embedded-alike (rowsOf any) k at n h)
+      ap (λ (ps : List Part). anyOf s ps (embedded (rowsOf any) s (d + at) n)) (parted-moved at n h)
+      ∙ any-moved (scalarParts t at n) (parted-within at n h) (embedded (rowsOf any) t at n)
+      (embedded (rowsOf any) s (d + at) n) (embedded-alike (rowsOf any) k at n h)
 
 -- ---- the arguments of a message, one by one and all
 

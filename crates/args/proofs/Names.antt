@@ -23,16 +23,23 @@ pub use Rattle.layout.specs.Slots.{noSlots, badSlots}
 pub use Rattle.layout.specs.Fields.{useOf, noted, fieldList, checked, fieldsAt}
 unfoldable pub use Rattle.layout.specs.Fields.{hasRequired}
 pub use Rattle.layout.specs.Part.{embedded, countOf, valueOf, startOf, lenOf, low32}
+pub use Rattle.layout.specs.Merged.{onePart, endOf, partsOf, merged}
+unfoldable pub use Rattle.layout.specs.Merged.{partsIn}
 pub use Rattle.layout.specs.Padded.{nothingInside, partPadded}
+unfoldable pub use Rattle.layout.specs.Padded.{partsPadded}
 pub use Rattle.layout.specs.declared.fields.Use.{Use}
+pub use Rattle.layout.specs.declared.part.Part.{Part}
 pub use Rattle.layout.specs.declared.slots.Slots.{Slots}
 pub use Rattle.layout.proofs.FieldsLaws.{starts, ends, goes-on}
 pub use Rattle.layout.proofs.KeptLaws.{kept-within}
 pub use Rattle.layout.proofs.AlikeLaws.{Alike}
 pub use Rattle.layout.proofs.PartLaws.{part-within}
+pub use Rattle.layout.proofs.MergedLaws.{one-part}
+pub use Rattle.layout.proofs.MergeLaws.{AllWithin}
+pub use Rattle.layout.proofs.CutLaws.{parts-by, one-within, inner-within, inner-cut, merged-cut}
 pub use Rattle.layout.proofs.PaddedLaws.{Marking, marks, marked, marks-on, padded-inside}
 unfoldable pub use Rattle.args.specs.Value.{bad, present, bytesOf, bytesIn, ofType, scalarOf, scalarIn, ofAnyType}
-unfoldable pub use Rattle.args.specs.Value.{anyOf, argumentIn}
+unfoldable pub use Rattle.args.specs.Value.{anyOf, scalarParts, argumentIn}
 unfoldable pub use Rattle.args.specs.Arguments.{isArgs, ofField, placeFrom, argPlace, placeOf, ofPlace}
 unfoldable pub use Rattle.args.specs.Arguments.{nextArgument, andMore, argumentsFrom, argumentsAt, anyTypeOf}
 unfoldable pub use Rattle.args.specs.Arguments.{noArguments, badArguments, counted, withType, together}

@@ -1,7 +1,9 @@
 -- The short ways for a message of one field or two: their values of one byte, their steps, and what a message's rows
 -- make of the fields. Assumes nothing.
-use Rattle.prelude.proofs.Basics.{ℕ, _+_, _-_, _*_, _/_, _%_, _^_, _≤_, _<_, arith, Bool, true, false, _≡_, refl, sym}
-use Rattle.prelude.proofs.Basics.{ap, subst, _∙_, List, length, getD, take, getD-take, length-take-le, eqb, leb, ltb}
+use Rattle.prelude.proofs.Basics.{ℕ, _+_, _-_, _*_, _/_, _%_, _^_, _≤_, _<_, arith, Bool, true, false, _&&_, cond, _≡_}
+use Rattle.prelude.proofs.Basics.{refl}
+use Rattle.prelude.proofs.Basics.{sym, ap, ap₂, subst, _∙_, List, _∷_, length, getD, take, getD-take, length-take-le}
+use Rattle.prelude.proofs.Basics.{eqb, leb, ltb}
 use Rattle.prelude.proofs.Basics.{eq-eqb, eqb-true, le-leb, le-ltb, leb-true, lt-leb, lt-ltb, ltb-false, ltb-true}
 use Rattle.prelude.proofs.Basics.{ne-eqb, both, yes, no}
 use Rattle.wire.specs.Value.{ofVarint, ofLength}
@@ -9,8 +11,10 @@ use Rattle.wire.specs.Field.{fieldOf}
 use Rattle.wire.proofs.ValueLaws.{length-good, value-number, value-length, value-none}
 use Rattle.wire.proofs.FieldLaws.{field-value, one-byte}
 use Rattle.layout.proofs.FieldsLaws.{kept-slot}
+use Rattle.layout.proofs.PartsLaws.{parts-end, parts-on}
 use Rattle.args.proofs.Names.{valueAt, ofValue, fieldAt, Field, Value, quick-wire, LongField, field-long}
-use Rattle.args.proofs.Names.{noSlots, useOf, noted, fieldList, checked, embedded, Use, Slots, starts, ends}
+use Rattle.args.proofs.Names.{noSlots, useOf, noted, fieldList, checked, embedded, onePart, partsOf, Use, Part}
+use Rattle.args.proofs.Names.{Slots, starts, ends}
 use Rattle.args.proofs.Names.{goes-on, part-within, Pair}
 use Rattle.args.specs.private.Pair.{pairOf, pairAt, pairIn, loneIn}
 
@@ -337,3 +341,27 @@ module _ (s : List ℕ) (at n : ℕ) {r : Pair} {first tag value start : ℕ} (e
     -- of a field with bytes the length is the value
     pub pair-bytes : key % 8 ≡ 2 → slots value ≡ embedded rows s at n
     pair-bytes h = ap slots (two-long (told .1) (omega (arith, key-is)) (rw key-is at h)) ∙ pair-kept
+
+  -- a second field with bytes has one part
+  pub pair-parts : (kind key : ℕ) → first * 256 + tag ≡ kind * 256 + key → 8 ≤ key → key < 128 → key % 8 ≡ 2 →
+      partsOf (key / 8) (take (at + n) s) at ≡ onePart start value
+  pair-parts kind key named some short bytes =
+      let u = take (at + n) s in
+      let t = told .1 in
+      let k = key / 8 in
+      let is : tag ≡ key = omega (arith, t .tag-short) in
+      parts-on k u at (omega (arith, t .inside)) _ (field-one (t .one))
+      ∙ ap (λ (b : Bool). cond b (record { start = at + 1; len = 1 } ∷ partsOf k u (at + 2)) (partsOf k u (at + 2)))
+      (never-both (eqb 1 k))
+      ∙ parts-on k u (at + 2) (omega (arith, t .inside)) _ (field-two t (omega (arith, is)))
+      ∙ ap
+      (λ (b : Bool).
+      cond b (record { start = start; len = t .len } ∷ partsOf k u (length u)) (partsOf k u (length u)))
+      (ap₂ _&&_ (eq-eqb (tag / 8) k (ap (λ (i : ℕ). i / 8) is)) (eq-eqb (tag % 8) 2 (ap (λ (i : ℕ). i % 8) is ∙ bytes)))
+      ∙ ap₂ (λ (ln : ℕ) (ps : List Part). record { start = start; len = ln } ∷ ps)
+      (sym (two-long t (omega (arith, is)) (ap (λ (i : ℕ). i % 8) is ∙ bytes)))
+      (parts-end k u (length u) (length u) (omega arith))
+    where
+      never-both : (b : Bool) → (b && false) ≡ false
+      never-both true = refl
+      never-both false = refl

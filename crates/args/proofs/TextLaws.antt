@@ -1,10 +1,14 @@
 -- The short way for field 1 with bytes alone: its steps, and what a message's rows make of the field. Assumes nothing.
-use Rattle.prelude.proofs.Basics.{ℕ, _+_, _≤_, _<_, arith, _≡_, refl, sym, ap, subst, _∙_, List, length, getD, take}
+use Rattle.prelude.proofs.Basics.{ℕ, _+_, _≤_, _<_, arith, Bool, cond, _≡_, refl, sym, ap, subst, _∙_, List, length}
+use Rattle.prelude.proofs.Basics.{getD, take}
 use Rattle.prelude.proofs.Basics.{length-take-le, eqb, leb, ltb, eq-eqb, eqb-true, le-leb, le-ltb, leb-true, lt-leb}
 use Rattle.prelude.proofs.Basics.{lt-ltb, ltb-true, ne-eqb, both, yes, no}
 use Rattle.args.proofs.Names.{asLength, ofValue, fieldAt, Field, Value, quick-wire, LongField, field-long}
 use Rattle.args.proofs.Names.{noSlots, useOf, noted, checked, embedded, Use, starts, ends, goes-on, part-within}
-use Rattle.args.proofs.Names.{noArguments, argumentsIn, Text}
+use Rattle.scalar.specs.declared.argument.Argument.the-variants as Va
+use Rattle.args.proofs.Names.{bytes, rowsOf, rowFor, hasRequired, onePart, one-part, bytesOf, bytesIn}
+use Rattle.args.proofs.Names.{noArguments}
+use Rattle.args.proofs.Names.{argumentsIn, Text}
 use Rattle.args.specs.private.Pair.{textOf, textAt, textIn}
 use Rattle.args.proofs.PlaceLaws as Place
 use Rattle.args.proofs.ArgumentsLaws.{none-left}
@@ -104,6 +108,16 @@ in-says s at n =
 
 -- ---- what rows that keep it make of it
 
+kept-bytes : (value : ℕ) → Use.Kept ≡ useOf (rowsOf bytes) 1 2 value
+unfolding rowsOf rowFor
+kept-bytes value = refl
+
+bytes-there : (octets : Bool) (start len : ℕ) →
+    cond octets (Va.Octets start len) (Va.String start len)
+    ≡ bytesOf octets (checked (rowsOf bytes) (noted Use.Kept noSlots 1 len start len))
+unfolding rowsOf hasRequired
+bytes-there octets start len = refl
+
 module _ (s : List ℕ) (at n : ℕ) {r : Text} {start len : ℕ} (e : r ≡ Text.Alone start len)
     (p : r ≡ textIn s at n) where
   pub told : SaysIn s at n (Text.Alone start len)
@@ -116,6 +130,14 @@ module _ (s : List ℕ) (at n : ℕ) {r : Text} {start len : ℕ} (e : r ≡ Tex
       (ends (goes-on (starts rows (take (at + n) s) at) (told .1 .inside) (told .1 .field) Use.Kept kept)
       (omega arith))
       ∙ part-within rows s at n (told .0)
+
+  -- octets or a string
+  pub text-bytes : (octets : Bool) → cond octets (Va.Octets start len) (Va.String start len) ≡ bytesIn octets s
+      (onePart at n)
+  text-bytes octets =
+      bytes-there octets start len
+      ∙ ap (bytesOf octets)
+      (text-kept (rowsOf bytes) (kept-bytes len) ∙ sym (one-part (rowsOf bytes) s (record { start = at; len = n })))
 
   -- a message of that field alone has no arguments
   pub text-arguments : noArguments at (at + n) ≡ argumentsIn (take (at + n) s) at

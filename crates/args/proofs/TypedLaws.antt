@@ -3,8 +3,10 @@ use Rattle.prelude.proofs.Basics.{ℕ, arith, Bool, true, false, not, cond, _�
 use Rattle.scalar.specs.Argument.{typeOf}
 use Rattle.scalar.specs.declared.argument.Argument.the-variants as Va
 use Rattle.scalar.proofs.ArgumentLaws.{floats-typed}
-use Rattle.args.proofs.Names.{signedOf, doubleOf, floatOf, reasonOf, Argument, bytes, rowsOf, embedded, countOf}
-use Rattle.args.proofs.Names.{valueOf, startOf, lenOf, low32, Slots, bad, present, bytesOf, bytesIn, ofType}
+use Rattle.args.proofs.Names.{signedOf, doubleOf, floatOf, reasonOf, Argument, bytes, rowsOf, partsIn, merged}
+use Rattle.args.proofs.Names.{countOf}
+use Rattle.args.proofs.Names.{valueOf, startOf, lenOf, low32, Part, Slots, bad, present, bytesOf, bytesIn}
+use Rattle.args.proofs.Names.{ofType}
 use Rattle.args.proofs.Names.{scalarOf}
 use Rattle.args.specs.Typed.{ReadAsTyped}
 
@@ -23,9 +25,9 @@ bytes-of : (t : ℕ) (octets : Bool) (x : Slots) → typeOf
     Of t (bytesOf octets x)
 bytes-of t octets x e = both (Of t) (x .good) _ bad (λ _ _. e) (λ _. bad-of t)
 
-type-of : (s : List ℕ) (x : Slots) (t : ℕ) → Of t (ofType s x t)
+type-of : (s : List ℕ) (ps : List Part) (x : Slots) (t : ℕ) → Of t (ofType s ps x t)
 unfolding ofType
-type-of s x t =
+type-of s ps x t =
     both (Of t) (eqb t 1) _ _ (λ e. present-of t (countOf x 2) (signedOf (valueOf x 2)) (λ _. sym (eqb-true t 1 e)))
     (λ _.
     both (Of t) (eqb t 2) _ _ (λ e. present-of t (countOf x 3) (Va.Unsigned (valueOf x 3)) (λ _. sym (eqb-true t 2 e)))
@@ -34,8 +36,8 @@ type-of s x t =
     (λ _.
     both (Of t) (eqb t 4) _ _
     (λ e.
-    present-of t (countOf x 5) (bytesIn true s (startOf x 5) (lenOf x 5))
-    (bytes-of t true (embedded (rowsOf bytes) s (startOf x 5) (lenOf x 5)) (sym (eqb-true t 4 e))))
+    present-of t (countOf x 5) (bytesIn true s (partsIn 5 s ps))
+    (bytes-of t true (merged (rowsOf bytes) s (partsIn 5 s ps)) (sym (eqb-true t 4 e))))
     (λ _.
     both (Of t) (eqb t 5) _ _
     (λ e.
@@ -52,13 +54,13 @@ type-of s x t =
     (λ _.
     both (Of t) (eqb t 8) _ _
     (λ e.
-    present-of t (countOf x 9) (bytesIn false s (startOf x 9) (lenOf x 9))
-    (bytes-of t false (embedded (rowsOf bytes) s (startOf x 9) (lenOf x 9)) (sym (eqb-true t 8 e))))
+    present-of t (countOf x 9) (bytesIn false s (partsIn 9 s ps))
+    (bytes-of t false (merged (rowsOf bytes) s (partsIn 9 s ps)) (sym (eqb-true t 8 e))))
     (λ _. bad-of t))))))))
 
 pub read-as-typed : ReadAsTyped
 unfolding scalarOf
-read-as-typed s x =
-    both (Of (low32 (valueOf x 1))) (x .good) (ofType s x (low32 (valueOf x 1))) bad
-    (λ _. type-of s x (low32 (valueOf x 1)))
+read-as-typed s ps x =
+    both (Of (low32 (valueOf x 1))) (x .good) (ofType s ps x (low32 (valueOf x 1))) bad
+    (λ _. type-of s ps x (low32 (valueOf x 1)))
     (λ _. bad-of (low32 (valueOf x 1)))

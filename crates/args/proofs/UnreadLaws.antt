@@ -1,38 +1,35 @@
 -- What an Any and a Scalar do not choose is not read. Assumes nothing.
 use Rattle.prelude.proofs.Basics.{ℕ, zero, suc, _+_, _-_, _≤_, _<_, arith, Bool, true, false, cond, _≡_, refl, sym, ap}
-use Rattle.prelude.proofs.Basics.{ap₂, subst, _∙_, _⊎_, inl, inr, ⊎-elim, List, [], _∷_, length, getD, take, drop}
+use Rattle.prelude.proofs.Basics.{ap₂, subst, _∙_, inl, inr, List, [], _∷_, length, getD, take, drop}
 use Rattle.prelude.proofs.Basics.{List·getD-eq-default, length-drop, length-take, take-append-drop, getD-drop}
-use Rattle.prelude.proofs.Basics.{getD-take, length-take-le, take-take, eqb, leb, eqb-false, eqb-true, ne-eqb}
+use Rattle.prelude.proofs.Basics.{getD-take, take-take, eqb, leb, eqb-true, ne-eqb}
 use Rattle.prelude.proofs.Basics.{less-or-not}
+use Rattle.scalar.specs.declared.argument.Argument.the-variants as Va
 use Rattle.wire.proofs.AgreeLaws.{Tails}
 use Rattle.layout.specs.SameBut.{SameBut}
 use Rattle.layout.specs.Reaches.{Reaches, stays, passes}
+use Rattle.layout.specs.Unchosen.{PartOf, Apart, Unread as LayoutUnread}
 use Rattle.layout.specs.Fields.{fieldsFrom}
-use Rattle.layout.specs.Part.{endIn, absent}
-use Rattle.layout.proofs.CountLaws.{good-list}
-use Rattle.layout.proofs.ApartLaws.{kept-apart}
-use Rattle.layout.proofs.UnreadLaws.{from-tail, kept-behind, bytes-unread, reaches-later, field-itself, field-on-way}
+use Rattle.layout.proofs.UnreadLaws.{from-tail, reaches-later, field-itself, field-on-way}
 use Rattle.layout.proofs.UnreadLaws.{tail-behind, field-unread}
+use Rattle.layout.proofs.UnreadPartsLaws.{every-as, part-in, onto-around, parts-around, same-take, same-wider}
+use Rattle.layout.proofs.UnreadPartsLaws.{ReadsAlike}
+use Rattle.layout.proofs.UnreadPartsLaws.{alike-beside, merged-local, inner-unread}
 use Rattle.args.proofs.Names.{Stands, Argument, fieldAt, PastField, Field, field-past, any, scalar, bytes, len}
-use Rattle.args.proofs.Names.{rowsOf, wireOf, isRepeated, rowFor, noSlots, badSlots, checked, fieldsAt, embedded}
-use Rattle.args.proofs.Names.{countOf, startOf, lenOf, Slots, kept-within, part-within, bad, present, bytesOf}
-use Rattle.args.proofs.Names.{bytesIn, ofType, scalarOf, ofAnyType, anyOf, argumentIn, isArgs, argPlace}
+use Rattle.args.proofs.Names.{rowsOf, noSlots, badSlots, checked, fieldsAt, embedded, countOf, endOf, partsOf}
+use Rattle.args.proofs.Names.{partsIn, merged, Part, Slots, part-within, parts-by, merged-cut, bad, present}
+use Rattle.args.proofs.Names.{bytesOf, bytesIn, ofType, scalarOf, scalarIn, ofAnyType, anyOf, scalarParts}
+use Rattle.args.proofs.Names.{argumentIn, isArgs, argPlace}
 use Rattle.args.proofs.Names.{nextArgument, andMore, argumentsFrom, argumentsAt, moved, ArgPlace}
-use Rattle.args.specs.UnreadRules.{typeIn, OnlyField, AnyUnread, ScalarUnread, OneField, ListUnread, ObjectUnread}
+use Rattle.args.specs.UnreadRules.{typeIn, AnyUnread, ScalarUnread, OneField, ListUnread, ObjectUnread}
 use Rattle.args.specs.UnreadRules.{UnchosenScalarUnread}
+use Rattle.args.proofs.CutLaws.{any-cut, argument-past}
 use Rattle.args.proofs.MovedArgLaws.{argument-moved, field-inside, args-moved}
 use Rattle.args.proofs.PlaceLaws.{starts, by-args, on, next-placed}
 use Rattle.args.proofs.ArgumentsLaws.{from-found}
 use Rattle.args.proofs.EnoughLaws.{enough-fields, enough-arguments}
 
 -- ---- bytes that differ somewhere
-
-pub same-wider : {s t : List ℕ} {a e : ℕ} → SameBut s t a e → (b f : ℕ) → b ≤ a → e ≤ f → SameBut s t b f
-same-wider {s} {t} {a} {e} w b f h l =
-    record {
-      size = w .size;
-      same = λ i. ⊎-elim (λ j. w .same i (inl (omega arith))) (λ j. w .same i (inr (omega arith)));
-    }
 
 pub take-same : (m : ℕ) (s t : List ℕ) (i : ℕ) → length t ≡ length s → (i < m → getD t i 0 ≡ getD s i 0) →
     getD (take m t) i 0 ≡ getD (take m s) i 0
@@ -44,10 +41,6 @@ take-same m s t i e h =
 
 pub take-size : (m : ℕ) (s t : List ℕ) → length t ≡ length s → length (take m t) ≡ length (take m s)
 take-size m s t e = omega (arith, length-take m t, length-take m s)
-
-pub same-take : {s t : List ℕ} {a e : ℕ} → SameBut s t a e → (m : ℕ) → SameBut (take m s) (take m t) a e
-same-take {s} {t} w m =
-    record { size = take-size m s t (w .size); same = λ i o. take-same m s t i (w .size) (λ _. w .same i o) }
 
 -- ---- embedded messages
 
@@ -63,54 +56,13 @@ embedded-local rows s t at n e same =
     (ap (λ (k : ℕ). fieldsFrom k rows (take m t) at noSlots) (tails .size)
     ∙ from-tail (length (take m s)) rows (take m s) (take m t) at noSlots tails)
 
-module _ (rows : List (List ℕ)) (s : List ℕ) (at n k : ℕ) (bytes′ : wireOf (rowFor rows k) ≡ len)
-    (once : isRepeated (rowFor rows k) ≡ false) where
-  abbrev x : Slots
-  x = embedded rows s at n
-
-  module _ (good : x .good ≡ true) where
-    within : at + n ≤ length s
-    within = good-list rows s at (at + n) good .0
-
-    is : fieldsAt rows (take (at + n) s) at ≡ x
-    is = part-within rows s at n within
-
-    good′ : fieldsAt rows (take (at + n) s) at .good ≡ true
-    good′ = ap (λ (y : Slots). y .good) is ∙ good
-
-    -- a field lies in the message
-    pub field-in : (absent x k ≡ false) → (at < startOf x k) × (endIn x k ≤ at + n)
-    field-in there = (
-      omega (
-        arith,
-        ap (λ (y : Slots). startOf y k) is,
-        kept-behind rows k bytes′ once (take (at + n) s) at good′
-            (λ z. eqb-false (countOf x k) 0 there (ap (λ (y : Slots). countOf y k) (sym is) ∙ z)),
-      ),
-      omega (
-        arith,
-        ap (λ (y : Slots). endIn y k) is,
-        kept-within rows (take (at + n) s) at k,
-        length-take-le (at + n) s within,
-      ),
-    )
-
-    -- and beside every other field of it
-    pub field-beside : (i : ℕ) → (i ≡ k → ⊥) → (endIn x i ≤ startOf x k) ⊎ (endIn x k ≤ startOf x i)
-    field-beside i h =
-        subst (λ (y : Slots). (endIn y i ≤ startOf y k) ⊎ (endIn y k ≤ startOf y i)) is
-        (kept-apart rows (take (at + n) s) at i k h)
-
-    -- its bytes are not read
-    pub embedded-unread : (t : List ℕ) → absent x k ≡ false → SameBut s t (startOf x k) (endIn x k) →
-        embedded rows t at n ≡ x
-    embedded-unread t there b =
-        sym (part-within rows t at n (omega (arith, within, b .size)))
-        ∙ bytes-unread rows (take (at + n) s) (take (at + n) t) at k bytes′ once good′
-        (λ z. eqb-false (countOf x k) 0 there (ap (λ (y : Slots). countOf y k) (sym is) ∙ z))
-        (subst (λ (y : Slots). SameBut (take (at + n) s) (take (at + n) t) (startOf y k) (endIn y k)) (sym is)
-        (same-take b (at + n)))
-        ∙ is
+-- one whose field holds the bytes that differ
+pub embedded-around : {k : ℕ} (rows : List (List ℕ)) (s t : List ℕ) (at n : ℕ) (p : Part) →
+    PartOf k (take (at + n) s) at p → SameBut s t (p .start) (endOf p) → embedded rows t at n ≡ embedded rows s at n
+embedded-around rows s t at n p a b =
+    ap (λ (m : ℕ). cond (leb (at + n) m) (fieldsAt rows (take (at + n) t) at) badSlots) (b .size)
+    ∙ ap (λ (y : Slots). cond (leb (at + n) (length s)) (checked rows y) badSlots)
+    (onto-around a (same-take b (at + n)) rows noSlots)
 
 -- ---- the list of arguments
 
@@ -139,85 +91,104 @@ arguments-local s t at a h =
 
 -- ---- arguments
 
-any-scalar : (wireOf (rowFor (rowsOf any) 2) ≡ len) × (isRepeated (rowFor (rowsOf any) 2) ≡ false)
-unfolding rowsOf rowFor
-any-scalar = (refl, refl)
-
 -- an object and an array are one whatever their bytes
-type-unread : (s t : List ℕ) (x : Slots) (c : ℕ) → (c ≡ 1 → ⊥) → ofAnyType t x c ≡ ofAnyType s x c
-unfolding ofAnyType
-type-unread s t x c h = rw (ne-eqb c 1 h)
+any-other : (s t : List ℕ) (ps : List Part) (x : Slots) → (typeIn x ≡ 1 → ⊥) → anyOf t ps x ≡ anyOf s ps x
+unfolding anyOf ofAnyType
+any-other s t ps x h = rw (ne-eqb (typeIn x) 1 h)
 
 pub any-unread : AnyUnread
-unfolding anyOf
-any-unread s t at n h o =
-    let x = embedded (rowsOf any) s at n in
-    ap (λ (y : Slots). cond (y .good) (ofAnyType t y (typeIn y)) bad)
-    (embedded-unread (rowsOf any) s at n 2 (any-scalar .0) (any-scalar .1) (o .good) t (o .there) (o .same))
-    ∙ ap (λ (a : Argument). cond (x .good) a bad) (type-unread s t x (typeIn x) h)
+any-unread s t at n p h a b =
+    ap₂ (anyOf t) (parts-around a (same-take b (at + n)) 2) (embedded-around (rowsOf any) s t at n p a b)
+    ∙ any-other s t (scalarParts s at n) (embedded (rowsOf any) s at n) h
+
+-- a Scalar reads other bytes only where its type is octets or string
+type-local : (s t : List ℕ) (ps : List Part) (x : Slots) (c : ℕ) →
+    (c ≡ 4 → bytesIn true t (partsIn 5 t ps) ≡ bytesIn true s (partsIn 5 s ps)) →
+    (c ≡ 8 → bytesIn false t (partsIn 9 t ps) ≡ bytesIn false s (partsIn 9 s ps)) →
+    ofType t ps x c ≡ ofType s ps x c
+unfolding ofType
+type-local s t ps x c f g = go (eqb c 4) refl (eqb c 8) refl
+  where
+    go : (a : Bool) → eqb c 4 ≡ a → (b : Bool) → eqb c 8 ≡ b → ofType t ps x c ≡ ofType s ps x c
+    go true e b e′ =
+        subst (λ (d : ℕ). ofType t ps x d ≡ ofType s ps x d) (sym (eqb-true c 4 e))
+        (ap (present (countOf x 5)) (f (eqb-true c 4 e)))
+    go false e true e′ =
+        subst (λ (d : ℕ). ofType t ps x d ≡ ofType s ps x d) (sym (eqb-true c 8 e′))
+        (ap (present (countOf x 9)) (g (eqb-true c 8 e′)))
+    go false e false e′ = rw (e, e′)
 
 -- the field of octets and that of a string
 abbrev fieldOf : Bool → ℕ
 fieldOf octets = cond octets 5 9
 
-scalar-field : (octets : Bool) →
-    (wireOf (rowFor (rowsOf scalar) (fieldOf octets)) ≡ len)
-    × (isRepeated (rowFor (rowsOf scalar) (fieldOf octets)) ≡ false)
-unfolding rowsOf rowFor
-scalar-field true = (refl, refl)
-scalar-field false = (refl, refl)
+-- an Any from the place `at` to the end of s, of which a part inside a part of its scalar is another one in t
+module _ {s t : List ℕ} {at : ℕ} (octets : Bool) {q : Part} (u : LayoutUnread 2 (fieldOf octets) s t at q)
+    (b : SameBut s t (q .start) (endOf q)) where
+  abbrev ps : List Part
+  ps = partsOf 2 s at
 
--- a Scalar reads other bytes only where its type is octets or string
-type-local : (s t : List ℕ) (x : Slots) (c : ℕ) →
-    (c ≡ 4 → bytesIn true t (startOf x 5) (lenOf x 5) ≡ bytesIn true s (startOf x 5) (lenOf x 5)) →
-    (c ≡ 8 → bytesIn false t (startOf x 9) (lenOf x 9) ≡ bytesIn false s (startOf x 9) (lenOf x 9)) →
-    ofType t x c ≡ ofType s x c
-unfolding ofType
-type-local s t x c f g = go (eqb c 4) refl (eqb c 8) refl
-  where
-    go : (a : Bool) → eqb c 4 ≡ a → (b : Bool) → eqb c 8 ≡ b → ofType t x c ≡ ofType s x c
-    go true e b e′ =
-        subst (λ (d : ℕ). ofType t x d ≡ ofType s x d) (sym (eqb-true c 4 e))
-        (ap (present (countOf x 5)) (f (eqb-true c 4 e)))
-    go false e true e′ =
-        subst (λ (d : ℕ). ofType t x d ≡ ofType s x d) (sym (eqb-true c 8 e′))
-        (ap (present (countOf x 9)) (g (eqb-true c 8 e′)))
-    go false e false e′ = rw (e, e′)
-
--- the bytes of one field beside those of another
-bytes-beside : (octets : Bool) (s t : List ℕ) (x : Slots) (i k : ℕ) → SameBut s t (startOf x k) (endIn x k) →
-    (endIn x i ≤ startOf x k) ⊎ (endIn x k ≤ startOf x i) →
-    bytesIn octets t (startOf x i) (lenOf x i) ≡ bytesIn octets s (startOf x i) (lenOf x i)
-bytes-beside octets s t x i k b beside =
-    ap (bytesOf octets)
-    (embedded-local (rowsOf bytes) s t (startOf x i) (lenOf x i) (b .size)
-    (λ j h l.
-    ⊎-elim (λ d. b .same j (inl (omega arith))) (λ d. b .same j (inr (omega arith))) beside))
-
-module _ (s t : List ℕ) (at n : ℕ) where
   abbrev y : Slots
-  y = embedded (rowsOf scalar) s at n
+  y = merged (rowsOf scalar) s ps
 
-  beside : (octets : Bool) → OnlyField y (fieldOf octets) s t → (i : ℕ) → (i ≡ fieldOf octets → ⊥) → (other : Bool) →
-      bytesIn other t (startOf y i) (lenOf y i) ≡ bytesIn other s (startOf y i) (lenOf y i)
-  beside octets o i h other =
-      bytes-beside other s t y i (fieldOf octets) (o .same)
-      (field-beside (rowsOf scalar) s at n (fieldOf octets) (scalar-field octets .0) (scalar-field octets .1) (o .good)
-      i h)
+  other : (i : ℕ) → (i ≡ fieldOf octets → ⊥) → (c : Bool) →
+      bytesIn c t (partsIn i t ps) ≡ bytesIn c s (partsIn i s ps)
+  other i h c =
+      ap (bytesIn c t) (u .inner i)
+      ∙ ap (bytesOf c)
+      (merged-local (rowsOf bytes) s t (partsIn i s ps)
+      (every-as (Apart q) (ReadsAlike s t) (λ p d. alike-beside b p d) (partsIn i s ps) (u .beside i h)))
 
-  type-kept : (octets : Bool) → (typeIn y ≡ cond octets 4 8 → ⊥) → OnlyField y (fieldOf octets) s t →
-      ofType t y (typeIn y) ≡ ofType s y (typeIn y)
-  type-kept true h o = type-local s t y (typeIn y) (λ e. absurd (h e)) (λ e. beside true o 9 (λ z. omega arith) false)
-  type-kept false h o = type-local s t y (typeIn y) (λ e. beside false o 5 (λ z. omega arith) true) (λ e. absurd (h e))
+  type-kept : (typeIn y ≡ cond octets 4 8 → ⊥) → ofType t ps y (typeIn y) ≡ ofType s ps y (typeIn y)
+  type-kept = go octets refl
+    where
+      go : (c : Bool) → octets ≡ c → (typeIn y ≡ cond c 4 8 → ⊥) → ofType t ps y (typeIn y) ≡ ofType s ps y (typeIn y)
+      go true e h =
+          type-local s t ps y (typeIn y) (λ f. absurd (h f))
+          (λ f. other 9 (λ z. omega (arith, ap fieldOf e, z)) false)
+      go false e h =
+          type-local s t ps y (typeIn y) (λ f. other 5 (λ z. omega (arith, ap fieldOf e, z)) true)
+          (λ f. absurd (h f))
+
+  scalar-kept : (typeIn y ≡ cond octets 4 8 → ⊥) → scalarIn t ps ≡ scalarIn s ps
+  unfolding scalarOf
+  scalar-kept h =
+      ap (scalarOf t ps) (u .fields (rowsOf scalar)) ∙ ap (λ (a : Argument). cond (y .good) a bad) (type-kept h)
+
+  any-kept : (typeIn y ≡ cond octets 4 8 → ⊥) →
+      anyOf t (partsOf 2 t at) (fieldsAt (rowsOf any) t at) ≡ anyOf s ps (fieldsAt (rowsOf any) s at)
+  unfolding anyOf ofAnyType
+  any-kept h =
+      ap₂ (anyOf t) (u .parts 2) (u .own (rowsOf any))
+      ∙ ap
+      (λ (a : Argument).
+      cond (fieldsAt (rowsOf any) s at .good)
+      (cond (eqb (typeIn (fieldsAt (rowsOf any) s at)) 1) (present (countOf (fieldsAt (rowsOf any) s at) 2) a)
+      (cond (eqb (typeIn (fieldsAt (rowsOf any) s at)) 2) Va.Object
+      (cond (eqb (typeIn (fieldsAt (rowsOf any) s at)) 3) Va.Array bad)))
+      bad)
+      (scalar-kept h)
+
+-- an argument, by the bytes of its Any alone
+by-itself : (s : List ℕ) (at n : ℕ) → at + n ≤ length s →
+    anyOf (take (at + n) s) (scalarParts s at n) (fieldsAt (rowsOf any) (take (at + n) s) at) ≡ argumentIn s at n
+by-itself s at n h =
+    ap (anyOf (take (at + n) s) (scalarParts s at n)) (part-within (rowsOf any) s at n h)
+    ∙ any-cut s (at + n) h (scalarParts s at n) (parts-by 2 s at (at + n)) (embedded (rowsOf any) s at n)
 
 pub scalar-unread : ScalarUnread
-unfolding scalarOf
-scalar-unread s t at n octets h o =
-    let x = embedded (rowsOf scalar) s at n in
-    let f = scalar-field octets in
-    ap (λ (z : Slots). cond (z .good) (ofType t z (typeIn z)) bad)
-    (embedded-unread (rowsOf scalar) s at n (fieldOf octets) (f .0) (f .1) (o .good) t (o .there) (o .same))
-    ∙ ap (λ (a : Argument). cond (x .good) a bad) (type-kept s t at n octets h o)
+scalar-unread s t at n octets p q h o b =
+    let m = at + n in
+    less-or-not (length s) m
+    (λ l. sym (argument-past t at n (omega (arith, b .size))) ∙ argument-past s at n l)
+    (λ l.
+    let c = same-take b m in
+    let k = scalarParts s at n in
+    sym (by-itself t at n (omega (arith, b .size)))
+    ∙ any-kept octets (inner-unread 2 (cond octets 5 9) (take m s) (take m t) at p q o c) c
+    (λ e.
+    h (ap typeIn (sym (merged-cut (rowsOf scalar) s m l k (parts-by 2 s at m))) ∙ e))
+    ∙ by-itself s at n l)
 
 -- ---- the bytes of one field among the arguments
 
@@ -263,14 +234,14 @@ module _ (s : List ℕ) (p : ℕ) {i w v st ln after : ℕ} (e : fieldAt s p ≡
   room : (p < after) × (after ≤ length s) × (st + ln ≤ length s)
   room = let h = field-inside s p e in (h .1, h .2, h .0)
 
-  args-at : isArgs i w v ≡ true → argumentsAt s p ≡ argumentIn s st ln ∷ argumentsAt s after
+  pub args-at : isArgs i w v ≡ true → argumentsAt s p ≡ argumentIn s st ln ∷ argumentsAt s after
   args-at t =
       let h = room in
       from-found (length s) s p (omega arith)
       (sym (next-placed s p (ArgPlace.At st ln after) (by-args (starts s p) (omega arith) e true (sym t))))
       ∙ ap (λ (l : List Argument). argumentIn s st ln ∷ l) (enough-arguments (length s - 1) s after (omega arith))
 
-  args-past : isArgs i w v ≡ false → argumentsAt s p ≡ argumentsAt s after
+  pub args-past : isArgs i w v ≡ false → argumentsAt s p ≡ argumentsAt s after
   args-past t =
       let h = room in
       let k = on (starts s p) (omega arith) e (by-args (starts s p) (omega arith) e false (sym t)) in
@@ -373,8 +344,8 @@ module _ (s t : List ℕ) (at n : ℕ) (o : OneField s t at (at + n)) where
 pub object-unread : ObjectUnread
 object-unread s t from to o =
     let f = take to s in
-    let a = o .only in
-    let i = field-in (rowsOf any) f (o .start) (o .n) 2 (any-scalar .0) (any-scalar .1) (a .good) (a .there) in
+    let i = part-in (o .inside) in
+    let l = length-take (o .start + o .n) f in
     record {
       place = o .place;
       number = o .number;
@@ -384,23 +355,18 @@ object-unread s t from to o =
       next = o .next;
       reached = o .reached;
       field = o .field;
-      same = same-wider (a .same) (o .start) (o .start + o .n) (omega (arith, i .0)) (i .1);
+      same = same-wider (o .same) (o .start) (o .start + o .n) (omega (arith, i .0)) (omega (arith, i .1));
       alike = λ _.
-          any-unread f (take to t) (o .start) (o .n) (o .composite)
-          (record { good = a .good; there = a .there; same = same-take (a .same) to });
+          any-unread f (take to t) (o .start) (o .n) (o .part) (o .composite) (o .inside) (same-take (o .same) to);
     }
 
 pub scalar-field-unread : UnchosenScalarUnread
-unfolding anyOf ofAnyType
 scalar-field-unread s t from to o =
     let f = take to s in
-    let x = embedded (rowsOf any) f (o .start) (o .n) in
-    let k = fieldOf (o .octets) in
-    let c = scalar-field (o .octets) in
-    let a = o .only in
-    let i = field-in (rowsOf scalar) f (startOf x 2) (lenOf x 2) k (c .0) (c .1) (a .good) (a .there) in
-    let j = field-in (rowsOf any) f (o .start) (o .n) 2 (any-scalar .0) (any-scalar .1) (o .good) (o .there) in
-    let scalar-same = same-wider (a .same) (startOf x 2) (startOf x 2 + lenOf x 2) (omega (arith, i .0)) (i .1) in
+    let i = part-in (o .inside .outer) in
+    let j = part-in (o .inside .inner) in
+    let l = length-take (o .start + o .n) f in
+    let k = length-take (endOf (o .outer)) (take (o .start + o .n) f) in
     record {
       place = o .place;
       number = o .number;
@@ -410,14 +376,9 @@ scalar-field-unread s t from to o =
       next = o .next;
       reached = o .reached;
       field = o .field;
-      same = same-wider scalar-same (o .start) (o .start + o .n) (omega (arith, j .0)) (j .1);
+      same =
+          same-wider (o .same) (o .start) (o .start + o .n) (omega (arith, i .0, j .0)) (omega (arith, i .1, j .1));
       alike = λ _.
-          ap (λ (y : Slots). cond (y .good) (ofAnyType (take to t) y (typeIn y)) bad)
-          (embedded-unread (rowsOf any) f (o .start) (o .n) 2 (any-scalar .0) (any-scalar .1) (o .good) (take to t)
-          (o .there) (same-take scalar-same to))
-          ∙ ap (λ (r : Argument). cond (x .good) r bad)
-          (subst (λ (d : ℕ). ofAnyType (take to t) x d ≡ ofAnyType f x d) (sym (o .scalarAny))
-          (ap (present (countOf x 2))
-          (scalar-unread f (take to t) (startOf x 2) (lenOf x 2) (o .octets) (o .unchosen)
-          (record { good = a .good; there = a .there; same = same-take (a .same) to }))));
+          scalar-unread f (take to t) (o .start) (o .n) (o .octets) (o .outer) (o .part) (o .unchosen) (o .inside)
+          (same-take (o .same) to);
     }

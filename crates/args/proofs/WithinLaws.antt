@@ -1,25 +1,14 @@
 -- The bytes of an argument lie within those of its Any. Assumes nothing.
-use Rattle.prelude.proofs.Basics.{ℕ, _+_, _≤_, arith, Bool, true, false, not, List, length, take, length-take-le, eqb}
-use Rattle.prelude.proofs.Basics.{leb, leb-true, both}
+use Rattle.prelude.proofs.Basics.{ℕ, _+_, _≤_, arith, Bool, true, false, not, subst, List, length, take, length-take-le}
+use Rattle.prelude.proofs.Basics.{eqb, both, less-or-not}
 use lib.Ieee.{binary32, binary64, nanBits}
 use Rattle.scalar.specs.declared.argument.Argument.the-variants as Va
-use Rattle.layout.proofs.KeptLaws.{zeros}
-use Rattle.args.proofs.Names.{signedOf, doubleOf, floatOf, Argument, any, scalar, bytes, rowsOf, slotCount}
-use Rattle.args.proofs.Names.{embedded, countOf, valueOf, startOf, lenOf, low32, Slots, kept-within, bad}
-use Rattle.args.proofs.Names.{present, bytesIn, ofType, scalarOf, scalarIn, ofAnyType, anyOf, argumentIn, EndsBy}
-
--- the fields of an embedded message lie within its bytes
-embedded-inside : (rows : List (List ℕ)) (s : List ℕ) (at n k : ℕ) →
-    startOf (embedded rows s at n) k + lenOf (embedded rows s at n) k ≤ at + n
-embedded-inside rows s at n k =
-    both (λ (x : Slots). startOf x k + lenOf x k ≤ at + n) (leb (at + n) (length s)) _ _
-    (λ e.
-    omega (
-      arith,
-      kept-within rows (take (at + n) s) at k,
-      length-take-le (at + n) s (leb-true (at + n) (length s) e),
-    ))
-    (λ _. omega (arith, zeros slotCount k))
+use Rattle.layout.proofs.MergedPlaceLaws.{merged-within}
+use Rattle.args.proofs.Names.{signedOf, doubleOf, floatOf, Argument, any, scalar, bytes, rowsOf, embedded}
+use Rattle.args.proofs.Names.{countOf}
+use Rattle.args.proofs.Names.{valueOf, low32, partsIn, merged, Part, Slots, bad, present, bytesIn, ofType}
+use Rattle.args.proofs.Names.{scalarOf, scalarIn, ofAnyType, anyOf, scalarParts, argumentIn, EndsBy}
+use Rattle.args.proofs.CutLaws.{argument-cut, argument-past}
 
 pub ends-later : (n m : ℕ) → n ≤ m → (a : Argument) → EndsBy n a → EndsBy m a
 ends-later n m h (Va.Octets start len) e = omega arith
@@ -40,16 +29,16 @@ module _ (m : ℕ) where
   present-ends : (count : ℕ) (a : Argument) → EndsBy m a → EndsBy m (present count a)
   present-ends count a h = both (EndsBy m) (eqb count 0) bad a (λ _. tt) (λ _. h)
 
-  bytes-ends : (octets : Bool) (s : List ℕ) (at n : ℕ) → at + n ≤ m → EndsBy m (bytesIn octets s at n)
-  bytes-ends octets s at n h =
-      both (EndsBy m) (embedded (rowsOf bytes) s at n .good) _ bad
+  bytes-ends : (octets : Bool) (s : List ℕ) (ps : List Part) → length s ≤ m → EndsBy m (bytesIn octets s ps)
+  bytes-ends octets s ps h =
+      both (EndsBy m) (merged (rowsOf bytes) s ps .good) _ bad
       (λ _.
-      both (EndsBy m) octets _ _ (λ _. omega (arith, embedded-inside (rowsOf bytes) s at n 1))
-      (λ _. omega (arith, embedded-inside (rowsOf bytes) s at n 1)))
+      both (EndsBy m) octets _ _ (λ _. omega (arith, merged-within (rowsOf bytes) s ps 1))
+      (λ _. omega (arith, merged-within (rowsOf bytes) s ps 1)))
       (λ _. tt)
 
-  module _ (s : List ℕ) (x : Slots) (h : (k : ℕ) → startOf x k + lenOf x k ≤ m) where
-    type-ends : (t : ℕ) → EndsBy m (ofType s x t)
+  module _ (s : List ℕ) (few : length s ≤ m) (ps : List Part) (x : Slots) where
+    type-ends : (t : ℕ) → EndsBy m (ofType s ps x t)
     unfolding ofType
     type-ends t =
         both (EndsBy m) (eqb t 1) _ _ (λ _. present-ends (countOf x 2) (signedOf (valueOf x 2)) tt)
@@ -60,8 +49,7 @@ module _ (m : ℕ) where
         (λ _.
         both (EndsBy m) (eqb t 4) _ _
         (λ _.
-        present-ends (countOf x 5) (bytesIn true s (startOf x 5) (lenOf x 5))
-        (bytes-ends true s (startOf x 5) (lenOf x 5) (h 5)))
+        present-ends (countOf x 5) (bytesIn true s (partsIn 5 s ps)) (bytes-ends true s (partsIn 5 s ps) few))
         (λ _.
         both (EndsBy m) (eqb t 5) _ _
         (λ _.
@@ -77,28 +65,31 @@ module _ (m : ℕ) where
         (λ _.
         both (EndsBy m) (eqb t 8) _ _
         (λ _.
-        present-ends (countOf x 9) (bytesIn false s (startOf x 9) (lenOf x 9))
-        (bytes-ends false s (startOf x 9) (lenOf x 9) (h 9)))
+        present-ends (countOf x 9) (bytesIn false s (partsIn 9 s ps)) (bytes-ends false s (partsIn 9 s ps) few))
         (λ _. tt))))))))
 
-    scalar-ends : EndsBy m (scalarOf s x)
+    scalar-ends : EndsBy m (scalarOf s ps x)
     unfolding scalarOf
     scalar-ends = both (EndsBy m) (x .good) _ bad (λ _. type-ends (low32 (valueOf x 1))) (λ _. tt)
 
-  module _ (s : List ℕ) (x : Slots) (h : startOf x 2 + lenOf x 2 ≤ m) where
-    any-type-ends : (t : ℕ) → EndsBy m (ofAnyType s x t)
+    any-type-ends : (t : ℕ) → EndsBy m (scalarIn s ps) → EndsBy m (ofAnyType s ps x t)
     unfolding ofAnyType
-    any-type-ends t =
-        both (EndsBy m) (eqb t 1) _ _
-        (λ _.
-        present-ends (countOf x 2) (scalarIn s (startOf x 2) (lenOf x 2))
-        (scalar-ends s (embedded (rowsOf scalar) s (startOf x 2) (lenOf x 2))
-        (λ k. omega (arith, embedded-inside (rowsOf scalar) s (startOf x 2) (lenOf x 2) k))))
+    any-type-ends t inside =
+        both (EndsBy m) (eqb t 1) _ _ (λ _. present-ends (countOf x 2) (scalarIn s ps) inside)
         (λ _. both (EndsBy m) (eqb t 2) _ _ (λ _. tt) (λ _. both (EndsBy m) (eqb t 3) _ _ (λ _. tt) (λ _. tt)))
 
-    any-ends : EndsBy m (anyOf s x)
-    unfolding anyOf
-    any-ends = both (EndsBy m) (x .good) _ bad (λ _. any-type-ends (low32 (valueOf x 1))) (λ _. tt)
+  any-ends : (s : List ℕ) → length s ≤ m → (ps : List Part) (x : Slots) → EndsBy m (anyOf s ps x)
+  unfolding anyOf
+  any-ends s few ps x =
+      both (EndsBy m) (x .good) _ bad
+      (λ _.
+      any-type-ends s few ps x (low32 (valueOf x 1)) (scalar-ends s few ps (merged (rowsOf scalar) s ps))) (λ _. tt)
 
 pub argument-ends : (s : List ℕ) (at n : ℕ) → EndsBy (at + n) (argumentIn s at n)
-argument-ends s at n = any-ends (at + n) s (embedded (rowsOf any) s at n) (embedded-inside (rowsOf any) s at n 2)
+argument-ends s at n =
+    less-or-not (length s) (at + n) (λ h. subst (EndsBy (at + n)) (argument-past s at n h) tt)
+    (λ h.
+    let t = take (at + n) s in
+    subst (EndsBy (at + n)) (argument-cut s at n h)
+    (any-ends (at + n) t (omega (arith, length-take-le (at + n) s h)) (scalarParts t at n)
+    (embedded (rowsOf any) t at n)))

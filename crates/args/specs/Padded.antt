@@ -1,5 +1,6 @@
 -- Padded arguments (W20): an Any's own fields, those of its scalar where its type chooses it, and those of the octets
--- or the string where the Scalar's type chooses one. What a type does not choose is not read, and does not count.
+-- or the string where the Scalar's type chooses one, in every part of each. What a type does not choose is not read,
+-- and does not count.
 use Prim.Native.Nat.{ℕ, _+_}
 use mathlib.Core.Bool.{Bool, false, cond, _||_}
 use mathlib.Core.List.{List}
@@ -10,35 +11,35 @@ use Rattle.protocol.specs.Fields as Fields
 use Rattle.protocol.specs.Scalars as Scalars
 use Rattle.wire.specs.declared.field.Field.{Field}
 use Rattle.layout.specs.Table.{rowsOf, any, scalar}
-use Rattle.layout.specs.Padded.{paddedList, partPadded, slotPadded}
+use Rattle.layout.specs.Padded.{paddedList, partPadded, partsPadded}
+use Rattle.layout.specs.declared.part.Part.{Part}
 use Rattle.layout.specs.declared.slots.Slots.{Slots}
-use Rattle.layout.specs.Part.{embedded, valueOf, startOf, lenOf, low32}
+use Rattle.layout.specs.Part.{embedded, valueOf, low32}
+use Rattle.layout.specs.Merged.{partsIn, merged}
+use Rattle.args.specs.Value.{scalarParts}
 use Rattle.args.specs.Arguments.{isArgs}
 
--- inside a Scalar: the octets or the string, if its type chooses one
-abbrev pub bytesPadded : List ℕ → Slots → ℕ → Bool
-bytesPadded s x t =
-    cond (eqb t Scalars.octets) (slotPadded s x Scalars.octetsField)
-    (cond (eqb t Scalars.string) (slotPadded s x Scalars.stringField) false)
+-- inside a Scalar in these parts: the octets or the string, if its type chooses one
+abbrev pub bytesPadded : List ℕ → List Part → ℕ → Bool
+bytesPadded s ps t =
+    cond (eqb t Scalars.octets) (partsPadded s (partsIn Scalars.octetsField s ps))
+    (cond (eqb t Scalars.string) (partsPadded s (partsIn Scalars.stringField s ps)) false)
 
-unfoldable pub insideScalar : List ℕ → Slots → Bool
-insideScalar s x = cond (x .good) (bytesPadded s x (low32 (valueOf x Fields.type))) false
+unfoldable pub insideScalar : List ℕ → List Part → Slots → Bool
+insideScalar s ps x = cond (x .good) (bytesPadded s ps (low32 (valueOf x Fields.type))) false
 
--- the Scalar in n bytes of s from the place `at` on
-unfoldable pub scalarPadded : List ℕ → ℕ → ℕ → Bool
-scalarPadded s at n = partPadded s at n || insideScalar s (embedded (rowsOf scalar) s at n)
+-- the Scalar in these parts of s
+unfoldable pub scalarPadded : List ℕ → List Part → Bool
+scalarPadded s ps = partsPadded s ps || insideScalar s ps (merged (rowsOf scalar) s ps)
 
--- inside an Any: its scalar, if its type chooses it
-unfoldable pub insideAny : List ℕ → Slots → Bool
-insideAny s x =
-    cond (x .good)
-    (cond (eqb (low32 (valueOf x Fields.type)) Anys.scalar)
-    (scalarPadded s (startOf x Anys.scalarField) (lenOf x Anys.scalarField)) false)
-    false
+-- inside an Any: its scalar, which stands in these parts, if its type chooses it
+unfoldable pub insideAny : List ℕ → List Part → Slots → Bool
+insideAny s ps x =
+    cond (x .good) (cond (eqb (low32 (valueOf x Fields.type)) Anys.scalar) (scalarPadded s ps) false) false
 
 -- the argument whose Any stands in n bytes of s from the place `at` on
 unfoldable pub argumentPadded : List ℕ → ℕ → ℕ → Bool
-argumentPadded s at n = partPadded s at n || insideAny s (embedded (rowsOf any) s at n)
+argumentPadded s at n = partPadded s at n || insideAny s (scalarParts s at n) (embedded (rowsOf any) s at n)
 
 -- inside a field of a message with arguments
 abbrev pub insideArgs : List ℕ → Field → Bool

@@ -1,2 +1,3 @@
 pub mod Pair
 pub mod Bound
+pub mod Parts

@@ -81,7 +81,7 @@ fn wire_by(text: bool) -> u64
     if text { BYTES } else { NUMBER }
 }
 
-fn is_args(number: u64, wire: u64) -> bool
+pub(crate) fn is_args(number: u64, wire: u64) -> bool
     ensures { λ r. ⌜ r ≡ testsArgs number wire ⌝ }
 {
     if number != keys::ARGS {

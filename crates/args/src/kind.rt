@@ -3,6 +3,7 @@
 ghost use mathlib.Core.Path.{_≡_};
 ghost use mathlib.Core.Bool.{_||_};
 ghost use Prim.Native.Nat.{_<_};
+ghost use Rattle.layout.specs.Merged.{onePart};
 ghost use Rattle.args.specs.Arguments.{anyTypeOf};
 ghost use Rattle.args.specs.Value.{argumentIn, scalarIn};
 ghost use Rattle.args.specs.Padded.{argumentPadded, scalarPadded};
@@ -43,9 +44,9 @@ pub fn argument_type(s: &[u8], at: usize, n: usize, padded: &mut bool) -> u64
 // The Any type of the Scalar in `n` bytes of s from `at` on: 1, or 0 for a bad one. As read_scalar reads it, but its
 // value is not put together.
 fn scalar_type(s: &[u8], at: usize, n: usize, padded: &mut bool) -> u64
-    ensures answer { λ r. ⌜ r ≡ anyTypeOf (scalarIn (now (s .entry)) at n) ⌝ }
+    ensures answer { λ r. ⌜ r ≡ anyTypeOf (scalarIn (now (s .entry)) (onePart at n)) ⌝ }
     ensures told { λ r. ⌜
-        (0 < r → now (padded .exit) ≡ (now (padded .entry) || scalarPadded (now (s .entry)) at n))
+        (0 < r → now (padded .exit) ≡ (now (padded .entry) || scalarPadded (now (s .entry)) (onePart at n)))
         ⌝ }
 {
     let all = s.len();

@@ -1,10 +1,17 @@
 // The value of one argument: an Any, and the Scalar in it.
 ghost use mathlib.Core.Path.{_≡_};
-ghost use mathlib.Core.Bool.{_||_, true};
-ghost use Rattle.layout.specs.private.Arrays.{fromArrays};
-ghost use Rattle.args.specs.Value.{anyOf, argumentIn, bytesIn, present, scalarIn, scalarOf};
-ghost use Rattle.layout.specs.Padded.{partPadded};
-ghost use Rattle.args.specs.Padded.{argumentPadded, insideAny, insideScalar, scalarPadded};
+ghost use mathlib.Core.Bool.{_||_, false, true};
+ghost use Prim.Native.Nat.{_+_, _<_, _≤_};
+ghost use lib.ListN.{length};
+ghost use Rattle.layout.specs.private.Arrays.{Holds};
+ghost use Rattle.layout.specs.Table.{rowsOf, scalar};
+ghost use Rattle.layout.specs.Merged.{merged, onePart, partsIn};
+ghost use Rattle.layout.specs.Padded.{partPadded, partsPadded};
+ghost use Rattle.args.specs.Arguments.{anyTypeOf};
+ghost use Rattle.args.specs.Value.{argumentIn, bytesIn, present, scalarIn, scalarParts};
+ghost use Rattle.args.specs.Padded.{argumentPadded, insideScalar, scalarPadded};
+ghost use Rattle.layout.specs.private.Counted.{Counted};
+ghost use Rattle.args.specs.private.Parts.{chosenBytes, scalarBy};
 use crate::keys;
 use crate::pair::Pair;
 use crate::pair::Text;
@@ -27,6 +34,13 @@ use scalar::argument::Argument;
 use scalar::argument::double_argument;
 use scalar::argument::float_argument;
 use scalar::argument::signed_argument;
+
+// The numbers of the fields whose messages may come in parts.
+const SCALAR_NUMBER: u64 = SCALAR_FIELD as u64;
+
+const OCTETS_NUMBER: u64 = OCTETS_FIELD as u64;
+
+const STRING_NUMBER: u64 = STRING_FIELD as u64;
 
 // The argument whose Any stands in `n` bytes of s from `at` on, with the short ways for an Any of one field, its type,
 // and of two, its type and its scalar. For its one caller, into which it is inlined; others go the long way.
@@ -57,7 +71,9 @@ pub(crate) fn read_argument(s: &[u8], at: usize, n: usize, unread: &mut bool) ->
 // The long way, by the rows.
 pub fn long_argument(s: &[u8], at: usize, n: usize, padded: &mut bool) -> Argument
     ensures answer { λ r. ⌜ r ≡ argumentIn (now (s .entry)) at n ⌝ }
-    ensures told { λ r. ⌜ now (padded .exit) ≡ (now (padded .entry) || argumentPadded (now (s .entry)) at n) ⌝ }
+    ensures told { λ r. ⌜
+        (0 < anyTypeOf r → now (padded .exit) ≡ (now (padded .entry) || argumentPadded (now (s .entry)) at n))
+        ⌝ }
 {
     let rows = layout::rows::any_rows();
     let mut times = [0; SLOTS];
@@ -75,7 +91,50 @@ pub fn long_argument(s: &[u8], at: usize, n: usize, padded: &mut bool) -> Argume
     ) {
         return Argument::Refused(reason::BAD_PAYLOAD);
     }
-    any_value(s, &times, &values, &starts, padded)
+    let t = values[TYPE] % uint32::COUNT;
+    match t {
+        anys::SCALAR => any_scalar(
+            s,
+            at,
+            n,
+            times[SCALAR_FIELD],
+            starts[SCALAR_FIELD],
+            values[SCALAR_FIELD] as usize,
+            padded,
+        ),
+        anys::OBJECT => Argument::Object,
+        anys::ARRAY => Argument::Array,
+        _ => Argument::Refused(reason::BAD_PAYLOAD),
+    }
+}
+
+// The scalar of the Any in `n` bytes of s from `at` on, which has it so often, the last in `len` bytes from `start` on.
+fn any_scalar(
+    s: &[u8],
+    at: usize,
+    n: usize,
+    times: u8,
+    start: usize,
+    len: usize,
+    padded: &mut bool,
+) -> Argument
+    requires { ⌜ Counted (scalarParts (now s) at n) times start len ⌝ }
+    requires { ⌜ at + n ≤ length (now s) ⌝ }
+    ensures answer { λ r. ⌜ r ≡ present times (scalarIn (now (s .entry)) (scalarParts (now (s .entry)) at n)) ⌝ }
+    ensures told { λ r. ⌜
+        (0 < anyTypeOf r →
+        now (padded .exit)
+        ≡ (now (padded .entry) || scalarPadded (now (s .entry)) (scalarParts (now (s .entry)) at n)))
+        ⌝ }
+{
+    if times == 0 {
+        return Argument::Refused(reason::BAD_PAYLOAD);
+    }
+    if times == 1 {
+        return long_scalar(s, start, len, padded);
+    }
+    let end = at + n;
+    parted_scalar(&s[..end], at, padded)
 }
 
 // The named value must be present.
@@ -88,9 +147,21 @@ fn needed(times: u8, a: Argument) -> Argument
     a
 }
 
-// The bytes of an octets or a string message, the long way.
+// The bytes of an octets or a string message that was read into these arrays.
+fn bytes_of(octets: bool, values: &[u64; SLOTS], starts: &[usize; SLOTS]) -> Argument
+    ensures { λ r. ⌜ r ≡ chosenBytes octets (now (values .entry)) (now (starts .entry)) ⌝ }
+{
+    let start = starts[BYTES];
+    let len = values[BYTES] as usize;
+    if octets {
+        return Argument::Octets { start, len };
+    }
+    Argument::String { start, len }
+}
+
+// The bytes of an octets or a string message in one part, the long way.
 fn long_bytes(s: &[u8], at: usize, n: usize, octets: bool, padded: &mut bool) -> Argument
-    ensures answer { λ r. ⌜ r ≡ bytesIn octets (now (s .entry)) at n ⌝ }
+    ensures answer { λ r. ⌜ r ≡ bytesIn octets (now (s .entry)) (onePart at n) ⌝ }
     ensures told { λ r. ⌜ now (padded .exit) ≡ (now (padded .entry) || partPadded (now (s .entry)) at n) ⌝ }
 {
     let rows = layout::rows::bytes_rows();
@@ -109,17 +180,68 @@ fn long_bytes(s: &[u8], at: usize, n: usize, octets: bool, padded: &mut bool) ->
     ) {
         return Argument::Refused(reason::BAD_PAYLOAD);
     }
-    let start = starts[BYTES];
-    let len = values[BYTES] as usize;
-    if octets {
-        return Argument::Octets { start, len };
+    bytes_of(octets, &values, &starts)
+}
+
+// The same in parts, the fields k of a Scalar that goes from `at` to the end of s; or, where that is itself in parts,
+// of the scalars of an Any that does.
+fn parted_bytes(
+    s: &[u8],
+    at: usize,
+    whole: bool,
+    k: u64,
+    octets: bool,
+    padded: &mut bool,
+) -> Argument
+    requires { ⌜ at ≤ length (now s) ⌝ }
+    ensures answer { λ r. ⌜
+        r ≡ bytesIn octets (now (s .entry)) (partsIn k (now (s .entry)) (scalarBy whole (now (s .entry)) at))
+        ⌝ }
+    ensures told { λ r. ⌜
+        (0 < anyTypeOf r →
+        now (padded .exit)
+        ≡ (now (padded .entry)
+        || partsPadded (now (s .entry)) (partsIn k (now (s .entry)) (scalarBy whole (now (s .entry)) at))))
+        ⌝ }
+{
+    let rows = layout::rows::bytes_rows();
+    let mut times = [0; SLOTS];
+    let mut values = [0; SLOTS];
+    let mut starts = [0; SLOTS];
+    if whole {
+        if !layout::merge::merge_fields(
+            &rows,
+            s,
+            at,
+            k,
+            &mut times,
+            &mut values,
+            &mut starts,
+            padded,
+        ) {
+            return Argument::Refused(reason::BAD_PAYLOAD);
+        }
+        return bytes_of(octets, &values, &starts);
     }
-    Argument::String { start, len }
+    if !layout::merge::merge_inner(
+        &rows,
+        s,
+        at,
+        SCALAR_NUMBER,
+        k,
+        &mut times,
+        &mut values,
+        &mut starts,
+        padded,
+    ) {
+        return Argument::Refused(reason::BAD_PAYLOAD);
+    }
+    bytes_of(octets, &values, &starts)
 }
 
 // The bytes of an octets or a string message, with a short way for one that holds nothing else.
 pub(crate) fn read_bytes(s: &[u8], at: usize, n: usize, octets: bool, padded: &mut bool) -> Argument
-    ensures answer { λ r. ⌜ r ≡ bytesIn octets (now (s .entry)) at n ⌝ }
+    ensures answer { λ r. ⌜ r ≡ bytesIn octets (now (s .entry)) (onePart at n) ⌝ }
     ensures told { λ r. ⌜ now (padded .exit) ≡ (now (padded .entry) || partPadded (now (s .entry)) at n) ⌝ }
 {
     let all = s.len();
@@ -132,23 +254,63 @@ pub(crate) fn read_bytes(s: &[u8], at: usize, n: usize, octets: bool, padded: &m
     long_bytes(&s[..all], at, n, octets, padded)
 }
 
-// The value that a Scalar's type names.
+// The octets or the string of a Scalar, its fields k, which it has so often, the last in `len` bytes from `start` on.
+fn bytes_value(
+    s: &[u8],
+    at: usize,
+    whole: bool,
+    k: u64,
+    octets: bool,
+    times: u8,
+    start: usize,
+    len: usize,
+    padded: &mut bool,
+) -> Argument
+    requires { ⌜ at ≤ length (now s) ⌝ }
+    requires { ⌜ Counted (partsIn k (now s) (scalarBy whole (now s) at)) times start len ⌝ }
+    ensures answer { λ r. ⌜
+        r
+        ≡ present times
+        (bytesIn octets (now (s .entry)) (partsIn k (now (s .entry)) (scalarBy whole (now (s .entry)) at)))
+        ⌝ }
+    ensures told { λ r. ⌜
+        (0 < anyTypeOf r →
+        now (padded .exit)
+        ≡ (now (padded .entry)
+        || partsPadded (now (s .entry)) (partsIn k (now (s .entry)) (scalarBy whole (now (s .entry)) at))))
+        ⌝ }
+{
+    if times == 0 {
+        return Argument::Refused(reason::BAD_PAYLOAD);
+    }
+    if times == 1 {
+        return long_bytes(s, start, len, octets, padded);
+    }
+    parted_bytes(s, at, whole, k, octets, padded)
+}
+
+// The value that a Scalar's type names. The Scalar goes from `at` to the end of s; or, where it is not whole, its parts
+// are the scalars of an Any that does.
 fn scalar_value(
     s: &[u8],
+    at: usize,
+    whole: bool,
     times: &[u8; SLOTS],
     values: &[u64; SLOTS],
     starts: &[usize; SLOTS],
     padded: &mut bool,
 ) -> Argument
-    ensures answer { λ r. ⌜
-        r
-        ≡ scalarOf (now (s .entry)) (fromArrays true (now (times .entry)) (now (values .entry)) (now (starts .entry)))
+    requires { ⌜ at ≤ length (now s) ⌝ }
+    requires { ⌜
+        Holds (merged (rowsOf scalar) (now s) (scalarBy whole (now s) at)) true (now times) (now values) (now starts)
         ⌝ }
+    ensures answer { λ r. ⌜ r ≡ scalarIn (now (s .entry)) (scalarBy whole (now (s .entry)) at) ⌝ }
     ensures told { λ r. ⌜
+        (0 < anyTypeOf r →
         now (padded .exit)
         ≡ (now (padded .entry)
-        || insideScalar (now (s .entry))
-        (fromArrays true (now (times .entry)) (now (values .entry)) (now (starts .entry))))
+        || insideScalar (now (s .entry)) (scalarBy whole (now (s .entry)) at)
+        (merged (rowsOf scalar) (now (s .entry)) (scalarBy whole (now (s .entry)) at))))
         ⌝ }
 {
     let t = values[TYPE] % uint32::COUNT;
@@ -156,15 +318,16 @@ fn scalar_value(
         scalars::SINT => needed(times[SINT_FIELD], signed_argument(values[SINT_FIELD])),
         scalars::UINT => needed(times[UINT_FIELD], Argument::Unsigned(values[UINT_FIELD])),
         scalars::NULL => Argument::Null,
-        scalars::OCTETS => needed(
+        scalars::OCTETS => bytes_value(
+            s,
+            at,
+            whole,
+            OCTETS_NUMBER,
+            true,
             times[OCTETS_FIELD],
-            long_bytes(
-                s,
-                starts[OCTETS_FIELD],
-                values[OCTETS_FIELD] as usize,
-                true,
-                padded,
-            ),
+            starts[OCTETS_FIELD],
+            values[OCTETS_FIELD] as usize,
+            padded,
         ),
         scalars::DOUBLE => needed(times[DOUBLE_FIELD], double_argument(values[DOUBLE_FIELD])),
         scalars::FLOAT => needed(
@@ -172,15 +335,16 @@ fn scalar_value(
             float_argument((values[FLOAT_FIELD] % uint32::COUNT) as u32),
         ),
         scalars::BOOL => needed(times[BOOL_FIELD], Argument::Bool(values[BOOL_FIELD] != 0)),
-        scalars::STRING => needed(
+        scalars::STRING => bytes_value(
+            s,
+            at,
+            whole,
+            STRING_NUMBER,
+            false,
             times[STRING_FIELD],
-            long_bytes(
-                s,
-                starts[STRING_FIELD],
-                values[STRING_FIELD] as usize,
-                false,
-                padded,
-            ),
+            starts[STRING_FIELD],
+            values[STRING_FIELD] as usize,
+            padded,
         ),
         _ => Argument::Refused(reason::BAD_PAYLOAD),
     }
@@ -188,8 +352,11 @@ fn scalar_value(
 
 // The Scalar in `n` bytes of s from `at` on, the long way.
 pub(crate) fn long_scalar(s: &[u8], at: usize, n: usize, padded: &mut bool) -> Argument
-    ensures answer { λ r. ⌜ r ≡ scalarIn (now (s .entry)) at n ⌝ }
-    ensures told { λ r. ⌜ now (padded .exit) ≡ (now (padded .entry) || scalarPadded (now (s .entry)) at n) ⌝ }
+    ensures answer { λ r. ⌜ r ≡ scalarIn (now (s .entry)) (onePart at n) ⌝ }
+    ensures told { λ r. ⌜
+        (0 < anyTypeOf r →
+        now (padded .exit) ≡ (now (padded .entry) || scalarPadded (now (s .entry)) (onePart at n)))
+        ⌝ }
 {
     let rows = layout::rows::scalar_rows();
     let mut times = [0; SLOTS];
@@ -207,48 +374,43 @@ pub(crate) fn long_scalar(s: &[u8], at: usize, n: usize, padded: &mut bool) -> A
     ) {
         return Argument::Refused(reason::BAD_PAYLOAD);
     }
-    scalar_value(s, &times, &values, &starts, padded)
+    let end = at + n;
+    scalar_value(&s[..end], at, true, &times, &values, &starts, padded)
 }
 
-// The value of an Any: a scalar, an object or an array.
-fn any_value(
-    s: &[u8],
-    times: &[u8; SLOTS],
-    values: &[u64; SLOTS],
-    starts: &[usize; SLOTS],
-    padded: &mut bool,
-) -> Argument
-    ensures answer { λ r. ⌜
-        r ≡ anyOf (now (s .entry)) (fromArrays true (now (times .entry)) (now (values .entry)) (now (starts .entry)))
-        ⌝ }
+// The Scalar whose parts are the scalars of an Any that goes from `at` to the end of s.
+fn parted_scalar(s: &[u8], at: usize, padded: &mut bool) -> Argument
+    requires { ⌜ at ≤ length (now s) ⌝ }
+    ensures answer { λ r. ⌜ r ≡ scalarIn (now (s .entry)) (scalarBy false (now (s .entry)) at) ⌝ }
     ensures told { λ r. ⌜
+        (0 < anyTypeOf r →
         now (padded .exit)
-        ≡ (now (padded .entry)
-        || insideAny (now (s .entry))
-        (fromArrays true (now (times .entry)) (now (values .entry)) (now (starts .entry))))
+        ≡ (now (padded .entry) || scalarPadded (now (s .entry)) (scalarBy false (now (s .entry)) at)))
         ⌝ }
 {
-    let t = values[TYPE] % uint32::COUNT;
-    match t {
-        anys::SCALAR => needed(
-            times[SCALAR_FIELD],
-            long_scalar(
-                s,
-                starts[SCALAR_FIELD],
-                values[SCALAR_FIELD] as usize,
-                padded,
-            ),
-        ),
-        anys::OBJECT => Argument::Object,
-        anys::ARRAY => Argument::Array,
-        _ => Argument::Refused(reason::BAD_PAYLOAD),
+    let rows = layout::rows::scalar_rows();
+    let mut times = [0; SLOTS];
+    let mut values = [0; SLOTS];
+    let mut starts = [0; SLOTS];
+    if !layout::merge::merge_fields(
+        &rows,
+        s,
+        at,
+        SCALAR_NUMBER,
+        &mut times,
+        &mut values,
+        &mut starts,
+        padded,
+    ) {
+        return Argument::Refused(reason::BAD_PAYLOAD);
     }
+    scalar_value(s, at, false, &times, &values, &starts, padded)
 }
 
 // The Scalar, with the short ways for a Scalar of one field and of two. The slice is lent anew to what is
 // not inlined, so that the short ways keep it in registers.
 fn read_scalar(s: &[u8], at: usize, n: usize, unread: &mut bool) -> Argument
-    ensures { λ r. ⌜ r ≡ scalarIn (now (s .entry)) at n ⌝ }
+    ensures { λ r. ⌜ r ≡ scalarIn (now (s .entry)) (onePart at n) ⌝ }
 {
     let all = s.len();
     if crate::pair::read_lone(s, at, n) == scalars::NULL {

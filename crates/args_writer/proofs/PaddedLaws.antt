@@ -6,22 +6,28 @@ use lib.Ieee.Bits.{toBits-lt}
 use Rattle.scalar.specs.declared.argument.Argument.the-variants as Va
 use Rattle.wire.specs.Padded.{fieldPadded}
 use Rattle.wire.proofs.PaddedLaws.{no-flag}
-use Rattle.layout.specs.Padded.{paddedFrom, nothingInside, partPadded}
+use Rattle.layout.specs.Padded.{paddedFrom, nothingInside, partsPadded}
+use Rattle.layout.specs.Merged.{onePart, partsIn}
+use Rattle.layout.specs.declared.part.Part.{Part}
+use Rattle.layout.proofs.MergedLaws.{one-part}
+use Rattle.args.specs.Value.{scalarParts}
 use Rattle.args.specs.Padded.{insideArgs, insideScalar, scalarPadded, insideAny, argumentPadded}
 use Rattle.writer.specs.RoundTrip.{hasArgs}
 use Rattle.writer.specs.Padded.{stretchPadded}
 use Rattle.writer.proofs.MarkLaws.{field-plain, ownOnly, Says, says-none, says-then, says-whole, says-part, one-field}
 use Rattle.writer.proofs.MarkLaws.{says-stretch, says-args, says-number, says-bytes}
-use Rattle.writer.proofs.PaddedLaws.{written-padded}
+use Rattle.writer.proofs.PaddedLaws.{one-said, written-padded}
 use Rattle.args_writer.proofs.Names.{varintBytes, Stands, stands-length, stands-first, typeOf, zigzag, Argument}
 use Rattle.args_writer.proofs.Names.{asFixed, valueAt, scalar, rowsOf, noSlots, Slots, field-inside, numberField}
 use Rattle.args_writer.proofs.Names.{bytesField, fixedField, fixedBytes, goodStretch, argsFrom, behindTag, Reads}
 use Rattle.args_writer.proofs.Names.{withNumber, withBytes, reads-number, reads-bytes, stands-inside, stretch-of}
-use Rattle.args_writer.proofs.Names.{partStart, writable, valueField, scalarBytes, anyBytes, argField, Sized}
+use Rattle.args_writer.proofs.Names.{writable, valueField, scalarBytes, anyBytes, argField, Sized}
 use Rattle.args_writer.specs.Padded.{AppendPadded, AppendedPadded, Made, empty, append, MadePlain, FramePlain}
 use Rattle.args_writer.proofs.FixedBackLaws.{fixed-reads, withFixed, reads-fixed}
-use Rattle.args_writer.proofs.ScalarBackLaws.{Listed, listed, kept-value, scalar-stands, any-listed, scalar-in}
-use Rattle.args_writer.proofs.ScalarBackLaws.{scalar-needed, innerPlace, inner-stands, bit-small, no-value}
+use Rattle.args_writer.proofs.ScalarBackLaws.{Listed, listed, kept-value, scalar-stands, any-listed, scalar-once}
+use Rattle.args_writer.proofs.ScalarBackLaws.{scalar-in, scalar-needed, Carries, octets-carries, string-carries}
+use Rattle.args_writer.proofs.ScalarBackLaws.{innerPlace, inner-stands, onlyPart, inner-reads, inner-once}
+use Rattle.args_writer.proofs.ScalarBackLaws.{bit-small, no-value}
 use Rattle.args_writer.proofs.ReadsLaws.{append-reads, not-refused, cut-is}
 
 -- ---- a field with a fixed value
@@ -49,40 +55,50 @@ module _ (num wire k v : ℕ) (by-wire : (s : List ℕ) (p : ℕ) → asFixed k 
 
 -- ---- inside a Scalar
 
-module _ (s : List ℕ) (at p v : ℕ) where
+module _ (s : List ℕ) (ps : List Part) (at p v : ℕ) where
   -- only octets and a string have a message inside
   nothing-inside :
-      (insideScalar s (withNumber 2 v p (withNumber 1 1 at noSlots)) ≡ false)
-      × (insideScalar s (withNumber 3 v p (withNumber 1 2 at noSlots)) ≡ false)
-      × (insideScalar s (withNumber 1 3 at noSlots) ≡ false)
-      × (insideScalar s (withFixed 6 1 8 v p (withNumber 1 5 at noSlots)) ≡ false)
-      × (insideScalar s (withFixed 7 5 4 v p (withNumber 1 6 at noSlots)) ≡ false)
-      × (insideScalar s (withNumber 8 v p (withNumber 1 7 at noSlots)) ≡ false)
+      (insideScalar s ps (withNumber 2 v p (withNumber 1 1 at noSlots)) ≡ false)
+      × (insideScalar s ps (withNumber 3 v p (withNumber 1 2 at noSlots)) ≡ false)
+      × (insideScalar s ps (withNumber 1 3 at noSlots) ≡ false)
+      × (insideScalar s ps (withFixed 6 1 8 v p (withNumber 1 5 at noSlots)) ≡ false)
+      × (insideScalar s ps (withFixed 7 5 4 v p (withNumber 1 6 at noSlots)) ≡ false)
+      × (insideScalar s ps (withNumber 8 v p (withNumber 1 7 at noSlots)) ≡ false)
   unfolding insideScalar
   nothing-inside = (refl, refl, refl, refl, refl, refl)
 
   bytes-inside :
-      (insideScalar s (withBytes 5 v p (withNumber 1 4 at noSlots)) ≡ partPadded s (partStart 5 p v) v)
-      × (insideScalar s (withBytes 9 v p (withNumber 1 8 at noSlots)) ≡ partPadded s (partStart 9 p v) v)
+      (insideScalar s ps (withBytes 5 v p (withNumber 1 4 at noSlots)) ≡ partsPadded s (partsIn 5 s ps))
+      × (insideScalar s ps (withBytes 9 v p (withNumber 1 8 at noSlots)) ≡ partsPadded s (partsIn 9 s ps))
   unfolding insideScalar
   bytes-inside = (refl, refl)
+
+-- the Scalar of type t with this value, in its one part
+abbrev ScalarPlain : List ℕ → ℕ → ℕ → List ℕ → Type 0
+ScalarPlain s at t value = scalarPadded s (onePart at (length (scalarBytes t value))) ≡ false
 
 -- a type and a value, neither padded, with nothing padded inside
 scalar-plain : {s q : List ℕ} {at t : ℕ} {value : List ℕ} {g : ℕ → Slots → Slots} → Listed t → t < 10 →
     Reads (rowsOf scalar) value g →
     getD (g (at + length (numberField 1 t)) (withNumber 1 t at noSlots) .count) 1 0 ≡ 1 → Says ownOnly value false →
-    insideScalar s (g (at + length (numberField 1 t)) (withNumber 1 t at noSlots)) ≡ false →
-    Stands s at (scalarBytes t value) q → scalarPadded s at (length (scalarBytes t value)) ≡ false
+    insideScalar s (onePart at (length (scalarBytes t value))) (g (at + length (numberField 1 t))
+    (withNumber 1 t at noSlots))
+    ≡ false →
+    Stands s at (scalarBytes t value) q → ScalarPlain s at t value
 unfolding scalarPadded scalarBytes
-scalar-plain {s} {t = t} u low reads one says inside k =
-    ap₂ _||_ (says-part (says-then (says-number 1 (omega arith) (omega arith) t (omega arith)) says) k)
-    (ap (insideScalar s) (scalar-in u low reads (scalar-needed _ one) k) ∙ inside)
+scalar-plain {s} {at = at} {t = t} {value = value} u low reads one says inside k =
+    let n = length (scalarBytes t value) in
+    ap₂ _||_
+    (one-said s at n ∙ says-part (says-then (says-number 1 (omega arith) (omega arith) t (omega arith)) says) k)
+    (ap (insideScalar s (onePart at n))
+    (one-part (rowsOf scalar) s (record { start = at; len = n }) ∙ scalar-in u low reads (scalar-needed _ one) k)
+    ∙ inside)
 
 -- ---- every scalar
 
 module _ {s q : List ℕ} {at : ℕ} (small : length s < 2 ^ 64) (src : List ℕ) where
   double-plain : (n : ℕ) → n < 2 ^ 64 → Stands s at (scalarBytes 5 (fixedField 6 1 8 n)) q →
-      scalarPadded s at (length (scalarBytes 5 (fixedField 6 1 8 n))) ≡ false
+      ScalarPlain s at 5 (fixedField 6 1 8 n)
   double-plain n h =
       scalar-plain (listed .4) (omega arith)
       (reads-fixed (rowsOf scalar) 6 1 8 n (λ s p. refl) (kept-value n .3) (omega arith) (omega arith) (omega arith)
@@ -90,10 +106,10 @@ module _ {s q : List ℕ} {at : ℕ} (small : length s < 2 ^ 64) (src : List ℕ
       refl
       (says-fixed 6 1 8 n (λ s p. refl) (omega arith) (omega arith) (omega arith) (λ e. omega arith) (λ e. omega arith)
       (λ e. omega arith) h)
-      (nothing-inside s at (at + length (numberField 1 5)) n .3)
+      (nothing-inside s _ at (at + length (numberField 1 5)) n .3)
 
   float-plain : (n : ℕ) → n < 2 ^ 32 → Stands s at (scalarBytes 6 (fixedField 7 5 4 n)) q →
-      scalarPadded s at (length (scalarBytes 6 (fixedField 7 5 4 n))) ≡ false
+      ScalarPlain s at 6 (fixedField 7 5 4 n)
   float-plain n h =
       scalar-plain (listed .5) (omega arith)
       (reads-fixed (rowsOf scalar) 7 5 4 n (λ s p. refl) (kept-value n .4) (omega arith) (omega arith) (omega arith)
@@ -101,48 +117,45 @@ module _ {s q : List ℕ} {at : ℕ} (small : length s < 2 ^ 64) (src : List ℕ
       refl
       (says-fixed 7 5 4 n (λ s p. refl) (omega arith) (omega arith) (omega arith) (λ e. omega arith) (λ e. omega arith)
       (λ e. omega arith) h)
-      (nothing-inside s at (at + length (numberField 1 6)) n .4)
+      (nothing-inside s _ at (at + length (numberField 1 6)) n .4)
 
   -- octets and string, whose bytes stand in a message of their own
-  named-plain : (t num : ℕ) (bs : List ℕ) → Listed t → t < 10 → 0 < num → num < 10 →
-      Reads (rowsOf scalar) (bytesField num (bytesField 1 bs)) (withBytes num (length (bytesField 1 bs))) →
-      getD (withBytes num (length (bytesField 1 bs)) (at + length (numberField 1 t))
-      (withNumber 1 t at noSlots) .count) 1 0 ≡ 1 →
-      insideScalar s
-      (withBytes num (length (bytesField 1 bs)) (at + length (numberField 1 t)) (withNumber 1 t at noSlots))
-      ≡ partPadded s (innerPlace at t num bs) (length (bytesField 1 bs)) →
+  named-plain : (t num : ℕ) (bs : List ℕ) → Carries t num →
+      ((ps : List Part) (n : ℕ) →
+      insideScalar s ps (withBytes num n (at + length (numberField 1 t)) (withNumber 1 t at noSlots))
+      ≡ partsPadded s (partsIn num s ps)) →
       Stands s at (scalarBytes t (bytesField num (bytesField 1 bs))) q →
-      scalarPadded s at (length (scalarBytes t (bytesField num (bytesField 1 bs)))) ≡ false
-  named-plain t num bs u low some few reads one inside k =
+      ScalarPlain s at t (bytesField num (bytesField 1 bs))
+  named-plain t num bs c inside k =
       let inner = inner-stands t num bs k in
       let within = stands-inside 1 bs inner in
-      scalar-plain u low reads one
-      (says-bytes num some few (bytesField 1 bs) (omega (arith, stands-length inner)))
-      (inside
+      let n = length (bytesField 1 bs) in
+      scalar-plain (c .listed) (c .low) (inner-reads t num bs k c small)
+      (c .typed at (at + length (numberField 1 t)) n)
+      (says-bytes num (c .some) (c .few) (bytesField 1 bs) (omega (arith, stands-length inner)))
+      (inside (onlyPart t num bs k) n
+      ∙ ap (partsPadded s) (inner-once t num bs k c small)
+      ∙ one-said s (innerPlace at t num bs) n
       ∙ says-part (says-bytes 1 (omega arith) (omega arith) bs (omega (arith, stands-length within))) inner)
       k
 
   pub value-plain : (a : Argument) → Sized a → writable a src ≡ true →
       Stands s at (scalarBytes (typeOf a) (valueField a src)) q →
-      scalarPadded s at (length (scalarBytes (typeOf a) (valueField a src))) ≡ false
+      ScalarPlain s at (typeOf a) (valueField a src)
   value-plain (Va.Signed z) h e k =
       scalar-plain (listed .0) (omega arith)
       (reads-number (rowsOf scalar) 2 (zigzag z) (kept-value (zigzag z) .0) (omega arith) (omega arith) h) refl
       (says-number 2 (omega arith) (omega arith) (zigzag z) h)
-      (nothing-inside s at (at + length (numberField 1 1)) (zigzag z) .0) k
+      (nothing-inside s _ at (at + length (numberField 1 1)) (zigzag z) .0) k
   value-plain (Va.Unsigned n) h e k =
       scalar-plain (listed .1) (omega arith)
       (reads-number (rowsOf scalar) 3 n (kept-value n .1) (omega arith) (omega arith) h) refl
-      (says-number 3 (omega arith) (omega arith) n h) (nothing-inside s at (at + length (numberField 1 2)) n .1) k
+      (says-number 3 (omega arith) (omega arith) n h) (nothing-inside s _ at (at + length (numberField 1 2)) n .1) k
   value-plain Va.Null h e k =
-      scalar-plain (listed .2) (omega arith) no-value refl (says-none ownOnly) (nothing-inside s at 0 0 .2) k
+      scalar-plain (listed .2) (omega arith) no-value refl (says-none ownOnly) (nothing-inside s _ at 0 0 .2) k
   value-plain (Va.Octets start len) h e k =
-      let bs = take len (drop start src) in
-      let n = length (bytesField 1 bs) in
-      named-plain 4 5 bs (listed .3) (omega arith) (omega arith) (omega arith)
-      (reads-bytes (rowsOf scalar) 5 (bytesField 1 bs) (kept-value n .2) (omega arith) (omega arith)
-      (omega (arith, stands-length (inner-stands 4 5 bs k))))
-      refl (bytes-inside s at (at + length (numberField 1 4)) n .0) k
+      named-plain 4 5 (take len (drop start src)) octets-carries
+      (λ ps n. bytes-inside s ps at (at + length (numberField 1 4)) n .0) k
   value-plain (Va.Double d) h e k = double-plain (toBits binary64 d) (toBits-lt binary64 d h) k
   value-plain (Va.DoubleNan n) h e k = double-plain n h k
   value-plain (Va.Float d) h e k = float-plain (toBits binary32 d) (toBits-lt binary32 d h) k
@@ -152,24 +165,20 @@ module _ {s q : List ℕ} {at : ℕ} (small : length s < 2 ^ 64) (src : List ℕ
       (reads-number (rowsOf scalar) 8 (cond b 1 0) (kept-value (cond b 1 0) .5) (omega arith) (omega arith)
       (bit-small b))
       refl (says-number 8 (omega arith) (omega arith) (cond b 1 0) (bit-small b))
-      (nothing-inside s at (at + length (numberField 1 7)) (cond b 1 0) .5) k
+      (nothing-inside s _ at (at + length (numberField 1 7)) (cond b 1 0) .5) k
   value-plain (Va.String start len) h e k =
-      let bs = take len (drop start src) in
-      let n = length (bytesField 1 bs) in
-      named-plain 8 9 bs (listed .7) (omega arith) (omega arith) (omega arith)
-      (reads-bytes (rowsOf scalar) 9 (bytesField 1 bs) (kept-value n .6) (omega arith) (omega arith)
-      (omega (arith, stands-length (inner-stands 8 9 bs k))))
-      refl (bytes-inside s at (at + length (numberField 1 8)) n .1) k
+      named-plain 8 9 (take len (drop start src)) string-carries
+      (λ ps n. bytes-inside s ps at (at + length (numberField 1 8)) n .1) k
   value-plain Va.Object h e k = absurd (let z : _≡_ {A = ℕ} 0 1 = cc in omega arith)
   value-plain Va.Array h e k = absurd (let z : _≡_ {A = ℕ} 0 1 = cc in omega arith)
   value-plain (Va.Refused n) h e k = absurd (let z : _≡_ {A = ℕ} 0 1 = cc in omega arith)
 
 -- ---- its Any, and the args field
 
-any-inside : (s : List ℕ) (at p n : ℕ) →
-    insideAny s (withBytes 2 n p (withNumber 1 1 at noSlots)) ≡ scalarPadded s (partStart 2 p n) n
+any-inside : (s : List ℕ) (ps : List Part) (at p n : ℕ) →
+    insideAny s ps (withBytes 2 n p (withNumber 1 1 at noSlots)) ≡ scalarPadded s ps
 unfolding insideAny
-any-inside s at p n = refl
+any-inside s ps at p n = refl
 
 any-plain : (a : Argument) (src : List ℕ) → Sized a → writable a src ≡ true →
     length (anyBytes (typeOf a) (valueField a src)) < 2 ^ 64 →
@@ -188,8 +197,9 @@ any-plain a src sized good short =
     (says-then (says-number 1 (omega arith) (omega arith) 1 (omega arith))
     (says-bytes 2 (omega arith) (omega arith) content n))
     k)
-    (ap (insideAny bs) (any-listed t value k n)
-    ∙ any-inside bs 0 (0 + length (numberField 1 1)) (length content)
+    (ap (insideAny bs (scalarParts bs 0 (length bs))) (any-listed t value k n)
+    ∙ any-inside bs (scalarParts bs 0 (length bs)) 0 (0 + length (numberField 1 1)) (length content)
+    ∙ ap (scalarPadded bs) (scalar-once t value k n)
     ∙ value-plain short src a sized good inner)
 
 -- a field that is appended

@@ -11,10 +11,15 @@ use Rattle.scalar.proofs.ZigzagLaws.{unzigzag-zigzag}
 use Rattle.layout.specs.Table.{any, bytes}
 use Rattle.layout.specs.Row.{rowFor}
 use Rattle.layout.specs.Fields.{hasRequired}
-use Rattle.layout.specs.Part.{embedded, low32}
+use Rattle.layout.specs.Part.{embedded, countOf, startOf, lenOf, low32}
+use Rattle.layout.specs.Merged.{onePart, partsIn}
+use Rattle.layout.specs.MergedRules.{holdsBytes}
+use Rattle.layout.specs.declared.part.Part.{Part}
+use Rattle.layout.proofs.MergedLaws.{one-part}
 use Rattle.layout.proofs.FieldsLaws.{Listing}
-use Rattle.args.specs.Value.{bytesOf as bytesTaken, bytesIn, ofType, scalarOf, ofAnyType, anyOf}
-use Rattle.writer.proofs.FieldLaws.{reads-then, embedded-good}
+use Rattle.args.specs.Value.{bytesOf as bytesTaken, bytesIn, ofType, scalarOf, scalarIn, ofAnyType, anyOf}
+use Rattle.args.specs.Value.{scalarParts}
+use Rattle.writer.proofs.FieldLaws.{reads-then, embedded-good, parts-embedded, parts-inner}
 use Rattle.args_writer.proofs.Names.{Stands, stands-length, stands-next, typeOf, zigzag, Argument, scalar}
 use Rattle.args_writer.proofs.Names.{rowsOf, noSlots, useOf, Use, Slots, argumentIn, numberField, bytesField}
 use Rattle.args_writer.proofs.Names.{fixedField, Reads, withNumber, withBytes, reads-number, reads-bytes}
@@ -63,10 +68,19 @@ any-needed : (at p n : ℕ) → true ≡ hasRequired (rowsOf any) (withBytes 2 n
 unfolding rowsOf hasRequired
 any-needed at p n = refl
 
-any-taken : (s : List ℕ) (at p n : ℕ) →
-    scalarOf s (embedded (rowsOf scalar) s (partStart 2 p n) n) ≡ anyOf s (withBytes 2 n p (withNumber 1 1 at noSlots))
+any-taken : (s : List ℕ) (ps : List Part) (at p n : ℕ) →
+    scalarIn s ps ≡ anyOf s ps (withBytes 2 n p (withNumber 1 1 at noSlots))
 unfolding anyOf ofAnyType
-any-taken s at p n = refl
+any-taken s ps at p n = refl
+
+-- the fields that hold a message
+holds-scalar : holdsBytes (rowsOf any) 2 ≡ true
+unfolding rowsOf rowFor
+holds-scalar = refl
+
+pub holds-bytes : (holdsBytes (rowsOf scalar) 5 ≡ true) × (holdsBytes (rowsOf scalar) 9 ≡ true)
+unfolding rowsOf rowFor
+holds-bytes = (refl, refl)
 
 module _ {s q : List ℕ} {at : ℕ} (t : ℕ) (value : List ℕ) (k : Stands s at (anyBytes t value) q) where
   abbrev content : List ℕ
@@ -86,11 +100,18 @@ module _ {s q : List ℕ} {at : ℕ} (t : ℕ) (value : List ℕ) (k : Stands s 
       (reads-bytes (rowsOf any) 2 content (kept-any (length content) .1) (omega arith) (omega arith) short))
       k (sym (any-needed at (at + length (numberField 1 1)) (length content)))
 
+  pub scalar-once : length content < 2 ^ 64 →
+      scalarParts s at (length (anyBytes t value)) ≡ onePart (scalarPlace at content) (length content)
+  scalar-once short =
+      parts-embedded (rowsOf any) 2 holds-scalar refl refl s at (length (anyBytes t value)) (any-listed short)
+
   pub any-back : length content < 2 ^ 64 →
-      argumentIn s at (length (anyBytes t value)) ≡ scalarOf s
-      (embedded (rowsOf scalar) s (scalarPlace at content) (length content))
+      argumentIn s at (length (anyBytes t value)) ≡ scalarIn s (onePart (scalarPlace at content) (length content))
   any-back short =
-      ap (anyOf s) (any-listed short) ∙ sym (any-taken s at (at + length (numberField 1 1)) (length content))
+      ap (anyOf s (scalarParts s at (length (anyBytes t value)))) (any-listed short)
+      ∙ sym (any-taken s (scalarParts s at (length (anyBytes t value))) at (at + length (numberField 1 1))
+      (length content))
+      ∙ ap (scalarIn s) (scalar-once short)
 
 -- ---- the value in the Scalar
 
@@ -112,36 +133,36 @@ unfolding rowsOf hasRequired
 scalar-needed count e = sym (ap (λ (n : ℕ). cond (not (eqb n 0)) true false) e)
 
 -- what each type takes of its Scalar
-module _ (s : List ℕ) (at p v : ℕ) where
-  sint-taken : signedOf v ≡ scalarOf s (withNumber 2 v p (withNumber 1 1 at noSlots))
+module _ (s : List ℕ) (ps : List Part) (at p v : ℕ) where
+  sint-taken : signedOf v ≡ scalarOf s ps (withNumber 2 v p (withNumber 1 1 at noSlots))
   unfolding scalarOf ofType
   sint-taken = refl
 
-  uint-taken : Va.Unsigned v ≡ scalarOf s (withNumber 3 v p (withNumber 1 2 at noSlots))
+  uint-taken : Va.Unsigned v ≡ scalarOf s ps (withNumber 3 v p (withNumber 1 2 at noSlots))
   unfolding scalarOf ofType
   uint-taken = refl
 
-  null-taken : Va.Null ≡ scalarOf s (withNumber 1 3 at noSlots)
+  null-taken : Va.Null ≡ scalarOf s ps (withNumber 1 3 at noSlots)
   unfolding scalarOf ofType
   null-taken = refl
 
-  octets-taken : bytesIn true s (partStart 5 p v) v ≡ scalarOf s (withBytes 5 v p (withNumber 1 4 at noSlots))
+  octets-taken : bytesIn true s (partsIn 5 s ps) ≡ scalarOf s ps (withBytes 5 v p (withNumber 1 4 at noSlots))
   unfolding scalarOf ofType
   octets-taken = refl
 
-  double-taken : doubleOf v ≡ scalarOf s (withFixed 6 1 8 v p (withNumber 1 5 at noSlots))
+  double-taken : doubleOf v ≡ scalarOf s ps (withFixed 6 1 8 v p (withNumber 1 5 at noSlots))
   unfolding scalarOf ofType
   double-taken = refl
 
-  float-taken : floatOf (low32 v) ≡ scalarOf s (withFixed 7 5 4 v p (withNumber 1 6 at noSlots))
+  float-taken : floatOf (low32 v) ≡ scalarOf s ps (withFixed 7 5 4 v p (withNumber 1 6 at noSlots))
   unfolding scalarOf ofType
   float-taken = refl
 
-  bool-taken : Va.Bool (not (eqb v 0)) ≡ scalarOf s (withNumber 8 v p (withNumber 1 7 at noSlots))
+  bool-taken : Va.Bool (not (eqb v 0)) ≡ scalarOf s ps (withNumber 8 v p (withNumber 1 7 at noSlots))
   unfolding scalarOf ofType
   bool-taken = refl
 
-  string-taken : bytesIn false s (partStart 9 p v) v ≡ scalarOf s (withBytes 9 v p (withNumber 1 8 at noSlots))
+  string-taken : bytesIn false s (partsIn 9 s ps) ≡ scalarOf s ps (withBytes 9 v p (withNumber 1 8 at noSlots))
   unfolding scalarOf ofType
   string-taken = refl
 
@@ -169,10 +190,12 @@ bytesCase octets p n = cond octets (Va.Octets p n) (Va.String p n)
 
 bytes-back : {s q : List ℕ} {at : ℕ} (octets : Bool) (bs : List ℕ) → length bs < 2 ^ 64 →
     Stands s at (bytesField 1 bs) q →
-    bytesIn octets s at (length (bytesField 1 bs)) ≡ bytesCase octets (partStart 1 at (length bs)) (length bs)
+    bytesIn octets s (onePart at (length (bytesField 1 bs)))
+    ≡ bytesCase octets (partStart 1 at (length bs)) (length bs)
 bytes-back {s} {q} {at} octets bs short k =
     ap (bytesTaken octets)
-    (embedded-good (reads-bytes (rowsOf bytes) 1 bs (kept-bytes (length bs)) (omega arith) (omega arith) short) k
+    (one-part (rowsOf bytes) s (record { start = at; len = length (bytesField 1 bs) })
+    ∙ embedded-good (reads-bytes (rowsOf bytes) 1 bs (kept-bytes (length bs)) (omega arith) (omega arith) short) k
     (sym (bytes-needed at (length bs))))
 
 -- ---- every scalar
@@ -185,18 +208,66 @@ pub record Back (a : Argument) (src s : List ℕ) (r : Argument) : Type 0 where
 
 -- the Scalar of type t with this value, where it stands
 abbrev Taken : List ℕ → ℕ → ℕ → List ℕ → Argument
-Taken s at t value = scalarOf s (embedded (rowsOf scalar) s at (length (scalarBytes t value)))
+Taken s at t value = scalarIn s (onePart at (length (scalarBytes t value)))
 
 -- it is read by its type and its value
 value-back : {s q : List ℕ} {at t : ℕ} {value : List ℕ} {g : ℕ → Slots → Slots} {r : Argument} → Listed t → t < 10 →
     Reads (rowsOf scalar) value g →
     getD (g (at + length (numberField 1 t)) (withNumber 1 t at noSlots) .count) 1 0 ≡ 1 →
-    r ≡ scalarOf s (g (at + length (numberField 1 t)) (withNumber 1 t at noSlots)) →
+    r
+    ≡ scalarOf s (onePart at (length (scalarBytes t value))) (g (at + length (numberField 1 t))
+    (withNumber 1 t at noSlots)) →
     Stands s at (scalarBytes t value) q → Taken s at t value ≡ r
-value-back {s} u low reads one taken k =
-    ap (scalarOf s) (scalar-in u low reads (scalar-needed _ one) k) ∙ sym taken
+value-back {s} {at = at} {t = t} {value = value} u low reads one taken k =
+    let n = length (scalarBytes t value) in
+    ap (scalarOf s (onePart at n))
+    (one-part (rowsOf scalar) s (record { start = at; len = n }) ∙ scalar-in u low reads (scalar-needed _ one) k)
+    ∙ sym taken
 
--- octets and string: where the message with the bytes stands, and the bytes in it
+-- octets and string: a type whose value is a message with bytes, in the field num
+pub record Carries (t num : ℕ) : Type 0 where
+  pub listed : Listed t
+  pub low : t < 10
+  pub some : 0 < num
+  pub few : num < 10
+  pub kept : (v : ℕ) → Use.Kept ≡ useOf (rowsOf scalar) num 2 v
+  pub holds : holdsBytes (rowsOf scalar) num ≡ true
+  pub typed : (at p n : ℕ) → getD (withBytes num n p (withNumber 1 t at noSlots) .count) 1 0 ≡ 1
+  pub once : (at p n : ℕ) → countOf (withBytes num n p (withNumber 1 t at noSlots)) num ≡ 1
+  pub stands : (at p n : ℕ) →
+      onePart (startOf (withBytes num n p (withNumber 1 t at noSlots)) num)
+      (lenOf (withBytes num n p (withNumber 1 t at noSlots)) num)
+      ≡ onePart (partStart num p n) n
+
+pub octets-carries : Carries 4 5
+octets-carries =
+    record {
+      listed = listed .3;
+      low = omega arith;
+      some = omega arith;
+      few = omega arith;
+      kept = λ v. kept-value v .2;
+      holds = holds-bytes .0;
+      typed = λ at p n. refl;
+      once = λ at p n. refl;
+      stands = λ at p n. refl;
+    }
+
+pub string-carries : Carries 8 9
+string-carries =
+    record {
+      listed = listed .7;
+      low = omega arith;
+      some = omega arith;
+      few = omega arith;
+      kept = λ v. kept-value v .6;
+      holds = holds-bytes .1;
+      typed = λ at p n. refl;
+      once = λ at p n. refl;
+      stands = λ at p n. refl;
+    }
+
+-- where the message with the bytes stands, and the bytes in it
 abbrev pub innerPlace : ℕ → ℕ → ℕ → List ℕ → ℕ
 innerPlace at t num bs = partStart num (at + length (numberField 1 t)) (length (bytesField 1 bs))
 
@@ -213,20 +284,37 @@ module _ {s q : List ℕ} {at : ℕ} (t num : ℕ) (bs : List ℕ)
   bytes-stand : Stands s (bytesPlace at t num bs) bs q
   bytes-stand = stands-inside 1 bs inner-stands
 
-  part-back : length s < 2 ^ 64 → Listed t → t < 10 →
-      Use.Kept ≡ useOf (rowsOf scalar) num 2 (length (bytesField 1 bs)) → 0 < num → num < 10 →
-      (octets : Bool) →
-      getD (withBytes num (length (bytesField 1 bs)) (at + length (numberField 1 t))
-      (withNumber 1 t at noSlots) .count) 1 0 ≡ 1 →
-      bytesIn octets s (innerPlace at t num bs) (length (bytesField 1 bs))
-      ≡ scalarOf s (withBytes num (length (bytesField 1 bs)) (at + length (numberField 1 t))
-      (withNumber 1 t at noSlots)) →
-      Taken s at t (bytesField num (bytesField 1 bs)) ≡ bytesCase octets (bytesPlace at t num bs) (length bs)
-  part-back small u low kept some few octets one taken =
-      value-back u low
-      (reads-bytes (rowsOf scalar) num (bytesField 1 bs) kept some few (omega (arith, stands-length inner-stands)))
-      one taken k
-      ∙ bytes-back octets bs (omega (arith, stands-length bytes-stand)) inner-stands
+  -- the Scalar in its one part
+  abbrev pub onlyPart : List Part
+  onlyPart = onePart at (length (scalarBytes t (bytesField num (bytesField 1 bs))))
+
+  module _ (c : Carries t num) (small : length s < 2 ^ 64) where
+    pub inner-reads : Reads (rowsOf scalar) (bytesField num (bytesField 1 bs))
+        (withBytes num (length (bytesField 1 bs)))
+    inner-reads =
+        reads-bytes (rowsOf scalar) num (bytesField 1 bs) (c .kept (length (bytesField 1 bs))) (c .some) (c .few)
+        (omega (arith, stands-length inner-stands))
+
+    -- and the message with the bytes in its own
+    pub inner-once : partsIn num s onlyPart ≡ onePart (innerPlace at t num bs) (length (bytesField 1 bs))
+    inner-once =
+        let n = length (bytesField 1 bs) in
+        let p = at + length (numberField 1 t) in
+        parts-inner (rowsOf scalar) num (c .holds) refl (c .once at p n) s at
+        (length (scalarBytes t (bytesField num (bytesField 1 bs))))
+        (scalar-in (c .listed) (c .low) inner-reads (scalar-needed _ (c .typed at p n)) k)
+        ∙ c .stands at p n
+
+    part-back : (octets : Bool) →
+        bytesIn octets s (partsIn num s onlyPart)
+        ≡ scalarOf s onlyPart (withBytes num (length (bytesField 1 bs)) (at + length (numberField 1 t))
+        (withNumber 1 t at noSlots)) →
+        Taken s at t (bytesField num (bytesField 1 bs)) ≡ bytesCase octets (bytesPlace at t num bs) (length bs)
+    part-back octets taken =
+        value-back (c .listed) (c .low) inner-reads
+        (c .typed at (at + length (numberField 1 t)) (length (bytesField 1 bs))) taken k
+        ∙ ap (bytesIn octets s) inner-once
+        ∙ bytes-back octets bs (omega (arith, stands-length bytes-stand)) inner-stands
 
 -- a bool is written as 0 or 1
 pub bit-small : (b : Bool) → cond b 1 0 < 2 ^ 64
@@ -262,7 +350,7 @@ module _ {s q : List ℕ} {at : ℕ} (small : length s < 2 ^ 64) (src : List ℕ
       value-back (listed .4) (omega arith)
       (reads-fixed (rowsOf scalar) 6 1 8 n (λ s p. refl) (kept-value n .3) (omega arith) (omega arith) (omega arith)
       (λ e. omega arith) h)
-      refl (double-taken s at (at + length (numberField 1 5)) n)
+      refl (double-taken s _ at (at + length (numberField 1 5)) n)
 
   float-back : (n : ℕ) → n < 2 ^ 32 → Stands s at (scalarBytes 6 (fixedField 7 5 4 n)) q →
       Taken s at 6 (fixedField 7 5 4 n) ≡ floatOf n
@@ -270,29 +358,26 @@ module _ {s q : List ℕ} {at : ℕ} (small : length s < 2 ^ 64) (src : List ℕ
       value-back (listed .5) (omega arith)
       (reads-fixed (rowsOf scalar) 7 5 4 n (λ s p. refl) (kept-value n .4) (omega arith) (omega arith) (omega arith)
       (λ e. omega arith) h)
-      refl (float-taken s at (at + length (numberField 1 6)) n) k
+      refl (float-taken s _ at (at + length (numberField 1 6)) n) k
       ∙ ap floatOf (mod-eq-of-lt h)
 
   -- octets and string, whose bytes stand in a message of their own
-  named-back : (t num start len : ℕ) (octets : Bool) {a : Argument} → Listed t → t < 10 →
-      ((v : ℕ) → Use.Kept ≡ useOf (rowsOf scalar) num 2 v) → 0 < num → num < 10 →
-      ((n : ℕ) → getD (withBytes num n (at + length (numberField 1 t)) (withNumber 1 t at noSlots) .count) 1 0 ≡ 1) →
-      ((n : ℕ) → bytesIn octets s (partStart num (at + length (numberField 1 t)) n) n
-      ≡ scalarOf s (withBytes num n (at + length (numberField 1 t)) (withNumber 1 t at noSlots))) →
+  named-back : (t num start len : ℕ) (octets : Bool) {a : Argument} → Carries t num →
+      ((ps : List Part) (n : ℕ) → bytesIn octets s (partsIn num s ps)
+      ≡ scalarOf s ps (withBytes num n (at + length (numberField 1 t)) (withNumber 1 t at noSlots))) →
       ((p : ℕ) → bytesCase octets p len ≡ placed p a) →
       ((p : ℕ) → bytesOf (placed p a) s ≡ take len (drop p s)) → bytesOf a src ≡ take len (drop start src) →
       leb (start + len) (length src) ≡ true →
       Stands s at (scalarBytes t (bytesField num (bytesField 1 (take len (drop start src))))) q →
       Back a src s (Taken s at t (bytesField num (bytesField 1 (take len (drop start src)))))
-  named-back t num start len octets u low kept some few one taken is bytes own e k =
+  named-back t num start len octets c taken is bytes own e k =
       let bs = take len (drop start src) in
       let n = named-long start len src e in
       let p = bytesPlace at t num bs in
-      let m = length (bytesField 1 bs) in
       record {
         place = p;
         is =
-            part-back t num bs k small u low (kept m) some few octets (one m) (taken m)
+            part-back t num bs k c small octets (taken (onlyPart t num bs k) (length (bytesField 1 bs)))
             ∙ ap (bytesCase octets p) n ∙ is p;
         bytes =
             bytes p ∙ ap (λ (m : ℕ). take m (drop p s)) (sym n) ∙ stands-bytes (bytes-stand t num bs k) ∙ sym own;
@@ -305,18 +390,18 @@ module _ {s q : List ℕ} {at : ℕ} (small : length s < 2 ^ 64) (src : List ℕ
       plain refl refl
       (value-back (listed .0) (omega arith)
       (reads-number (rowsOf scalar) 2 (zigzag z) (kept-value (zigzag z) .0) (omega arith) (omega arith) h) refl
-      (sint-taken s at (at + length (numberField 1 1)) (zigzag z)) k
+      (sint-taken s _ at (at + length (numberField 1 1)) (zigzag z)) k
       ∙ ap Va.Signed (unzigzag-zigzag z))
   scalar-back (Va.Unsigned n) h e k =
       plain refl refl
       (value-back (listed .1) (omega arith)
       (reads-number (rowsOf scalar) 3 n (kept-value n .1) (omega arith) (omega arith) h) refl
-      (uint-taken s at (at + length (numberField 1 2)) n) k)
+      (uint-taken s _ at (at + length (numberField 1 2)) n) k)
   scalar-back Va.Null h e k =
-      plain refl refl (value-back (listed .2) (omega arith) no-value refl (null-taken s at 0 0) k)
+      plain refl refl (value-back (listed .2) (omega arith) no-value refl (null-taken s _ at 0 0) k)
   scalar-back (Va.Octets start len) h e k =
-      named-back 4 5 start len true (listed .3) (omega arith) (λ v. kept-value v .2) (omega arith) (omega arith)
-      (λ n. refl) (octets-taken s at (at + length (numberField 1 4))) (λ p. refl) (λ p. refl) refl e k
+      named-back 4 5 start len true octets-carries
+      (λ ps n. octets-taken s ps at (at + length (numberField 1 4)) n) (λ p. refl) (λ p. refl) refl e k
   scalar-back (Va.Double d) h e k =
       plain refl refl (double-back (toBits binary64 d) (toBits-lt binary64 d h) k
       ∙ number-kept binary64 Va.DoubleNan Va.Double d h e)
@@ -331,11 +416,11 @@ module _ {s q : List ℕ} {at : ℕ} (small : length s < 2 ^ 64) (src : List ℕ
       (value-back (listed .6) (omega arith)
       (reads-number (rowsOf scalar) 8 (cond b 1 0) (kept-value (cond b 1 0) .5) (omega arith) (omega arith)
       (bit-small b))
-      refl (bool-taken s at (at + length (numberField 1 7)) (cond b 1 0)) k
+      refl (bool-taken s _ at (at + length (numberField 1 7)) (cond b 1 0)) k
       ∙ ap Va.Bool (bit-kept b))
   scalar-back (Va.String start len) h e k =
-      named-back 8 9 start len false (listed .7) (omega arith) (λ v. kept-value v .6) (omega arith) (omega arith)
-      (λ n. refl) (string-taken s at (at + length (numberField 1 8))) (λ p. refl) (λ p. refl) refl e k
+      named-back 8 9 start len false string-carries
+      (λ ps n. string-taken s ps at (at + length (numberField 1 8)) n) (λ p. refl) (λ p. refl) refl e k
   scalar-back Va.Object h e k = absurd (let z : _≡_ {A = ℕ} 0 1 = cc in omega arith)
   scalar-back Va.Array h e k = absurd (let z : _≡_ {A = ℕ} 0 1 = cc in omega arith)
   scalar-back (Va.Refused n) h e k = absurd (let z : _≡_ {A = ℕ} 0 1 = cc in omega arith)

@@ -1,5 +1,5 @@
 -- The samples, by computing them. An Open is read in parts, each computed once. Assumes nothing.
-use Rattle.prelude.proofs.Basics.{ℕ, arith, true, _≡_, refl, ap, _∙_, List, [], _∷_, _++_}
+use Rattle.prelude.proofs.Basics.{ℕ, arith, true, cond, _≡_, refl, ap, _∙_, List, [], _∷_, _++_}
 use Rattle.protocol.specs.Client.{open'}
 use Rattle.varint.specs.Shortest.{shortest}
 use Rattle.varint.specs.Varint.{groups}
@@ -10,12 +10,15 @@ use Rattle.layout.specs.Row.{rowFor}
 use Rattle.layout.specs.Table.{rowsOf, openStmt}
 use Rattle.layout.specs.declared.slots.Slots.{Slots}
 use Rattle.layout.specs.Part.{embedded}
+use Rattle.layout.specs.Merged.{onePart, partsFrom, partsIn, partsOnto}
+use Rattle.layout.proofs.MergedLaws.{one-part}
 use Rattle.args.specs.Arguments.{noArguments, argumentsFrom, placeFrom, nextArgument, together}
 use Rattle.message.specs.Request.{noOptional}
 use Rattle.message.specs.Payload.{payload}
 use Rattle.message.specs.Simple.{deallocateFrame, fetchFrame}
 use Rattle.message.specs.Prepare.{prepareFrame, bodyIn}
-use Rattle.message.specs.Execute.{openFrom, openChosen, openOf, openFrame, executeIn, argumentsWithin}
+use Rattle.message.specs.Execute.{argumentsWithin, executeIn, openFrom, openBy, openInside, openParts, openOf}
+use Rattle.message.specs.Execute.{openFrame}
 use Rattle.message.specs.Frame.{frameIn, frameOf}
 use Rattle.message.specs.declared.request.Execute.{Execute}
 use Rattle.message.specs.declared.request.Request.{Request}
@@ -63,6 +66,14 @@ inner-is : embedded (rowsOf openStmt) opens 9 6 ≡ inner
 unfolding groups fieldAt fieldsFrom hasRequired rowFor rowsOf
 inner-is = refl
 
+stmt-once : openParts opens ≡ onePart 9 6
+unfolding groups fieldAt partsFrom
+stmt-once = refl
+
+execute-once : partsIn 2 opens (onePart 9 6) ≡ onePart 13 2
+unfolding groups fieldAt partsFrom partsIn
+execute-once = refl
+
 abbrev execute : Execute
 execute = record { stmt = 1; compact = noOptional; args = noArguments 13 15 }
 
@@ -83,7 +94,11 @@ opening =
 open-is : openFrame opens ≡ opening
 unfolding openFrame
 open-is =
-    ap (openOf opens) outer-is ∙ ap (openChosen opens 1 noOptional) inner-is
+    ap (openOf opens) outer-is ∙ ap (openInside opens 1 noOptional) stmt-once
+    ∙ ap (λ (x : Slots). cond (x .good) (openBy opens 1 noOptional (partsIn 2 opens (onePart 9 6)))
+    (Frame.BadPayload 15 open'))
+    (one-part (rowsOf openStmt) opens (record { start = 9; len = 6 }) ∙ inner-is)
+    ∙ ap (openBy opens 1 noOptional) execute-once
     ∙ ap (openFrom opens 1 noOptional (record { start = 13; len = 2 })) execute-is
 
 -- ---- the steps
@@ -105,8 +120,9 @@ reasonOf x = x .answer .reason
 pub samples-shown : SamplesShown
 unfolding All stepOn decisionOf lookReason reportReason sessionAfter replyTo firstRow rowCount sendsColumns
     refusedReply wireCode named namedKind frameOf frameIn deallocateFrame prepareFrame fetchFrame bodyIn
-    argumentsWithin argumentsFrom placeFrom nextArgument together groups little fieldAt fieldsFrom hasRequired rowFor
-    rowsOf run leaves first replyBytes text digits errorPayload numberField bytesField shortest
+    partsFrom partsIn partsOnto argumentsWithin argumentsFrom placeFrom nextArgument together groups little fieldAt
+    fieldsFrom hasRequired rowFor rowsOf run leaves first replyBytes text digits errorPayload numberField bytesField
+    shortest
 samples-shown = (
   (refl, refl),
   (
@@ -159,8 +175,9 @@ fedOpen x =
     fedBy fetches (fedBy prepares (fedOn x (opened .report) (opened .answer) (fedBy prepares empty)))
 
 served-on-strays : tallied empty servedOn .strays ≡ 1
-unfolding tallied fed kept endsIt sumBy frameOf frameIn prepareFrame fetchFrame bodyIn argumentsWithin argumentsFrom
-    placeFrom nextArgument together groups little fieldAt fieldsFrom hasRequired rowFor rowsOf
+unfolding tallied fed kept endsIt sumBy frameOf frameIn prepareFrame fetchFrame bodyIn partsFrom partsIn partsOnto
+    argumentsWithin argumentsFrom placeFrom nextArgument together groups little fieldAt fieldsFrom hasRequired rowFor
+    rowsOf
 served-on-strays = ap (λ x. fedOpen x .strays) open-is
 
 pub served-on-refused : ServedOnRefused

@@ -12,15 +12,18 @@ use Rattle.scalar.specs.declared.argument.Argument.{Argument}
 use Rattle.scalar.specs.declared.argument.Argument.the-variants as Va
 use Rattle.layout.specs.Table.{rowsOf, any, scalar, bytes}
 use Rattle.layout.specs.declared.slots.Slots.{Slots}
+use Rattle.layout.specs.declared.part.Part.{Part}
+use Rattle.layout.specs.Merged.{partsIn, merged}
 use Rattle.layout.specs.Part.{embedded, countOf, valueOf as fieldValue, startOf, lenOf, low32}
-use Rattle.args.specs.Value.{bad, present, bytesOf, bytesIn, ofType, scalarOf, ofAnyType, anyOf}
+use Rattle.args.specs.Value.{bad, present, bytesOf, bytesIn, ofType, scalarOf, ofAnyType, anyOf, scalarParts}
 use Rattle.args.specs.Arguments.{argPlace, ofPlace, nextArgument, andMore, argumentsFrom, argumentsAt, handedOut}
 use Rattle.args.specs.declared.arguments.ArgPlace.{ArgPlace}
 use Rattle.args.specs.declared.arguments.NextArgument.{NextArgument}
 use Rattle.message.specs.Request.{argsOf}
 use Rattle.message.specs.Frame.{argumentIn as argumentFrom, argumentOf, frameOf}
 use Rattle.message.specs.declared.request.Frame.{Frame}
-use Rattle.message.specs.declared.request.Frame.the-variants.{NotAllThere, BadLength, UnknownType, BadPayload, Good}
+use Rattle.message.specs.declared.request.Frame.the-variants.{NotAllThere, BadLength, UnknownType, BadPayload}
+use Rattle.message.specs.declared.request.Frame.the-variants.{BodyTwice, Good}
 use Rattle.karramotx.specs.Value.{valueOf}
 use Rattle.karramotx.specs.ValueRules.{Told, ToldByIndex, ToldNext, ToldInPass, toldArgument, ValueByIndex}
 use Rattle.karramotx.specs.ValueRules.{ValueNext, ValueInPass}
@@ -130,9 +133,9 @@ more-number more rest (NextArgument.Found a next) h (suc i) = rest next i
 more-number more rest NextArgument.End h i = tt
 
 module _ (s : List ℕ) where
-  type-number : (x : Slots) (t : ℕ) → Small x → Exact (ofType s x t)
+  type-number : (ps : List Part) (x : Slots) (t : ℕ) → Small x → Exact (ofType s ps x t)
   unfolding ofType
-  type-number x t small =
+  type-number ps x t small =
       both Exact (eqb t 1) _ _
       (λ _. present-number (countOf x 2) (signedOf (fieldValue x 2)) (signed-fits (fieldValue x 2) small))
       (λ _.
@@ -141,8 +144,8 @@ module _ (s : List ℕ) where
       both Exact (eqb t 3) _ _ (λ _. tt)
       (λ _.
       both Exact (eqb t 4) _ _
-      (λ _. present-number (countOf x 5) (bytesIn true s (startOf x 5) (lenOf x 5))
-      (bytes-number true (embedded (rowsOf bytes) s (startOf x 5) (lenOf x 5))))
+      (λ _. present-number (countOf x 5) (bytesIn true s (partsIn 5 s ps))
+      (bytes-number true (merged (rowsOf bytes) s (partsIn 5 s ps))))
       (λ _.
       both Exact (eqb t 5) _ _ (λ _. present-number (countOf x 6) (doubleOf (fieldValue x 6))
       (double-number (fieldValue x 6)))
@@ -153,29 +156,30 @@ module _ (s : List ℕ) where
       both Exact (eqb t 7) _ _ (λ _. present-number (countOf x 8) (Va.Bool (not (eqb (fieldValue x 8) 0))) tt)
       (λ _.
       both Exact (eqb t 8) _ _
-      (λ _. present-number (countOf x 9) (bytesIn false s (startOf x 9) (lenOf x 9))
-      (bytes-number false (embedded (rowsOf bytes) s (startOf x 9) (lenOf x 9))))
+      (λ _. present-number (countOf x 9) (bytesIn false s (partsIn 9 s ps))
+      (bytes-number false (merged (rowsOf bytes) s (partsIn 9 s ps))))
       (λ _. tt))))))))
 
-  scalar-number : (x : Slots) → Small x → Exact (scalarOf s x)
+  scalar-number : (ps : List Part) (x : Slots) → Small x → Exact (scalarOf s ps x)
   unfolding scalarOf
-  scalar-number x small = both Exact (x .good) _ bad (λ _. type-number x (low32 (fieldValue x 1)) small) (λ _. tt)
+  scalar-number ps x small =
+      both Exact (x .good) _ bad (λ _. type-number ps x (low32 (fieldValue x 1)) small) (λ _. tt)
 
-  any-type-number : (x : Slots) (t : ℕ) → Exact (ofAnyType s x t)
+  any-type-number : (ps : List Part) (x : Slots) (t : ℕ) → Exact (ofAnyType s ps x t)
   unfolding ofAnyType
-  any-type-number x t =
+  any-type-number ps x t =
       both Exact (eqb t 1) _ _
       (λ _.
       present-number (countOf x 2) _
-      (scalar-number (embedded (rowsOf scalar) s (startOf x 2) (lenOf x 2)) (sint-small s (startOf x 2) (lenOf x 2))))
+      (scalar-number ps (merged (rowsOf scalar) s ps) (sint-small s ps)))
       (λ _. both Exact (eqb t 2) Va.Object _ (λ _. tt) (λ _. both Exact (eqb t 3) Va.Array bad (λ _. tt) (λ _. tt)))
 
-  any-number : (x : Slots) → Exact (anyOf s x)
+  any-number : (ps : List Part) (x : Slots) → Exact (anyOf s ps x)
   unfolding anyOf
-  any-number x = both Exact (x .good) _ bad (λ _. any-type-number x (low32 (fieldValue x 1))) (λ _. tt)
+  any-number ps x = both Exact (x .good) _ bad (λ _. any-type-number ps x (low32 (fieldValue x 1))) (λ _. tt)
 
   place-number : (p : ArgPlace) → NextExact (ofPlace s p)
-  place-number (ArgPlace.At start len next) = any-number (embedded (rowsOf any) s start len)
+  place-number (ArgPlace.At start len next) = any-number (scalarParts s start len) (embedded (rowsOf any) s start len)
   place-number ArgPlace.End = tt
   place-number ArgPlace.Bad = tt
 
@@ -198,6 +202,7 @@ argument-number s index NotAllThere = tt
 argument-number s index BadLength = tt
 argument-number s index (UnknownType used) = tt
 argument-number s index (BadPayload used kind) = tt
+argument-number s index (BodyTwice used kind) = tt
 argument-number s index (Good used q) =
     let t = take (argsOf q .end) s in
     handed-out-number (getD (argumentsAt t (argsOf q .start)) index (Va.Refused 9))
@@ -226,6 +231,7 @@ as-handed-out s index NotAllThere = refl
 as-handed-out s index BadLength = refl
 as-handed-out s index (UnknownType used) = refl
 as-handed-out s index (BadPayload used kind) = refl
+as-handed-out s index (BodyTwice used kind) = refl
 as-handed-out s index (Good used q) =
     handed-out-again (getD (argumentsAt (take (argsOf q .end) s) (argsOf q .start)) index (Va.Refused 9))
 

@@ -17,7 +17,9 @@ use Rattle.layout.specs.Fields.{useOf, noted, onField, fieldsFrom, hasRequired}
 use Rattle.layout.specs.Slots.{noSlots, badSlots}
 use Rattle.layout.specs.declared.slots.Slots.{Slots}
 use Rattle.layout.specs.declared.fields.Use.{Use}
-use Rattle.layout.specs.Part.{embedded, valueOf}
+use Rattle.layout.specs.declared.part.Part.{Part}
+use Rattle.layout.specs.Part.{valueOf}
+use Rattle.layout.specs.Merged.{endOf, partOnto, partsOnto, merged}
 
 -- ---- a field whose wire type is 0
 
@@ -110,11 +112,23 @@ fields-small (suc most) s at x h =
     (λ next y. fields-small most s next y) h (fieldAt s at) (field-small s at))
     (λ _. h)
 
-pub sint-small : (s : List ℕ) (start len : ℕ) → Small (embedded (rowsOf scalar) s start len)
-sint-small s start len =
-    both Small (leb (start + len) (length s)) _ badSlots
-    (λ _. let t = take (start + len) s in
-    let x = fieldsFrom (length t) (rowsOf scalar) t start noSlots in
-    both Small (hasRequired (rowsOf scalar) (x .count)) x badSlots
-    (λ _. fields-small (length t) t start noSlots (omega arith)) (λ _. omega arith))
+-- in each part of the Scalar, and in all of them
+part-small : (s : List ℕ) (p : Part) (x : Slots) → Small x → Small (partOnto (rowsOf scalar) s p x)
+part-small s p x h =
+    let t = take (endOf p) s in
+    both Small (leb (endOf p) (length s)) _ badSlots (λ _. fields-small (length t) t (p .start) x h)
+    (λ _. omega arith)
+
+parts-small : (s : List ℕ) (ps : List Part) (x : Slots) → Small x → Small (partsOnto (rowsOf scalar) s ps x)
+unfolding partsOnto
+parts-small s [] x h = h
+parts-small s (p ∷ ps) x h =
+    let y = partOnto (rowsOf scalar) s p x in
+    both Small (y .good) (partsOnto (rowsOf scalar) s ps y) badSlots (λ _. parts-small s ps y (part-small s p x h))
+    (λ _. omega arith)
+
+pub sint-small : (s : List ℕ) (ps : List Part) → Small (merged (rowsOf scalar) s ps)
+sint-small s ps =
+    let x = partsOnto (rowsOf scalar) s ps noSlots in
+    both Small (hasRequired (rowsOf scalar) (x .count)) x badSlots (λ _. parts-small s ps noSlots (omega arith))
     (λ _. omega arith)

@@ -10,7 +10,8 @@ use Rattle.message.specs.Padded.{paddedOf}
 use Rattle.message.specs.Request.{noOptional, noPart, kindOf, stmtOf, cursorOf, rowsOf, compactOf, operationOf, bodyOf}
 use Rattle.message.specs.Request.{argsOf}
 use Rattle.message.specs.declared.request.Frame.{Frame}
-use Rattle.message.specs.declared.request.Frame.the-variants.{NotAllThere, BadLength, UnknownType, BadPayload, Good}
+use Rattle.message.specs.declared.request.Frame.the-variants.{NotAllThere, BadLength, UnknownType, BadPayload}
+use Rattle.message.specs.declared.request.Frame.the-variants.{BodyTwice, Good}
 use Rattle.karramotx.specs.declared.told.Args.{Args}
 use Rattle.karramotx.specs.declared.told.Message.{Message}
 
@@ -55,6 +56,7 @@ messageOf NotAllThere = refused Reason.notAllThere 0
 messageOf BadLength = refused Reason.badLength 0
 messageOf (UnknownType used) = refused Reason.unknownType used
 messageOf (BadPayload used kind) = refused Reason.badPayload used
+messageOf (BodyTwice used kind) = refused Reason.bodyTwice used
 messageOf (Good used q) =
     record {
       reason = Reason.accepted;

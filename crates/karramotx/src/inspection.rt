@@ -1,6 +1,6 @@
 // All that a host needs to know of a frame before its step, from one reading.
 ghost use mathlib.Core.Path.{_≡_};
-ghost use Rattle.message.specs.Padded.{whereGood};
+ghost use Rattle.message.specs.Padded.{whereRead};
 ghost use Rattle.session.specs.Words.{sessionOf};
 ghost use Rattle.karramotx.specs.private.Inspected.{inspected};
 use crate::told;
@@ -24,7 +24,7 @@ pub struct Inspection {
 
 // Of a frame that is read already, with what its reading told of padding.
 pub fn inspect(session: &[u32; WORDS], frame: Frame, padded: bool) -> Inspection
-    ensures { λ r. ⌜ r ≡ inspected (sessionOf (now (session .entry))) frame (whereGood frame padded) ⌝ }
+    ensures { λ r. ⌜ r ≡ inspected (sessionOf (now (session .entry))) frame (whereRead frame padded) ⌝ }
 {
     let found = keeper::inspect::inspect(session, frame);
     let mut message = told::message_of(frame);

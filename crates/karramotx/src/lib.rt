@@ -63,10 +63,13 @@ pub extern "C" fn karramotx_read(frame: &[u8]) -> Message
 {
     let mut padded = false;
     let mut m = told::message_of(message::frame::read_frame(frame, &mut padded));
-    if m.reason != reason::ACCEPTED {
+    if m.reason == reason::ACCEPTED {
+        m.padded = padded;
         return m;
     }
-    m.padded = padded;
+    if m.reason == reason::BODY_TWICE {
+        m.padded = padded;
+    }
     m
 }
 

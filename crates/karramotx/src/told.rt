@@ -15,9 +15,9 @@ use message::request::Request;
 use protocol::client;
 use protocol::reason;
 
-// `reason` is 0, or the number by which the frame is refused by itself, and then all else but `used` is 0. `used` is
-// the frame's length, 0 where it is refused 1 or 2. What the message's type does not have is 0 or absent. `padded` says
-// whether a varint read in the frame is padded.
+// `reason` is 0, or the number by which the frame is refused by itself, and then all else but `used`, and for 17
+// `padded`, is 0. `used` is the frame's length, 0 where it is refused 1 or 2. What the message's type does not have is
+// 0 or absent. `padded` says whether a varint read in the frame is padded.
 #[repr(C)]
 pub struct Message {
     pub reason: u64,
@@ -56,6 +56,7 @@ pub fn message_of(frame: Frame) -> Message
         Frame::BadLength => refused(reason::BAD_LENGTH, 0),
         Frame::UnknownType { used } => refused(reason::UNKNOWN_TYPE, used),
         Frame::BadPayload { used, kind: _ } => refused(reason::BAD_PAYLOAD, used),
+        Frame::BodyTwice { used, kind: _ } => refused(reason::BODY_TWICE, used),
         Frame::Good { used, request } => told(used, request),
     }
 }

@@ -5,7 +5,8 @@ use Rattle.prelude.proofs.Basics.{ℕ, _≤_, _<_, arith, le-trans, Bool, true,
 use Rattle.prelude.proofs.Basics.{List, length, eqb, le-ltb, lt-leb, lt-ltb, ne-eqb}
 use Rattle.protocol.specs.Reason as Reason
 use Rattle.message.specs.Frame.{usedOf}
-use Rattle.message.specs.declared.request.Frame.the-variants.{NotAllThere, BadLength, UnknownType, BadPayload, Good}
+use Rattle.message.specs.declared.request.Frame.the-variants.{NotAllThere, BadLength, UnknownType, BadPayload}
+use Rattle.message.specs.declared.request.Frame.the-variants.{BodyTwice, Good}
 use Rattle.rules.specs.Read.{ReadIn}
 use Rattle.rules.specs.Step.{Step, stepSays}
 use Rattle.rules.proofs.ReadLaws.{frames-are-read}
@@ -78,23 +79,22 @@ module _ (s : Session) (x : Frame) (m : ℕ) (r : Report) (b : List ℕ) (read :
       }
 
 module _ (s : Session) (used : ℕ) (r : Report) (b : List ℕ) (room : minBuffer ≤ length b) where
+  by-closed : (c : Bool) (m : ℕ) → eqb m 0 ≡ false →
+      cond (eqb (cond c Reason.closed m) 0) 0 (cond c Reason.closed m) ≡ closedOr c m
+  by-closed true m e = refl
+  by-closed false m e = rw e
+
   unknown-reason : stepReason s (UnknownType used) r ≡ closedOr (isClosed s) Reason.unknownType
   unfolding lookReason reportReason
-  unknown-reason = go (isClosed s)
-    where
-      go : (c : Bool) → cond (eqb (cond c Reason.closed Reason.unknownType) 0) 0
-          (cond c Reason.closed Reason.unknownType) ≡ closedOr c Reason.unknownType
-      go true = refl
-      go false = refl
+  unknown-reason = by-closed (isClosed s) Reason.unknownType refl
 
   payload-reason : (kind : ℕ) → stepReason s (BadPayload used kind) r ≡ closedOr (isClosed s) Reason.badPayload
   unfolding lookReason reportReason
-  payload-reason kind = go (isClosed s)
-    where
-      go : (c : Bool) → cond (eqb (cond c Reason.closed Reason.badPayload) 0) 0
-          (cond c Reason.closed Reason.badPayload) ≡ closedOr c Reason.badPayload
-      go true = refl
-      go false = refl
+  payload-reason kind = by-closed (isClosed s) Reason.badPayload refl
+
+  twice-reason : (kind : ℕ) → stepReason s (BodyTwice used kind) r ≡ closedOr (isClosed s) Reason.bodyTwice
+  unfolding lookReason reportReason
+  twice-reason kind = by-closed (isClosed s) Reason.bodyTwice refl
 
   late-by : (c : Bool) (m : ℕ) → Reason.closed ≤ m → Reason.closed ≤ closedOr c m
   late-by true m h = omega arith
@@ -114,6 +114,13 @@ module _ (s : Session) (used : ℕ) (r : Report) (b : List ℕ) (room : minBuffe
   payload-nameless kind true = refl
   payload-nameless kind false = refl
 
+  twice-nameless : (kind : ℕ) (c : Bool) →
+      Reply.Error (refusalOf (BodyTwice used kind) r (closedOr c Reason.bodyTwice)) ≡ Reply.Error
+      (errorOf (closedOr c Reason.bodyTwice) noNames r)
+  unfolding numberOf kindNamed
+  twice-nameless kind true = refl
+  twice-nameless kind false = refl
+
   pub unknown-refuses : {n : ℕ} {a : Answer} {after : List ℕ} → n ≡ closedOr (isClosed s) Reason.unknownType →
       Answers (refusing used n) (Reply.Error (errorOf n noNames r)) b a after →
       Does (stepOn s (UnknownType used) r b) a s after
@@ -128,6 +135,14 @@ module _ (s : Session) (used : ℕ) (r : Report) (b : List ℕ) (room : minBuffe
   payload-refuses kind {n} {a} {after} e h =
       own-refuses s (BadPayload used kind) Reason.badPayload r b tt (payload-reason kind)
       (late-by (isClosed s) Reason.badPayload (omega arith)) (payload-nameless kind (isClosed s)) room
+      (subst (λ (k : ℕ). Answers (refusing used k) (Reply.Error (errorOf k noNames r)) b a after) e h)
+
+  pub twice-refuses : (kind : ℕ) {n : ℕ} {a : Answer} {after : List ℕ} → n ≡ closedOr (isClosed s) Reason.bodyTwice →
+      Answers (refusing used n) (Reply.Error (errorOf n noNames r)) b a after →
+      Does (stepOn s (BodyTwice used kind) r b) a s after
+  twice-refuses kind {n} {a} {after} e h =
+      own-refuses s (BodyTwice used kind) Reason.bodyTwice r b tt (twice-reason kind)
+      (late-by (isClosed s) Reason.bodyTwice (omega arith)) (twice-nameless kind (isClosed s)) room
       (subst (λ (k : ℕ). Answers (refusing used k) (Reply.Error (errorOf k noNames r)) b a after) e h)
 
 -- ---- what was read

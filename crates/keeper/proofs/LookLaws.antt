@@ -2,7 +2,8 @@
 use Rattle.prelude.proofs.Basics.{ℕ, Bool, true, false, cond, _≡_, refl, sym, ap, _∙_, eqb, eq-eqb, ne-eqb, yes}
 use Rattle.prelude.proofs.Basics.{no as without}
 use Rattle.protocol.specs.Reason as Reason
-use Rattle.message.specs.declared.request.Frame.the-variants.{NotAllThere, BadLength, UnknownType, BadPayload, Good}
+use Rattle.message.specs.declared.request.Frame.the-variants.{NotAllThere, BadLength, UnknownType, BadPayload}
+use Rattle.message.specs.declared.request.Frame.the-variants.{BodyTwice, Good}
 use Rattle.rules.specs.Report.{noWork, toPrepare, toExecute, toOpen, toFetch}
 use Rattle.rules.specs.Decision.{lookBy}
 use Rattle.keeper.proofs.Names.{Execute, Fetch, Open, Optional, Prepare, Request, Session, isClosed, liveCursor}
@@ -38,6 +39,16 @@ module _ (s : Session) where
     where
       go : (c : Bool) → lookRefused (closedOr c Reason.badPayload) ≡ lookBy s (BadPayload used kind)
           (cond c Reason.closed Reason.badPayload)
+      go true = refl
+      go false = refl
+
+  pub twice-look : (used kind : ℕ) {n : ℕ} → n ≡ closedOr (isClosed s) Reason.bodyTwice →
+      lookRefused n ≡ lookOf s (BodyTwice used kind)
+  unfolding lookOf lookReason
+  twice-look used kind e = ap lookRefused e ∙ go (isClosed s)
+    where
+      go : (c : Bool) → lookRefused (closedOr c Reason.bodyTwice) ≡ lookBy s (BodyTwice used kind)
+          (cond c Reason.closed Reason.bodyTwice)
       go true = refl
       go false = refl
 

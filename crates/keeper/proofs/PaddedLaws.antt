@@ -1,40 +1,46 @@
--- From what is decided of a frame to what a look and a step say of its bytes: of one that holds a request what was read
--- in it, and else no. Assumes nothing.
+-- From what is decided of a frame to what a look and a step say of its bytes: of one that holds a request, or a body
+-- twice, what was read in it, and else no. Assumes nothing.
 use Rattle.prelude.proofs.Basics.{ℕ, Bool, false, _≡_, refl, sym, ap, subst, _∙_, List}
 use Rattle.message.specs.Head.{headOf}
-use Rattle.message.specs.Padded.{whereGood, headPadded}
+use Rattle.message.specs.Padded.{whereRead, headPadded}
 use Rattle.message.specs.private.Marks.{Tells}
-use Rattle.message.specs.declared.request.Frame.the-variants.{NotAllThere, BadLength, UnknownType, BadPayload, Good}
+use Rattle.message.specs.declared.request.Frame.the-variants.{NotAllThere, BadLength, UnknownType, BadPayload}
+use Rattle.message.specs.declared.request.Frame.the-variants.{BodyTwice, Good}
 use Rattle.rules.specs.Step.{said, lookSays, answerSays, lookAt}
 use Rattle.rules.proofs.PaddedLaws.{said-none}
 use Rattle.rules.proofs.StepLaws.{step-has}
-use Rattle.keeper.proofs.Names.{frameOf, paddedOf, Frame, Request, Session, lookRefused, lookOf, stepOf, stepOn}
+use Rattle.keeper.proofs.Names.{frameOf, paddedOf, Frame, Session, lookRefused, lookOf, stepOf, stepOn}
 use Rattle.keeper.proofs.Names.{Answer, Look, Report}
 use Rattle.keeper.specs.private.Does.{Does}
 
 -- ---- what was read
 
--- a frame that holds no request says nothing
+-- a frame that is refused before it is read to its end says nothing
 abbrev pub Mute : Frame → Type 0
-Mute x = (padded : Bool) → whereGood x padded ≡ false
+Mute x = (padded : Bool) → whereRead x padded ≡ false
 
 pub mute-says : (s : List ℕ) {x : Frame} → x ≡ frameOf s → Mute x → false ≡ paddedOf s
 unfolding paddedOf
 mute-says s e mute =
-    sym (mute (headPadded s (headOf s))) ∙ ap (λ y. whereGood y (headPadded s (headOf s))) e
+    sym (mute (headPadded s (headOf s))) ∙ ap (λ y. whereRead y (headPadded s (headOf s))) e
 
 -- the flag of a reading, where it counts
 pub flag-says : (s : List ℕ) (x : Frame) (flag : Bool) → x ≡ frameOf s → Tells x flag (paddedOf s) →
-    whereGood x flag ≡ paddedOf s
+    whereRead x flag ≡ paddedOf s
 flag-says s NotAllThere flag e t = mute-says s e (λ _. refl)
 flag-says s BadLength flag e t = mute-says s e (λ _. refl)
 flag-says s (UnknownType used) flag e t = mute-says s e (λ _. refl)
 flag-says s (BadPayload used kind) flag e t = mute-says s e (λ _. refl)
+flag-says s (BodyTwice used kind) flag e t = t
 flag-says s (Good used q) flag e t = t
 
-good-says : (s : List ℕ) {x : Frame} (flag : Bool) {used : ℕ} {q : Request} → x ≡ Good used q →
-    Tells x flag (paddedOf s) → flag ≡ paddedOf s
-good-says s flag f t = subst (λ y. Tells y flag (paddedOf s)) f t
+-- and any other tells
+abbrev pub Telling : Frame → Type 0
+Telling x = (flag padded : Bool) → Tells x flag padded → flag ≡ padded
+
+told-says : (s : List ℕ) {x y : Frame} (flag : Bool) → x ≡ y → Telling y → Tells x flag (paddedOf s) →
+    flag ≡ paddedOf s
+told-says s flag f tell t = tell flag (paddedOf s) (subst (λ z. Tells z flag (paddedOf s)) f t)
 
 -- ---- a look
 
@@ -53,13 +59,12 @@ module _ (s : Session) (frame : List ℕ) {x : Frame} (e : x ≡ frameOf frame) 
       (h ∙ ap (lookOf s) read)
       ∙ ap (λ (b : Bool). lookSays b (lookOf s (frameOf frame))) (mute-says frame read mute)
 
-  pub look-told : {used : ℕ} {q : Request} {b : Bool} {l : Look} (flag : Bool) → x ≡ Good used q → Tells x flag
-      (paddedOf frame) →
-      l ≡ lookOf s (Good used q) → b ≡ said (l .reason) flag →
+  pub look-told : {y : Frame} {b : Bool} {l : Look} (flag : Bool) → x ≡ y → Telling y → Tells x flag (paddedOf frame) →
+      l ≡ lookOf s y → b ≡ said (l .reason) flag →
       lookWith b l ≡ lookAt s frame
   unfolding lookAt
-  look-told {l = l} flag f t g h =
-      ap (λ (p : Bool). lookWith p l) (h ∙ ap (said (l .reason)) (good-says frame flag f t))
+  look-told {l = l} flag f tell t g h =
+      ap (λ (p : Bool). lookWith p l) (h ∙ ap (said (l .reason)) (told-says frame flag f tell t))
       ∙ ap (lookSays (paddedOf frame)) (g ∙ ap (lookOf s) (sym f ∙ e))
 
 -- ---- a step
@@ -99,14 +104,14 @@ module _ (s : Session) (frame : List ℕ) (r : Report) (b : List ℕ) {x : Frame
         replied = h .replied ∙ ap (λ z. stepOn s z r b .buffer) read;
       }
 
-  pub does-told : {used : ℕ} {q : Request} {p : Bool} (flag : Bool) → x ≡ Good used q → Tells x flag (paddedOf frame) →
-      Does (stepOn s (Good used q) r b) a s' after → p ≡ said (a .reason) flag →
+  pub does-told : {y : Frame} {p : Bool} (flag : Bool) → x ≡ y → Telling y → Tells x flag (paddedOf frame) →
+      Does (stepOn s y r b) a s' after → p ≡ said (a .reason) flag →
       Does (stepOf s frame r b) (answerWith p a) s' after
-  does-told flag f t h k =
+  does-told flag f tell t h k =
       let read = sym f ∙ e in
       record {
         answered =
-            ap (λ (v : Bool). answerWith v a) (k ∙ ap (said (a .reason)) (good-says frame flag f t))
+            ap (λ (v : Bool). answerWith v a) (k ∙ ap (said (a .reason)) (told-says frame flag f tell t))
             ∙ ap (answerSays (paddedOf frame)) (h .answered ∙ ap (λ z. stepOn s z r b .answer) read);
         kept = h .kept ∙ ap (λ z. stepOn s z r b .session) read;
         replied = h .replied ∙ ap (λ z. stepOn s z r b .buffer) read;

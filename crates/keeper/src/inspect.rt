@@ -51,6 +51,9 @@ pub fn inspect(words: &[u32; WORDS], frame: Frame) -> Inspected
         Frame::BadPayload { used: _, kind: _ } => {
             refused(refusal::closed_or(words, reason::BAD_PAYLOAD))
         }
+        Frame::BodyTwice { used: _, kind: _ } => {
+            refused(refusal::closed_or(words, reason::BODY_TWICE))
+        }
         Frame::Good { used: _, request } => inspect_at(words, request),
     }
 }

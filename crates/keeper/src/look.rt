@@ -32,6 +32,11 @@ pub fn look(words: &[u32; WORDS], frame: &[u8]) -> Look
         Frame::BadPayload { used: _, kind: _ } => {
             refused(refusal::closed_or(words, reason::BAD_PAYLOAD))
         }
+        Frame::BodyTwice { used: _, kind: _ } => {
+            let mut look = refused(refusal::closed_or(words, reason::BODY_TWICE));
+            look.padded = padded::said(look.reason, padded);
+            look
+        }
         Frame::Good { used: _, request } => {
             let mut look = look_at(words, request);
             look.padded = padded::said(look.reason, padded);

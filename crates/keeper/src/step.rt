@@ -52,6 +52,12 @@ pub fn step(words: &mut [u32; WORDS], frame: &[u8], report: Report, reply: &mut 
             let refusal = refusal::closed_or(words, reason::BAD_PAYLOAD);
             answer::refuse(reply, used, refusal, answer::NO_NAMES, report)
         }
+        Frame::BodyTwice { used, kind: _ } => {
+            let refusal = refusal::closed_or(words, reason::BODY_TWICE);
+            let mut answer = answer::refuse(reply, used, refusal, answer::NO_NAMES, report);
+            answer.padded = padded::said(answer.reason, padded);
+            answer
+        }
         Frame::Good { used, request } => {
             let mut answer = step_on(words, used, request, report, reply);
             answer.padded = padded::said(answer.reason, padded);

@@ -14,7 +14,10 @@ pub mod JointLaws
 pub mod MergedLaws
 pub mod PartsLaws
 pub mod MergeLaws
+pub mod CutLaws
 pub mod KeepsLaws
+pub mod CountedLaws
+pub mod UnreadPartsLaws
 pub mod MergedPlaceLaws
 pub mod MergedSampleLaws
 pub mod PaddedLaws

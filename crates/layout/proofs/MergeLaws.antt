@@ -248,7 +248,7 @@ parts-within k s (suc most) at =
     (field-past s at))
     (λ _. tt)
 
-parts-cut : (rows : List (List ℕ)) (s : List ℕ) (e : ℕ) → e ≤ length s → (ps : List Part) → AllWithin e ps →
+pub parts-cut : (rows : List (List ℕ)) (s : List ℕ) (e : ℕ) → e ≤ length s → (ps : List Part) → AllWithin e ps →
     (x : Slots) → partsOnto rows (take e s) ps x ≡ partsOnto rows s ps x
 unfolding partsOnto AllWithin
 parts-cut rows s e few [] w x = refl
@@ -258,7 +258,7 @@ parts-cut rows s e few (p ∷ ps) w x =
     ∙ ap (λ (y : Slots). cond (partOnto rows s p x .good) y badSlots)
     (parts-cut rows s e few ps (w .1) (partOnto rows s p x))
 
-flags-cut : (s : List ℕ) (e : ℕ) → e ≤ length s → (ps : List Part) → AllWithin e ps →
+pub flags-cut : (s : List ℕ) (e : ℕ) → e ≤ length s → (ps : List Part) → AllWithin e ps →
     partsPadded (take e s) ps ≡ partsPadded s ps
 unfolding partsPadded AllWithin
 flags-cut s e few [] w = refl

@@ -59,7 +59,7 @@ merged-long rows k long s ps =
 abbrev pub movedPart : ℕ → Part → Part
 movedPart d p = record { start = d + p .start; len = p .len }
 
-pub movedParts : ℕ → List Part → List Part
+unfoldable pub movedParts : ℕ → List Part → List Part
 movedParts d [] = []
 movedParts d (p ∷ ps) = movedPart d p ∷ movedParts d ps
 

@@ -1,10 +1,14 @@
 -- Whether a list is padded does not depend on where its bytes stand. Assumes nothing.
-use Rattle.prelude.proofs.Basics.{ℕ, zero, suc, _+_, _-_, _≤_, _<_, arith, Bool, false, _||_, _≡_, refl, sym, ap₂, _∙_}
-use Rattle.prelude.proofs.Basics.{List, length, less-or-not}
+use Rattle.prelude.proofs.Basics.{ℕ, zero, suc, _+_, _-_, _≤_, _<_, arith, Bool, false, _||_, _≡_, refl, sym, ap, ap₂}
+use Rattle.prelude.proofs.Basics.{_∙_}
+use Rattle.prelude.proofs.Basics.{List, [], _∷_, length, less-or-not}
 use Rattle.wire.proofs.MovedFlagLaws.{field-flag-moved}
 use Rattle.layout.proofs.Names.{fieldAt, Field, movedField, field-moved, Stands, Tail, stands-length}
 use Rattle.layout.proofs.Names.{stands-take, tail-length, onward, paddedFrom, nothingInside, listPadded}
-use Rattle.layout.proofs.Names.{paddedTo}
+use Rattle.layout.proofs.Names.{paddedTo, Part}
+use Rattle.layout.specs.Padded.{partPadded, partsPadded}
+use Rattle.layout.proofs.MergeLaws.{AllWithin}
+use Rattle.layout.proofs.MergedPlaceLaws.{movedParts}
 use Rattle.layout.proofs.PaddedLaws.{flag-end, flag-turn, field-ahead, padded-inside}
 
 module _ {s : List ℕ} {d : ℕ} {t : List ℕ} (k : Tail s d t) where
@@ -49,3 +53,16 @@ to-flag-moved {s} {d} {t} {q} k from end h =
     sym (padded-inside s (d + from) (d + end) (omega (arith, stands-length k)))
     ∙ list-flag-moved (stands-take k end h) from
     ∙ padded-inside t from end h
+
+-- of messages embedded in the bytes
+module _ {s : List ℕ} {d : ℕ} {t q : List ℕ} (k : Stands s d t q) where
+  pub part-flag-moved : (at n : ℕ) → at + n ≤ length t → partPadded s (d + at) n ≡ partPadded t at n
+  part-flag-moved at n h =
+      let e : d + at + n ≡ d + (at + n) = omega arith in
+      ap (paddedTo s (d + at)) e ∙ to-flag-moved k at (at + n) h
+
+  pub parts-flag-moved : (ps : List Part) → AllWithin (length t) ps →
+      partsPadded s (movedParts d ps) ≡ partsPadded t ps
+  unfolding partsPadded movedParts AllWithin
+  parts-flag-moved [] w = refl
+  parts-flag-moved (p ∷ ps) w = ap₂ _||_ (part-flag-moved (p .start) (p .len) (w .0)) (parts-flag-moved ps (w .1))

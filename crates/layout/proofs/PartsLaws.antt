@@ -16,7 +16,7 @@ module _ (k : ℕ) (s : List ℕ) where
   parts-end zero p h = refl
   parts-end (suc m) p h = simp (le-ltb p (length s) h)
 
-  by-same : (at : ℕ) (z : Field) → PastField at (length s) z → (f g : ℕ → List Part) →
+  pub by-same : (at : ℕ) (z : Field) → PastField at (length s) z → (f g : ℕ → List Part) →
       ((q : ℕ) → at < q → f q ≡ g q) → partBy k f z ≡ partBy k g z
   by-same at (Field.Good number wire v start n next) h f g e =
       ap

@@ -278,7 +278,7 @@ module _ (s t : List ℕ) (p number value start n next : ℕ)
   tail-behind = record { size = b .size; same = λ i j. b .same i (inr (omega (arith, inside .1))) }
 
   module _ (rows : List (List ℕ)) where
-    from-reached : (most : ℕ) {q : ℕ} (x : Slots) → Reaches s q p →
+    pub from-reached : (most : ℕ) {q : ℕ} (x : Slots) → Reaches s q p →
         fieldsFrom most rows t q x ≡ fieldsFrom most rows s q x
     from-reached zero {q} x r = none-left rows t q x ∙ sym (none-left rows s q x)
     from-reached (suc most) x stays =

@@ -11,4 +11,5 @@ pub mod MergedRules
 pub mod MergedSamples
 pub mod SameBut
 pub mod Reaches
+pub mod Unchosen
 pub mod private

@@ -13,6 +13,10 @@ use Rattle.layout.specs.Fields.{fieldsOnto, checked}
 use Rattle.layout.specs.declared.part.Part.{Part}
 use Rattle.layout.specs.declared.slots.Slots.{Slots}
 
+-- a message in one part
+abbrev pub onePart : ℕ → ℕ → List Part
+onePart start len = record { start = start; len = len } ∷ []
+
 -- the place behind a part
 abbrev pub endOf : Part → ℕ
 endOf p = p .start + p .len

@@ -8,9 +8,7 @@ use lib.Dec.{ltb, leb}
 use Rattle.wire.specs.Field.{fieldAt}
 use Rattle.wire.specs.Padded.{fieldPadded}
 use Rattle.wire.specs.declared.field.Field.{Field}
-use Rattle.layout.specs.Part.{startOf, lenOf}
 use Rattle.layout.specs.declared.part.Part.{Part}
-use Rattle.layout.specs.declared.slots.Slots.{Slots}
 
 -- what is said of the fields behind a good one
 abbrev pub onward : (ℕ → Bool) → Field → Bool
@@ -42,10 +40,6 @@ paddedTo s from end = cond (leb end (length s)) (listPadded (take end s) from) f
 -- the own fields of a message in `len` bytes of s from the place `start` on
 abbrev pub partPadded : List ℕ → ℕ → ℕ → Bool
 partPadded s start len = paddedTo s start (start + len)
-
--- the message in field k of another; one that is not there has no bytes
-abbrev pub slotPadded : List ℕ → Slots → ℕ → Bool
-slotPadded s x k = partPadded s (startOf x k) (lenOf x k)
 
 -- all parts of a message
 unfoldable pub partsPadded : List ℕ → List Part → Bool

@@ -66,7 +66,7 @@ fn once_more(times: u8) -> u8
 }
 
 // The fields of s from `from` on, noted in arrays behind what these hold; answers whether all are good.
-pub(crate) fn list_fields(
+fn list_fields(
     rows: &[[u16; COLUMNS]],
     s: &[u8],
     from: usize,
@@ -91,6 +91,52 @@ pub(crate) fn list_fields(
             len: _,
             next,
         } = wire::field::read_field(s, p, padded)
+        else {
+            return false;
+        };
+        let k = number as usize;
+        match use_of(rows, number, wire, value) {
+            Use::Unknown => {}
+            Use::Counted => {
+                times[k] = once_more(times[k]);
+            }
+            Use::Kept => {
+                times[k] = once_more(times[k]);
+                values[k] = value;
+                starts[k] = start;
+            }
+        }
+        p = next;
+    }
+    true
+}
+
+// The same for parts: with two callers list_fields would not be inlined, and reading a list a fifth slower.
+pub(crate) fn long_list(
+    rows: &[[u16; COLUMNS]],
+    s: &[u8],
+    from: usize,
+    times: &mut [u8; SLOTS],
+    values: &mut [u64; SLOTS],
+    starts: &mut [usize; SLOTS],
+    padded: &mut bool,
+) -> bool
+    ensures listed { λ r. ⌜
+        Adds (fieldsOnto (now (rows .entry)) (now (s .entry)) from) (now (times .entry)) (now (values .entry))
+        (now (starts .entry)) r (now (times .exit)) (now (values .exit)) (now (starts .exit))
+        ⌝ }
+    ensures told { λ r. ⌜ now (padded .exit) ≡ (now (padded .entry) || listPadded (now (s .entry)) from) ⌝ }
+{
+    let mut p = from;
+    while p < s.len() {
+        let Field::Good {
+            number,
+            wire,
+            value,
+            start,
+            len: _,
+            next,
+        } = wire::field::long_field(s, p, padded)
         else {
             return false;
         };

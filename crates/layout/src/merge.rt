@@ -6,7 +6,7 @@ ghost use Rattle.layout.specs.Padded.{partsPadded};
 ghost use Rattle.layout.specs.private.Arrays.{Adds, Holds};
 ghost use Rattle.layout.specs.private.NextPart.{Tells};
 use crate::fields::clear;
-use crate::fields::list_fields;
+use crate::fields::long_list;
 use crate::fields::settle;
 use crate::row::COLUMNS;
 use crate::slots::SLOTS;
@@ -91,7 +91,7 @@ fn is_part(k: u64, number: u64, wire: u64) -> bool
 
 // The next part in field k at or behind a place. The fields between the parts were read before, so that their flag,
 // `unread`, is not looked at; behind a bad one there is no part.
-fn next_part(s: &[u8], at: usize, k: u64) -> NextPart
+pub fn next_part(s: &[u8], at: usize, k: u64) -> NextPart
     ensures { λ r. ⌜ Tells k (now (s .entry)) at r ⌝ }
 {
     let mut unread = false;
@@ -142,7 +142,7 @@ fn list_parts(
             return true;
         };
         let end = start + len;
-        if !list_fields(rows, &s[..end], start, times, values, starts, padded) {
+        if !long_list(rows, &s[..end], start, times, values, starts, padded) {
             return false;
         }
         p = next;

@@ -1,31 +1,30 @@
 -- Frames from the arrays that hold their fields. Assumes nothing.
-use Rattle.prelude.proofs.Basics.{ℕ, _+_, Bool, true, false, not, _≡_, refl, sym, ap, _∙_, List, length, getD, eqb}
-use Rattle.prelude.proofs.Basics.{both, yes, no as without}
+use Rattle.prelude.proofs.Basics.{ℕ, Bool, true, false, not, cond, _≡_, refl, sym, ap, subst, _∙_, List, length, getD}
+use Rattle.prelude.proofs.Basics.{eqb, eqb-true, eqb-false, both, yes, no as without}
 use Rattle.protocol.specs.Client as Client
-use Rattle.layout.specs.private.Arrays.{Holds}
-use Rattle.layout.proofs.ArrayLaws.{held-value, held-start, held-none, held-absent, held-present, bytes-long}
-use Rattle.layout.proofs.ArrayLaws.{bytes-long-to}
-use Rattle.message.proofs.Names.{prepareStmt, openStmt, rowsOf, wireOf, rowFor, fieldsAt, embedded, countOf}
-use Rattle.message.proofs.Names.{absent, valueOf, startOf, lenOf, low32, Slots, held-good, Arguments, payload}
-use Rattle.message.proofs.Names.{ifGood, optionalBy, optionalOf, fetchIn, executeIn, openFrom, openInside}
-use Rattle.message.proofs.Names.{openFrame, prepareFrom, prepareInside, prepareFrame, Execute, Frame, Optional}
-use Rattle.message.proofs.Names.{Request}
+use Rattle.protocol.specs.Fields as Fields
+use Rattle.layout.specs.MergedRules.{holdsBytes}
+use Rattle.layout.proofs.ArrayLaws.{held-value, held-none}
+use Rattle.layout.proofs.CountedLaws.{merged-counted, fields-counted, counted-none, counted-one, Several}
+use Rattle.layout.proofs.CountedLaws.{counted-several}
+use Rattle.message.proofs.Names.{prepareStmt, openStmt, len, rowsOf, wireOf, rowFor, fieldsAt, countOf, valueOf}
+use Rattle.message.proofs.Names.{low32, onePart, partsOf, partsIn, merged, Holds, Counted, Part, Slots}
+use Rattle.message.proofs.Names.{held-good}
+use Rattle.message.proofs.Names.{payload, ifGood, twice, optionalBy, optionalOf, fetchIn, executesGood, openBy}
+use Rattle.message.proofs.Names.{openInside, openParts, openFrame, bodiesGood, prepareBy, prepareInside}
+use Rattle.message.proofs.Names.{stmtParts, prepareFrame, Inner, Chosen, Frame, Optional, Request}
 use Rattle.message.specs.Operation as Operation
 use Rattle.message.specs.Payload.{optional}
-use Rattle.message.specs.Prepare.{bodyIn, prepareChosen, prepareTyped}
-use Rattle.message.proofs.MessageLaws.{payload-bad, payload-good, neither, first-only, both-hold}
+use Rattle.message.specs.Prepare.{prepareTyped}
+use Rattle.message.specs.private.Parts.{Whole, chosenBy, chosenOf, ofChosen, Chooses, innerBy, innerOf, ofInner}
+use Rattle.message.specs.private.Parts.{Runs}
+use Rattle.message.proofs.MessageLaws.{payload-bad, payload-good}
 
 -- an optional field
 optional-held : {x : Slots} {g : Bool} {v w u : List ℕ} → Holds x g v w u → (k : ℕ) →
     optional (getD v k 0) (getD w k 0) ≡ optionalOf x k
 optional-held {x} {w = w} h k =
     ap (λ (b : Bool). optionalBy (not b) (getD w k 0)) (held-none h k) ∙ ap (optional (countOf x k)) (held-value h k)
-
--- a message of bytes: its place and length, whatever is made of them
-pub part-held : {A : Type 0} {x : Slots} {g : Bool} {v w u : List ℕ} → Holds x g v w u → (k : ℕ) →
-    lenOf x k ≡ valueOf x k → (f : ℕ → ℕ → A) → f (getD u k 0) (getD w k 0) ≡ f (startOf x k) (lenOf x k)
-part-held {x = x} {w = w} h k long f =
-    ap (λ (p : ℕ). f p (getD w k 0)) (held-start h k) ∙ ap (f (startOf x k)) (held-value h k ∙ sym long)
 
 -- Deallocate and Close have an id in field 1
 module _ (s : List ℕ) (kind : ℕ) (q : ℕ → Request) {x : Slots} {g : Bool} {v w u : List ℕ} (h : Holds x g v w u) where
@@ -53,136 +52,155 @@ module _ (s : List ℕ) {x : Slots} {g : Bool} {v w u : List ℕ} (h : Holds x g
       ∙ ap (λ (o : Optional). Frame.Good (length s) (asking (valueOf x 1) o)) (optional-held h 2)
       ∙ payload-good s Client.fetch (asking (valueOf x 1) (optionalOf x 2)) (held-good h e)
 
--- Open, by its statement and whole
-module _ (s : List ℕ) (id : ℕ) (rows : Optional) (at n : ℕ) {g : Bool} {v w u : List ℕ}
-    (h : Holds (embedded (rowsOf openStmt) s at n) g v w u) where
-  abbrev stmt : Slots
-  stmt = embedded (rowsOf openStmt) s at n
+-- ---- an Open
 
-  abbrev opening : Frame
-  opening =
-      openFrom s id rows (record { start = startOf stmt 2; len = lenOf stmt 2 })
-      (executeIn s (startOf stmt 2) (lenOf stmt 2))
+-- its Execute, by how often it occurs
+module _ (s : List ℕ) (id : ℕ) (rows : Optional) where
+  execute-several : {es : List Part} → Several es →
+      twice (length s) Client.open' (executesGood s es) ≡ openBy s id rows es
+  execute-several {es} v =
+      subst (λ (l : List Part). twice (length s) Client.open' (executesGood s l) ≡ openBy s id rows l) (sym (v .are))
+      refl
 
-  abbrev unopened : Frame
-  unopened = Frame.BadPayload (length s) Client.open'
+  module _ (ps : List Part) {times start value : ℕ}
+      (c : Counted (partsIn Fields.openExecute s ps) times start value) where
+    inner-by : ofInner s ps id rows (innerBy times value start) ≡ openBy s id rows (partsIn Fields.openExecute s ps)
+    inner-by = go (eqb times 0) refl (eqb times 1) refl
+      where
+        go : (a : Bool) → eqb times 0 ≡ a → (b : Bool) → eqb times 1 ≡ b →
+            ofInner s ps id rows (cond a Inner.Bad (cond b (Inner.At start value) Inner.Twice))
+            ≡ openBy s id rows (partsIn Fields.openExecute s ps)
+        go true e b f = ap (openBy s id rows) (sym (counted-none c (eqb-true times 0 e)))
+        go false e true f = ap (openBy s id rows) (sym (counted-one c (eqb-true times 1 f)))
+        go false e false f =
+            execute-several (counted-several c (eqb-false times 0 e) (eqb-false times 1 f))
 
-  pub run-long : lenOf stmt 2 ≡ valueOf stmt 2
-  unfolding rowsOf rowFor
-  run-long = bytes-long-to (rowsOf openStmt) 2 refl s at (at + n)
+execute-row : (holdsBytes (rowsOf openStmt) 2 ≡ true) × (wireOf (rowFor (rowsOf openStmt) 2) ≡ len)
+unfolding rowsOf rowFor
+execute-row = (refl, refl)
 
-  pub open-spoiled : g ≡ false → Frame.BadPayload (length s) Client.open' ≡ openInside s id rows at n
-  open-spoiled e = neither opening unopened (not (absent stmt 2)) (held-good h e)
+-- by its statement in these parts
+module _ (s : List ℕ) (ps : List Part) {g : Bool} {v w u : List ℕ} (h : Holds (merged (rowsOf openStmt) s ps) g v w u)
+  where
+    abbrev unopened : Frame
+    unopened = Frame.BadPayload (length s) Client.open'
 
-  pub open-without : g ≡ true → getD v 2 0 ≡ 0 → Frame.BadPayload (length s) Client.open' ≡ openInside s id rows at n
-  open-without e f = first-only opening unopened (held-good h e) (ap not (held-absent h 2 f))
+    pub open-spoiled : g ≡ false → Runs s ps Inner.Bad
+    open-spoiled e id rows = without _ unopened (held-good h e)
 
-  pub open-held : g ≡ true → (getD v 2 0 ≡ 0 → ⊥) → (x : Execute) → x ≡ executeIn s (getD u 2 0) (getD w 2 0) →
-      openFrom s id rows (record { start = getD u 2 0; len = getD w 2 0 }) x ≡ openInside s id rows at n
-  open-held t f x is =
-      ap (openFrom s id rows (record { start = getD u 2 0; len = getD w 2 0 })) is
-      ∙ part-held h 2 run-long (λ p q. openFrom s id rows (record { start = p; len = q }) (executeIn s p q))
-      ∙ both-hold opening unopened (held-good h t) (ap not (held-present h 2 f))
+    pub inner-counted : g ≡ true → Counted (partsIn 2 s ps) (getD v 2 0) (getD u 2 0) (getD w 2 0)
+    inner-counted e = merged-counted (rowsOf openStmt) 2 (execute-row .0) (execute-row .1) s ps h e
 
+    pub open-held : g ≡ true → Runs s ps (innerOf v w u)
+    open-held e id rows =
+        inner-by s id rows ps (inner-counted e)
+        ∙ yes (openBy s id rows (partsIn Fields.openExecute s ps)) unopened (held-good h e)
+
+stmt-row : (holdsBytes (rowsOf Client.open') 4 ≡ true) × (wireOf (rowFor (rowsOf Client.open') 4) ≡ len)
+    × (holdsBytes (rowsOf Client.prepare) 2 ≡ true) × (wireOf (rowFor (rowsOf Client.prepare) 2) ≡ len)
+unfolding rowsOf rowFor
+stmt-row = (refl, refl, refl, refl)
+
+-- whole
 module _ (s : List ℕ) {g : Bool} {v w u : List ℕ} (h : Holds (fieldsAt (rowsOf Client.open') s payload) g v w u) where
   abbrev opened : Slots
   opened = fieldsAt (rowsOf Client.open') s payload
 
-  pub opened-long : lenOf opened 4 ≡ valueOf opened 4
-  unfolding rowsOf rowFor
-  opened-long = bytes-long (rowsOf Client.open') 4 refl s payload
-
   abbrev inside : Frame
-  inside = openInside s (valueOf opened 1) (optionalOf opened 5) (startOf opened 4) (lenOf opened 4)
+  inside = openInside s (valueOf opened 1) (optionalOf opened 5) (openParts s)
 
   pub open-refused : g ≡ false → Frame.BadPayload (length s) Client.open' ≡ openFrame s
   unfolding openFrame
   open-refused e = without inside (Frame.BadPayload (length s) Client.open') (held-good h e)
 
   pub open-whole : g ≡ true →
-      openInside s (getD w 1 0) (optional (getD v 5 0) (getD w 5 0)) (getD u 4 0) (getD w 4 0) ≡ openFrame s
+      openInside s (getD w 1 0) (optional (getD v 5 0) (getD w 5 0)) (openParts s) ≡ openFrame s
   unfolding openFrame
   open-whole e =
-      ap (λ (i : ℕ). openInside s i (optional (getD v 5 0) (getD w 5 0)) (getD u 4 0) (getD w 4 0)) (held-value h 1)
-      ∙ ap (λ (o : Optional). openInside s (valueOf opened 1) o (getD u 4 0) (getD w 4 0)) (optional-held h 5)
-      ∙ part-held h 4 opened-long (openInside s (valueOf opened 1) (optionalOf opened 5))
+      ap (λ (i : ℕ). openInside s i (optional (getD v 5 0) (getD w 5 0)) (openParts s)) (held-value h 1)
+      ∙ ap (λ (o : Optional). openInside s (valueOf opened 1) o (openParts s)) (optional-held h 5)
       ∙ yes inside (Frame.BadPayload (length s) Client.open') (held-good h e)
 
--- Prepare, by its statement and whole
-chosen-wire : (t : ℕ) → wireOf (rowFor (rowsOf prepareStmt) (Operation.fieldOf t)) ≡ 2
+  pub open-once : g ≡ true → Whole Fields.openStmt s (eqb (getD v 4 0) 1) (getD u 4 0) (getD w 4 0)
+  open-once e f =
+      counted-one (fields-counted (rowsOf Client.open') 4 (stmt-row .0) (stmt-row .1) s payload h e)
+      (eqb-true (getD v 4 0) 1 f)
+
+-- ---- a Prepare
+
+-- its chosen body, by how often it occurs
+module _ (s : List ℕ) (id operation : ℕ) where
+  body-several : {bs : List Part} → Several bs →
+      twice (length s) Client.prepare (bodiesGood s operation bs) ≡ prepareBy s id operation bs
+  body-several {bs} v =
+      subst
+      (λ (l : List Part). twice (length s) Client.prepare (bodiesGood s operation l) ≡ prepareBy s id operation l)
+      (sym (v .are)) refl
+
+  module _ (ps : List Part) {times start value : ℕ}
+      (c : Counted (partsIn (Operation.fieldOf operation) s ps) times start value) where
+    chosen-by : ofChosen s ps id (chosenBy operation times value start)
+        ≡ prepareBy s id operation (partsIn (Operation.fieldOf operation) s ps)
+    chosen-by = go (eqb times 0) refl (eqb times 1) refl
+      where
+        go : (a : Bool) → eqb times 0 ≡ a → (b : Bool) → eqb times 1 ≡ b →
+            ofChosen s ps id
+            (cond a Chosen.Bad (cond b (Chosen.Body operation start value) (Chosen.Twice operation)))
+            ≡ prepareBy s id operation (partsIn (Operation.fieldOf operation) s ps)
+        go true e b f = ap (prepareBy s id operation) (sym (counted-none c (eqb-true times 0 e)))
+        go false e true f = ap (prepareBy s id operation) (sym (counted-one c (eqb-true times 1 f)))
+        go false e false f =
+            body-several (counted-several c (eqb-false times 0 e) (eqb-false times 1 f))
+
+body-row : (t : ℕ) →
+    (holdsBytes (rowsOf prepareStmt) (Operation.fieldOf t) ≡ true)
+    × (wireOf (rowFor (rowsOf prepareStmt) (Operation.fieldOf t)) ≡ len)
 unfolding rowsOf rowFor
-chosen-wire t =
-    both P (eqb t Operation.find) 2 _ (λ _. refl)
-    (λ _. both P (eqb t Operation.insert) 3 _ (λ _. refl)
-    (λ _. both P (eqb t Operation.update) 4 _ (λ _. refl)
-    (λ _. both P (eqb t Operation.delete) 5 6 (λ _. refl) (λ _. refl))))
+body-row t =
+    both P (eqb t Operation.find) 2 _ (λ _. (refl, refl))
+    (λ _. both P (eqb t Operation.insert) 3 _ (λ _. (refl, refl))
+    (λ _. both P (eqb t Operation.update) 4 _ (λ _. (refl, refl))
+    (λ _. both P (eqb t Operation.delete) 5 6 (λ _. (refl, refl)) (λ _. (refl, refl)))))
   where
     P : ℕ → Type 0
-    P k = wireOf (rowFor (rowsOf prepareStmt) k) ≡ 2
+    P k = (holdsBytes (rowsOf prepareStmt) k ≡ true) × (wireOf (rowFor (rowsOf prepareStmt) k) ≡ len)
 
-module _ (s : List ℕ) (id at n : ℕ) {g : Bool} {v w u : List ℕ}
-    (h : Holds (embedded (rowsOf prepareStmt) s at n) g v w u) where
-  abbrev text : Slots
-  text = embedded (rowsOf prepareStmt) s at n
-
-  abbrev body-at : ℕ → ℕ → Frame
-  body-at t k =
-      prepareFrom s id t (record { start = startOf text k; len = lenOf text k })
-      (bodyIn s t (startOf text k) (lenOf text k))
-
+-- by its statement in these parts
+module _ (s : List ℕ) (ps : List Part) {g : Bool} {v w u : List ℕ}
+    (h : Holds (merged (rowsOf prepareStmt) s ps) g v w u) where
   abbrev unprepared : Frame
   unprepared = Frame.BadPayload (length s) Client.prepare
 
-  pub prepare-spoiled : g ≡ false → Frame.BadPayload (length s) Client.prepare ≡ prepareInside s id at n
-  prepare-spoiled e =
-      let t = low32 (valueOf text 1) in
-      neither (body-at t (Operation.fieldOf t)) unprepared (not (absent text (Operation.fieldOf t))) (held-good h e)
+  pub prepare-spoiled : g ≡ false → Chooses s ps Chosen.Bad
+  prepare-spoiled e id = without _ unprepared (held-good h e)
 
-  module _ (e : g ≡ true) (k : ℕ) (is : k ≡ Operation.fieldOf (low32 (getD w 1 0))) where
-    typed : prepareChosen s id text (low32 (getD w 1 0)) k ≡ prepareInside s id at n
-    typed =
-        ap (prepareChosen s id text (low32 (getD w 1 0))) is
-        ∙ ap (λ (i : ℕ). prepareTyped s id text (low32 i)) (held-value h 1)
+  pub prepare-held : g ≡ true → Chooses s ps (chosenOf v w u)
+  prepare-held e id =
+      let t = low32 (getD w 1 0) in
+      chosen-by s id t ps
+      (merged-counted (rowsOf prepareStmt) (Operation.fieldOf t) (body-row t .0) (body-row t .1) s ps h e)
+      ∙ ap (λ (n : ℕ). prepareTyped s id ps (low32 n)) (held-value h 1)
+      ∙ yes (prepareTyped s id ps (low32 (valueOf (merged (rowsOf prepareStmt) s ps) 1))) unprepared (held-good h e)
 
-    body-long : lenOf text k ≡ valueOf text k
-    body-long =
-        bytes-long-to (rowsOf prepareStmt) k
-        (ap (λ (j : ℕ). wireOf (rowFor (rowsOf prepareStmt) j)) is ∙ chosen-wire (low32 (getD w 1 0)))
-        s at (at + n)
-
-    pub prepare-without : getD v k 0 ≡ 0 → Frame.BadPayload (length s) Client.prepare ≡ prepareInside s id at n
-    prepare-without f =
-        first-only (body-at (low32 (getD w 1 0)) k) unprepared (held-good h e) (ap not (held-absent h k f)) ∙ typed
-
-    pub prepare-held : (getD v k 0 ≡ 0 → ⊥) → (b : Arguments) →
-        b ≡ bodyIn s (low32 (getD w 1 0)) (getD u k 0) (getD w k 0) →
-        prepareFrom s id (low32 (getD w 1 0)) (record { start = getD u k 0; len = getD w k 0 }) b
-        ≡ prepareInside s id at n
-    prepare-held f b bs =
-        let t = low32 (getD w 1 0) in
-        ap (prepareFrom s id t (record { start = getD u k 0; len = getD w k 0 })) bs
-        ∙ part-held h k body-long (λ p q. prepareFrom s id t (record { start = p; len = q }) (bodyIn s t p q))
-        ∙ both-hold (body-at t k) unprepared (held-good h e) (ap not (held-present h k f))
-        ∙ typed
-
+-- whole
 module _ (s : List ℕ) {g : Bool} {v w u : List ℕ} (h : Holds (fieldsAt (rowsOf Client.prepare) s payload) g v w u) where
   abbrev prepared : Slots
   prepared = fieldsAt (rowsOf Client.prepare) s payload
 
-  pub prepared-long : lenOf prepared 2 ≡ valueOf prepared 2
-  unfolding rowsOf rowFor
-  prepared-long = bytes-long (rowsOf Client.prepare) 2 refl s payload
-
   abbrev within : Frame
-  within = prepareInside s (valueOf prepared 1) (startOf prepared 2) (lenOf prepared 2)
+  within = prepareInside s (valueOf prepared 1) (stmtParts s)
 
   pub prepare-refused : g ≡ false → Frame.BadPayload (length s) Client.prepare ≡ prepareFrame s
   unfolding prepareFrame
   prepare-refused e = without within (Frame.BadPayload (length s) Client.prepare) (held-good h e)
 
-  pub prepare-whole : g ≡ true → prepareInside s (getD w 1 0) (getD u 2 0) (getD w 2 0) ≡ prepareFrame s
+  pub prepare-whole : g ≡ true → prepareInside s (getD w 1 0) (stmtParts s) ≡ prepareFrame s
   unfolding prepareFrame
   prepare-whole e =
-      ap (λ (i : ℕ). prepareInside s i (getD u 2 0) (getD w 2 0)) (held-value h 1)
-      ∙ part-held h 2 prepared-long (prepareInside s (valueOf prepared 1))
+      ap (λ (i : ℕ). prepareInside s i (stmtParts s)) (held-value h 1)
       ∙ yes within (Frame.BadPayload (length s) Client.prepare) (held-good h e)
+
+  pub prepare-once : g ≡ true → Whole Fields.prepareStmt s (eqb (getD v 2 0) 1) (getD u 2 0) (getD w 2 0)
+  prepare-once e f =
+      counted-one (fields-counted (rowsOf Client.prepare) 2 (stmt-row .2) (stmt-row .3) s payload h e)
+      (eqb-true (getD v 2 0) 1 f)

@@ -85,6 +85,7 @@ module _ (s behind : List ℕ) where
   argument-behind index Frame.BadLength w h = refl
   argument-behind index (Frame.UnknownType used) w h = refl
   argument-behind index (Frame.BadPayload used kind) w h = refl
+  argument-behind index (Frame.BodyTwice used kind) w h = refl
   argument-behind index (Frame.Good used q) w h =
       ap (λ (l : List ℕ). nthArgument l (argsOf q .start) index)
       (take-append-le (argsOf q .end) s behind (omega (arith, w .args)))

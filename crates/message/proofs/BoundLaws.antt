@@ -9,9 +9,8 @@ use Rattle.args.proofs.BoundLaws.{bound-lost, found-arguments, lost-arguments}
 use Rattle.message.proofs.Names.{stmtExecute, rowsOf, rowFor, hasRequired, embedded, valueOf, low32, Slots}
 use Rattle.message.proofs.Names.{good-list, noArguments, badArguments, argumentsIn, Arguments, told, bound-found}
 use Rattle.message.proofs.Names.{optionalBy, optionalOf, truthOf, badExecute, argumentsWithin, executeOf}
-use Rattle.message.proofs.Names.{executeIn, Execute, Optional}
+use Rattle.message.proofs.Names.{executeIn, bodyIn, Execute, Optional}
 use Rattle.message.specs.Operation as Operation
-use Rattle.message.specs.Prepare.{bodyIn}
 use Rattle.message.proofs.MessageLaws.{within-there, execute-bad, execute-worse, execute-good, body-stmt-bad}
 use Rattle.message.proofs.MessageLaws.{body-stmt}
 

@@ -1,7 +1,7 @@
 -- The id that stands first, with a field behind it: what a message's rows make of them, and a Fetch and a Prepare of
 -- them. Assumes nothing.
-use Rattle.prelude.proofs.Basics.{ℕ, _+_, _-_, _/_, _%_, _≤_, _<_, arith, true, _≡_, refl, sym, ap, _∙_, List, length}
-use Rattle.prelude.proofs.Basics.{getD}
+use Rattle.prelude.proofs.Basics.{ℕ, _+_, _-_, _/_, _%_, _≤_, _<_, arith, Bool, true, false, _&&_, cond, _≡_}
+use Rattle.prelude.proofs.Basics.{refl, sym, ap, _∙_, List, _∷_, length, getD, eqb, eq-eqb}
 use Rattle.protocol.specs.Client as Client
 use Rattle.wire.specs.Value.{asNumber}
 use Rattle.wire.specs.Field.{fieldOf}
@@ -10,10 +10,11 @@ use Rattle.wire.proofs.PastLaws.{field-past}
 use Rattle.wire.proofs.LongLaws.{LongField, field-long}
 use Rattle.layout.specs.Fields.{useOf}
 use Rattle.layout.proofs.FieldsLaws.{starts}
+use Rattle.layout.proofs.PartsLaws.{parts-end, parts-on}
 use Rattle.message.proofs.Names.{varintAt, Varint, ofVarint, asLength, ofValue, fieldAt, Field, Value}
 use Rattle.message.proofs.Names.{quick-wire, rowsOf, rowFor, noSlots, noted, checked, hasRequired, Use, Slots}
-use Rattle.message.proofs.Names.{Listing, ends, goes-on, payload, fetchIn, fetchFrame, prepareInside}
-use Rattle.message.proofs.Names.{prepareFrame}
+use Rattle.message.proofs.Names.{onePart, partsOf, Part, Listing, ends, goes-on, payload, fetchIn, fetchFrame}
+use Rattle.message.proofs.Names.{prepareInside, stmtParts, prepareFrame}
 use Rattle.message.specs.Prepare.{prepareOf}
 use Rattle.message.specs.private.First.{idTag, Starts}
 use Rattle.message.specs.private.Parts.{fetchOf}
@@ -77,6 +78,20 @@ module _ {s : List ℕ} {tag id next : ℕ} (b : Starts s tag id next) (rows : L
       goes-on (goes-on (starts rows s payload) (omega (arith, before, b .inside)) (b .one) Use.Kept one) (b .inside) f
       Use.Kept two
 
+-- behind the id, the parts in the field that follows it
+pub first-part : {s : List ℕ} {tag id next : ℕ} (b : Starts s tag id next) (k : ℕ) {v start n end : ℕ} →
+    fieldAt s (b .end) ≡ Field.Good k 2 v start n end → eqb 1 k ≡ false →
+    partsOf k s payload ≡ record { start = start; len = n } ∷ partsOf k s end
+first-part {s} b k {v} {start} {n} {end} f other =
+    parts-on k s payload (b .there) _ (b .one)
+    ∙ ap
+    (λ (c : Bool).
+    cond (c && false) (record { start = payload + 1; len = b .len } ∷ partsOf k s (b .end)) (partsOf k s (b .end)))
+    other
+    ∙ parts-on k s (b .end) (b .inside) _ f
+    ∙ ap (λ (c : Bool). cond (c && true) (record { start = start; len = n } ∷ partsOf k s end) (partsOf k s end))
+    (eq-eqb k k refl)
+
 -- ---- the messages of both and no more
 
 module _ {s : List ℕ} {id next v end : ℕ} (past : length s ≤ end) where
@@ -91,8 +106,15 @@ module _ {s : List ℕ} {id next v end : ℕ} (past : length s ≤ end) where
       past)
 
   pub prepare-found : {start len : ℕ} → Starts s 18 id next → asLength s next ≡ Value.Good v start len end →
-      prepareInside s id start len ≡ prepareFrame s
+      prepareInside s id (stmtParts s) ≡ prepareFrame s
   unfolding prepareFrame rowsOf rowFor hasRequired
   prepare-found b f =
       ap (λ (x : Slots). prepareOf s (checked (rowsOf Client.prepare) x))
       (ends (two-listed b (rowsOf Client.prepare) (bytes-behind b (omega arith) (omega arith) refl f) refl refl) past)
+
+  -- and its statement stands there once
+  pub stmt-found : {start len : ℕ} → Starts s 18 id next → asLength s next ≡ Value.Good v start len end →
+      stmtParts s ≡ onePart start len
+  stmt-found {start} {len} b f =
+      first-part b 2 (bytes-behind b (omega arith) (omega arith) refl f) refl
+      ∙ ap (λ (ps : List Part). record { start = start; len = len } ∷ ps) (parts-end 2 s (length s) end past)

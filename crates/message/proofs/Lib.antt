@@ -8,8 +8,9 @@ pub mod FirstLaws
 pub mod BoundLaws
 pub mod BehindLaws
 pub mod UnchosenLaws
+pub mod TwiceLaws
 pub mod OuterLaws
 pub mod OneFieldLaws
-pub mod NestedLaws
 pub mod PaddedLaws
+pub mod PairedLaws
 pub mod PaddedSampleLaws

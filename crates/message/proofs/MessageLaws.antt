@@ -1,12 +1,11 @@
 -- Frames, case by case. Assumes nothing.
-use Rattle.prelude.proofs.Basics.{ℕ, _+_, _≤_, _<_, Bool, true, false, _&&_, cond, _≡_, ap, _∙_, List, [], length, take}
+use Rattle.prelude.proofs.Basics.{ℕ, _+_, _≤_, _<_, Bool, true, false, cond, _≡_, ap, _∙_, List, [], length, take}
 use Rattle.prelude.proofs.Basics.{eq-eqb, le-leb, lt-leb, ne-eqb, yes, no as without}
 use Rattle.protocol.specs.Client as Client
 use Rattle.message.proofs.Names.{stmtExecute, rowsOf, embedded, valueOf, low32, Slots, noArguments, badArguments}
 use Rattle.message.proofs.Names.{argumentsIn, Arguments, ifGood, optionalOf, truthOf, badExecute}
-use Rattle.message.proofs.Names.{argumentsWithin, executeOf, frameIn, Execute, Frame, Optional, Request}
+use Rattle.message.proofs.Names.{argumentsWithin, executeOf, bodyIn, frameIn, Execute, Frame, Optional, Request}
 use Rattle.message.specs.Operation as Operation
-use Rattle.message.specs.Prepare.{bodyIn}
 
 -- a payload that is good or not
 module _ (s : List ℕ) (kind : ℕ) (q : Request) {good : Bool} where
@@ -15,17 +14,6 @@ module _ (s : List ℕ) (kind : ℕ) (q : Request) {good : Bool} where
 
   pub payload-good : good ≡ true → Frame.Good (length s) q ≡ ifGood s kind good q
   payload-good e = yes (Frame.Good (length s) q) (Frame.BadPayload (length s) kind) e
-
--- two tests
-module _ {A : Type 0} (x y : A) {a : Bool} where
-  pub neither : (b : Bool) → a ≡ false → y ≡ cond (a && b) x y
-  neither b e = without x y (ap (λ (t : Bool). t && b) e)
-
-  pub first-only : {b : Bool} → a ≡ true → b ≡ false → y ≡ cond (a && b) x y
-  first-only {b} e f = without x y (ap (λ (t : Bool). t && b) e ∙ f)
-
-  pub both-hold : {b : Bool} → a ≡ true → b ≡ true → x ≡ cond (a && b) x y
-  both-hold {b} e f = yes x y (ap (λ (t : Bool). t && b) e ∙ f)
 
 pub truth-no : (o : Optional) → o .value ≡ 0 → o ≡ truthOf o
 truth-no o h = rw (eq-eqb (o .value) 0 h) (rw (← h))

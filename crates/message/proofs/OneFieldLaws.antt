@@ -1,27 +1,28 @@
 -- Bytes in which one argument reads alike mean the same message. Assumes nothing.
-use Rattle.prelude.proofs.Basics.{ℕ, _+_, _-_, _≤_, _<_, arith, Bool, true, false, not, _&&_, cond, _≡_, refl, sym, ap}
-use Rattle.prelude.proofs.Basics.{ap₂, subst, _∙_, _⊎_, inl, inr, ⊎-elim, List, [], length, getD, take, length-take-le}
-use Rattle.prelude.proofs.Basics.{eqb, leb, eq-eqb, leb-true, both}
+use Rattle.prelude.proofs.Basics.{ℕ, _+_, _-_, _≤_, _<_, arith, Bool, true, false, cond, _≡_, refl, sym, ap}
+use Rattle.prelude.proofs.Basics.{ap₂, subst, _∙_, _⊎_, inl, inr, ⊎-elim, List, [], _∷_, length, take, length-take-le}
+use Rattle.prelude.proofs.Basics.{eqb, leb, leb-true, both}
 use Rattle.protocol.specs.Client as Client
 use Rattle.protocol.specs.Reason as Reason
+use Rattle.layout.specs.Unchosen.{InnerPart, Every, Unread}
+use Rattle.layout.proofs.UnreadPartsLaws.{every-part, part-in, same-wider, inner-every, inner-unread}
 use Rattle.args.specs.UnreadRules.{OneField}
 use Rattle.args.proofs.ArgumentsLaws.{together-kept}
 use Rattle.args.proofs.UnreadLaws.{one-inside, one-cut, cut-start, one-embedded, one-list}
-use Rattle.message.proofs.Names.{Argument, prepareStmt, stmtExecute, openStmt, len, rowsOf, rowFor, fieldsAt}
-use Rattle.message.proofs.Names.{hasRequired, embedded, absent, valueOf, startOf, lenOf, endIn, low32, Slots}
-use Rattle.message.proofs.Names.{argumentsAt, noArguments, badArguments, together, typeIn, Arguments, same-wider}
-use Rattle.message.proofs.Names.{take-size, headOf, argsOf, payload, optionalOf, resetFrame, sessionCloseFrame}
-use Rattle.message.proofs.Names.{deallocateFrame, closeFrame, fetchFrame, argumentsWithin, executeIn}
-use Rattle.message.proofs.Names.{executeFrame, openFrame, prepareFrame, frameIn, ofHead, frameOf, usedOf}
-use Rattle.message.proofs.Names.{PartsInside, prepareIn, stmtIn, Head, Execute, Frame, Request}
+use Rattle.message.proofs.Names.{Argument, stmtExecute, openStmt, rowsOf, fieldsAt, embedded, valueOf, low32}
+use Rattle.message.proofs.Names.{endOf, partsOf, partsIn, merged, Part, Slots, argumentsAt, noArguments}
+use Rattle.message.proofs.Names.{badArguments, together, typeIn, Arguments, take-size, headOf, argsOf, payload}
+use Rattle.message.proofs.Names.{twice, optionalOf, resetFrame, sessionCloseFrame, deallocateFrame, closeFrame}
+use Rattle.message.proofs.Names.{fetchFrame, argumentsWithin, executeIn, executeFrame, executesGood, openBy}
+use Rattle.message.proofs.Names.{openParts, executeParts, openFrame, bodyIn, bodiesGood, prepareBy, stmtParts}
+use Rattle.message.proofs.Names.{prepareFrame, frameIn, ofHead, frameOf, usedOf, PartsInside, stmtIn, Head}
+use Rattle.message.proofs.Names.{Execute, Frame, Request}
 use Rattle.message.specs.Operation as Operation
-use Rattle.message.specs.Prepare.{bodyIn}
 use Rattle.message.specs.UnreadRules.{ArgumentUnread}
 use Rattle.message.proofs.WithinLaws.{execute-good-inv, every-frame, frame-within}
 use Rattle.message.proofs.UsedLaws.{uses-all}
 use Rattle.message.proofs.BehindLaws.{head-same}
-use Rattle.message.proofs.UnchosenLaws.{chosen, bodyBy, shape, frame-shape, body-row, stmt-row, stmt-there}
-use Rattle.message.proofs.NestedLaws.{Bytes, required-there, payload-before, same-outer, same-inner}
+use Rattle.message.proofs.UnchosenLaws.{shape, prepareIn, frame-shape, same-frame}
 
 -- ---- arguments in n bytes from a place on
 
@@ -91,10 +92,10 @@ frame-inv true true false n kind used p q e = absurd (let z : _≡_ {A = ℕ} 0 
 frame-inv true false c n kind used p q e = absurd (let z : _≡_ {A = ℕ} 0 1 = cc in omega arith)
 frame-inv false b c n kind used p q e = absurd (let z : _≡_ {A = ℕ} 0 1 = cc in omega arith)
 
-there-inv : (a b : Bool) → (a && not b) ≡ true → (a ≡ true) × (b ≡ false)
-there-inv true true e = absurd (let z : _≡_ {A = ℕ} 0 1 = cc in omega arith)
-there-inv true false e = (refl, refl)
-there-inv false b e = absurd (let z : _≡_ {A = ℕ} 0 1 = cc in omega arith)
+-- a body that stands twice gives no request
+twice-inv : (b : Bool) (n kind used : ℕ) (q : Request) → twice n kind b ≡ Frame.Good used q → ⊥
+twice-inv true n kind used q e = let z : _≡_ {A = ℕ} 0 1 = cc in omega arith
+twice-inv false n kind used q e = let z : _≡_ {A = ℕ} 0 1 = cc in omega arith
 
 module _ (f g : List ℕ) where
   one-as : {a b a′ b′ : ℕ} → a ≡ a′ → b ≡ b′ → OneField f g a b → OneField f g a′ b′
@@ -135,143 +136,165 @@ module _ (f g : List ℕ) where
         omega (arith, at, one-inside o .0),
       )
 
+-- ---- a part inside a part of the payload
+
+-- the only part in field k of the parts in field f
+module _ (f k : ℕ) (s : List ℕ) where
+  record InnerOf (q : Part) : Type 0 where
+    part : Part
+    is : InnerPart f k s payload part q
+
+  inner-parts : Every InnerOf (partsIn k s (partsOf f s payload))
+  inner-parts =
+      inner-every InnerOf k s (partsOf f s payload)
+      (every-part f s payload (λ p. Every InnerOf (partsOf k (take (endOf p) s) (p .start)))
+      (λ p a.
+      every-part k (take (endOf p) s) (p .start) InnerOf
+      (λ q b. record { part = p; is = record { outer = a; inner = b } })))
+
+  only-part : {q : Part} → partsIn k s (partsOf f s payload) ≡ q ∷ [] → InnerOf q
+  unfolding Every
+  only-part e = subst (Every InnerOf) e inner-parts .0
+
+  -- where it lies, and what other bytes in it leave as it is
+  module _ (t : List ℕ) (q : Part) (o : OneField s t (q .start) (endOf q))
+      (e : partsIn k s (partsOf f s payload) ≡ q ∷ []) where
+    only-in : payload < o .start
+    only-in =
+        let i = only-part e in
+        omega (arith, part-in (i .is .outer) .0, part-in (i .is .inner) .0, one-inside o .0)
+
+    only-unread : Unread f k s t payload q
+    only-unread =
+        let i = one-inside o in
+        inner-unread f k s t payload (only-part e .part) q (only-part e .is)
+        (same-wider (o .same) (q .start) (endOf q) (omega (arith, i .0)) (i .1))
+
 -- ---- an Open
 
 abbrev openIn : List ℕ → Slots
 openIn s = fieldsAt (rowsOf Client.open') s payload
 
-abbrev openStmtIn : List ℕ → Slots
-openStmtIn s = embedded (rowsOf openStmt) s (startOf (openIn s) 4) (lenOf (openIn s) 4)
+unfoldable openShape : ℕ → Slots → Bool → Frame → Frame
+openShape n x good body =
+    cond (x .good) (cond good body (Frame.BadPayload n Client.open')) (Frame.BadPayload n Client.open')
 
-abbrev executeBy : List ℕ → Slots → Execute
-executeBy s y = executeIn s (startOf y 2) (lenOf y 2)
+abbrev opensBy : List ℕ → Slots → List Part → Frame
+opensBy s x es = openBy s (valueOf x 1) (optionalOf x 5) es
 
-openShape : ℕ → Slots → Slots → Execute → Frame
-openShape n x y e =
-    cond (x .good)
-    (cond (y .good && not (absent y 2))
-    (cond (e .args .good)
-    (Frame.Good n
-    (Request.Open
-    (record {
-      cursor = low32 (valueOf x 1);
-      rows = optionalOf x 5;
-      body = record { start = startOf y 2; len = lenOf y 2 };
-      execute = e;
-    })))
-    (Frame.BadPayload n Client.open'))
-    (Frame.BadPayload n Client.open'))
-    (Frame.BadPayload n Client.open')
-
-open-shape : (s : List ℕ) → openFrame s ≡ openShape (length s) (openIn s) (openStmtIn s) (executeBy s (openStmtIn s))
+open-shape : (s : List ℕ) →
+    openFrame s
+    ≡ openShape (length s) (openIn s) (merged (rowsOf openStmt) s (openParts s) .good)
+    (opensBy s (openIn s) (executeParts s))
 unfolding openFrame openShape
 open-shape s = refl
 
-four-needed : (count : List ℕ) → hasRequired (rowsOf Client.open') count ≡ true → getD count 4 0 ≡ 0 → ⊥
-unfolding rowsOf hasRequired
-four-needed count e z = go (not (eqb (getD count 1 0) 0)) (rw (eq-eqb (getD count 4 0) 0 z) at e)
-  where
-    go : (b : Bool) → cond b false false ≡ true → ⊥
-    go true f = let y : _≡_ {A = ℕ} 0 1 = cc in omega arith
-    go false f = let y : _≡_ {A = ℕ} 0 1 = cc in omega arith
+-- the body of a good frame
+body-inv : (a b : Bool) (n kind used : ℕ) (p : Frame) (q : Request) →
+    cond a (cond b p (Frame.BadPayload n kind)) (Frame.BadPayload n kind) ≡ Frame.Good used q → p ≡ Frame.Good used q
+body-inv true true n kind used p q e = e
+body-inv true false n kind used p q e = absurd (let z : _≡_ {A = ℕ} 0 1 = cc in omega arith)
+body-inv false b n kind used p q e = absurd (let z : _≡_ {A = ℕ} 0 1 = cc in omega arith)
 
-open-rows : Bytes (rowsOf Client.open') 4 × Bytes (rowsOf openStmt) 2
-unfolding rowsOf rowFor
-open-rows = ((refl, refl), (refl, refl))
+module _ (f g : List ℕ) where
+  -- the Executes of f, which stand there once
+  open-by : (es : List Part) → executeParts f ≡ es → (used : ℕ) (q : Request) →
+      opensBy f (openIn f) es ≡ Frame.Good used q → (o : OneField f g (argsOf q .start) (argsOf q .end)) →
+      (openFrame g ≡ openFrame f) × (payload < o .start)
+  unfolding one-as
+  open-by [] is used q e o = absurd (let z : _≡_ {A = ℕ} 0 1 = cc in omega arith)
+  open-by (r ∷ (s ∷ es)) is used q e o =
+      absurd (twice-inv (executesGood f (r ∷ (s ∷ es))) (length f) Client.open' used q e)
+  open-by (r ∷ []) is used q e o =
+      let a = executeIn f (r .start) (r .len) in
+      let inv = frame-inv true true (a .args .good) (length f) Client.open' used _ q e in
+      let args = ap argsOf (sym (inv .3)) in
+      let place = execute-place f (r .start) (r .len) (inv .2) in
+      let at = ap (λ (b : Arguments). b .start) args ∙ place .0 in
+      let o′ = one-as f g at (ap (λ (b : Arguments). b .end) args ∙ place .1) o in
+      let u = only-unread 4 2 f g r o′ is in
+      let x = openIn f in (
+        open-shape g
+            ∙ ap
+            (λ (z : Slots).
+            openShape (length g) z (merged (rowsOf openStmt) g (openParts g) .good) (opensBy g z (executeParts g)))
+            (u .own (rowsOf Client.open'))
+            ∙ ap (λ (y : Slots). openShape (length g) x (y .good) (opensBy g x (executeParts g)))
+            (ap (merged (rowsOf openStmt) g) (u .parts 4) ∙ u .fields (rowsOf openStmt))
+            ∙ ap (λ (es : List Part). openShape (length g) x (stmtGood f) (opensBy g x es))
+            (ap (partsIn 2 g) (u .parts 4) ∙ u .inner 2 ∙ is)
+            ∙ ap₂ (λ (n : ℕ) (y : Execute). openShape n x (stmtGood f) (opened n x r y)) (o .same .size)
+            (one-execute f g (r .start) (r .len) o′)
+            ∙ ap (λ (es : List Part). openShape (length f) x (stmtGood f) (opensBy f x es)) (sym is)
+            ∙ sym (open-shape f),
+        only-in 4 2 f g r o′ is,
+      )
+    where
+      stmtGood : List ℕ → Bool
+      stmtGood l = merged (rowsOf openStmt) l (openParts l) .good
 
-open-one : (f g : List ℕ) → Same f g (openFrame f) (openFrame g)
-unfolding openShape
-open-one f g used q e o =
-    let x = openIn f in
-    let y = openStmtIn f in
-    let a = executeBy f y in
-    let two = y .good && not (absent y 2) in
-    let inv =
-    frame-inv (x .good) two (a .args .good) (length f) Client.open' used _ q (sym (open-shape f) ∙ e) in
-    let stmt = there-inv (y .good) (absent y 2) (inv .1) in
-    let args = ap argsOf (sym (inv .3)) in
-    let place = execute-place f (startOf y 2) (lenOf y 2) (inv .2) in
-    let at = ap (λ (b : Arguments). b .start) args ∙ place .0 in
-    let o′ = one-as f g at (ap (λ (b : Arguments). b .end) args ∙ place .1) o in
-    let i = one-inside o′ in
-    let wide = same-wider (o′ .same) (startOf y 2) (endIn y 2) (omega arith) (omega arith) in
-    let there = required-there (rowsOf Client.open') 4 four-needed f (inv .0) in
-    let rows = open-rows in
-    let p = rowsOf Client.open' in
-    let r = rowsOf openStmt in (
-      open-shape g
-          ∙ ap (λ (z : Slots). openShape (length g) z (openStmtIn g) (executeBy g (openStmtIn g)))
-          (same-outer p r 4 2 (rows .0) (rows .1) f (inv .0) there (stmt .0) (stmt .1) g wide)
-          ∙ ap (λ (z : Slots). openShape (length g) x z (executeBy g z))
-          (same-inner p r 4 2 (rows .0) (rows .1) f (inv .0) there (stmt .0) (stmt .1) g wide)
-          ∙ ap (openShape (length g) x y) (one-execute f g (startOf y 2) (lenOf y 2) o′)
-          ∙ ap (λ (n : ℕ). openShape n x y a) (o .same .size)
-          ∙ sym (open-shape f),
-      omega (
-        arith,
-        at,
-        one-inside o .0,
-        payload-before p r 4 2 (rows .0) (rows .1) f (inv .0) there (stmt .0) (stmt .1),
-      ),
-    )
+      opened : ℕ → Slots → Part → Execute → Frame
+      opened n x body y =
+          cond (y .args .good)
+          (Frame.Good n
+          (Request.Open
+          (record { cursor = low32 (valueOf x 1); rows = optionalOf x 5; body = body; execute = y })))
+          (Frame.BadPayload n Client.open')
+
+  open-one : Same f g (openFrame f) (openFrame g)
+  unfolding openShape
+  open-one used q e o =
+      open-by (executeParts f) refl used q
+      (body-inv (openIn f .good) (merged (rowsOf openStmt) f (openParts f) .good) (length f) Client.open' used _ q
+      (sym (open-shape f) ∙ e))
+      o
 
 -- ---- a Prepare
 
-chosen-row : (t : ℕ) → Bytes (rowsOf prepareStmt) (Operation.fieldOf t)
-chosen-row t =
-    both P (eqb t Operation.find) _ _ (λ _. row 2 (omega arith) (omega arith))
-    (λ _.
-    both P (eqb t Operation.insert) _ _ (λ _. row 3 (omega arith) (omega arith))
-    (λ _.
-    both P (eqb t Operation.update) _ _ (λ _. row 4 (omega arith) (omega arith))
-    (λ _.
-    both P (eqb t Operation.delete) _ _ (λ _. row 5 (omega arith) (omega arith))
-    (λ _. row 6 (omega arith) (omega arith)))))
-  where
-    P : ℕ → Type 0
-    P k = Bytes (rowsOf prepareStmt) k
+module _ (f g : List ℕ) where
+  -- the bodies of f, one of which stands there
+  prepare-by : (bs : List Part) →
+      partsIn (Operation.fieldOf (typeIn (stmtIn f))) f (stmtParts f) ≡ bs → (used : ℕ) (q : Request) →
+      prepareBy f (valueOf (prepareIn f) 1) (typeIn (stmtIn f)) bs ≡ Frame.Good used q →
+      (o : OneField f g (argsOf q .start) (argsOf q .end)) →
+      (prepareFrame g ≡ prepareFrame f) × (payload < o .start)
+  unfolding one-as
+  prepare-by [] is used q e o = absurd (let z : _≡_ {A = ℕ} 0 1 = cc in omega arith)
+  prepare-by (r ∷ (s ∷ bs)) is used q e o =
+      absurd (twice-inv (bodiesGood f (typeIn (stmtIn f)) (r ∷ (s ∷ bs))) (length f) Client.prepare used q e)
+  prepare-by (r ∷ []) is used q e o =
+      let t = typeIn (stmtIn f) in
+      let k = Operation.fieldOf t in
+      let id = valueOf (prepareIn f) 1 in
+      let a = bodyIn f t (r .start) (r .len) in
+      let inv = frame-inv true true (a .good) (length f) Client.prepare used _ q e in
+      let args = ap argsOf (sym (inv .3)) in
+      ⊎-elim
+      (λ place.
+      let at = ap (λ (b : Arguments). b .start) args ∙ place .0 in
+      let o′ = one-as f g at (ap (λ (b : Arguments). b .end) args ∙ place .1) o in
+      let u = only-unread 2 k f g r o′ is in (
+        same-frame u (o .same .size)
+            (ap (prepareBy g id t) is
+            ∙ ap₂ (λ (n : ℕ) (b : Arguments). prepared n id t r b) (o .same .size)
+            (one-body f g (r .start) (r .len) o′ t)
+            ∙ ap (prepareBy f id t) (sym is)),
+        only-in 2 k f g r o′ is,
+      ))
+      (λ z. absurd (no-one f g o (ap (λ (b : Arguments). b .end) args ∙ z)))
+      (body-place f t (r .start) (r .len) (inv .2))
+    where
+      prepared : ℕ → ℕ → ℕ → Part → Arguments → Frame
+      prepared n id t body b =
+          cond (b .good)
+          (Frame.Good n (Request.Prepare (record { stmt = low32 id; operation = t; body = body; args = b })))
+          (Frame.BadPayload n Client.prepare)
 
-    row : (k : ℕ) → 2 ≤ k → k ≤ 6 → Bytes (rowsOf prepareStmt) k
-    row = body-row
-
-prepare-one : (f g : List ℕ) → Same f g (prepareFrame f) (prepareFrame g)
-unfolding shape
-prepare-one f g used q e o =
-    let x = prepareIn f in
-    let y = stmtIn f in
-    let k = chosen y in
-    let a = bodyBy f y in
-    let two = y .good && not (absent y k) in
-    let inv = frame-inv (x .good) two (a .good) (length f) Client.prepare used _ q (sym (frame-shape f) ∙ e) in
-    let stmt = there-inv (y .good) (absent y k) (inv .1) in
-    let args = ap argsOf (sym (inv .3)) in
-    let row = chosen-row (typeIn y) in
-    let there = stmt-there f (inv .0) in
-    let p = rowsOf Client.prepare in
-    let r = rowsOf prepareStmt in
-    ⊎-elim
-    (λ place.
-    let at = ap (λ (b : Arguments). b .start) args ∙ place .0 in
-    let o′ = one-as f g at (ap (λ (b : Arguments). b .end) args ∙ place .1) o in
-    let i = one-inside o′ in
-    let wide = same-wider (o′ .same) (startOf y k) (endIn y k) (omega arith) (omega arith) in (
-      frame-shape g
-          ∙ ap (λ (z : Slots). shape (length g) z (stmtIn g) (bodyBy g (stmtIn g)))
-          (same-outer p r 2 k stmt-row row f (inv .0) there (stmt .0) (stmt .1) g wide)
-          ∙ ap (λ (z : Slots). shape (length g) x z (bodyBy g z))
-          (same-inner p r 2 k stmt-row row f (inv .0) there (stmt .0) (stmt .1) g wide)
-          ∙ ap (shape (length g) x y) (one-body f g (startOf y k) (lenOf y k) o′ (typeIn y))
-          ∙ ap (λ (n : ℕ). shape n x y a) (o .same .size)
-          ∙ sym (frame-shape f),
-      omega (
-        arith,
-        at,
-        one-inside o .0,
-        payload-before p r 2 k stmt-row row f (inv .0) there (stmt .0) (stmt .1),
-      ),
-    ))
-    (λ z. absurd (no-one f g o (ap (λ (b : Arguments). b .end) args ∙ z)))
-    (body-place f (typeIn y) (startOf y k) (lenOf y k) (inv .2))
+  prepare-one : Same f g (prepareFrame f) (prepareFrame g)
+  unfolding shape
+  prepare-one used q e o =
+      prepare-by (partsIn (Operation.fieldOf (typeIn (stmtIn f))) f (stmtParts f)) refl used q
+      (body-inv (prepareIn f .good) (stmtIn f .good) (length f) Client.prepare used _ q (sym (frame-shape f) ∙ e)) o
 
 -- ---- every frame
 
@@ -323,7 +346,7 @@ head-one : (s t : List ℕ) (used : ℕ) (q : Request) (h : Head) → headOf s �
     OneField s t (argsOf q .start) (argsOf q .end) → ofHead t (headOf t) ≡ ofHead s h
 head-one s t used q (Head.Frame kind end) e g o =
     let within = frame-within s (sym e) in
-    let w = every-frame (take end s) PartsInside (λ _. tt) tt (λ r i. i) kind in
+    let w = every-frame (take end s) PartsInside (λ _. tt) (λ _. tt) tt (λ r i. i) kind in
     let i = subst PartsInside g w in
     let u = sym (ap usedOf g) ∙ uses-all (take end s) kind ∙ length-take-le end s within in
     let cut : argsOf q .end ≤ end = omega (arith, i .args) in

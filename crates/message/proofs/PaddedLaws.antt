@@ -1,28 +1,29 @@
 -- Whether a message is padded, by what its readers find. Assumes nothing.
-use Rattle.prelude.proofs.Basics.{ℕ, _+_, _%_, _≤_, _<_, arith, Bool, true, false, _||_, _≡_, refl, sym, ap, ap₂, _∙_}
-use Rattle.prelude.proofs.Basics.{List, length, getD, take-length, eqb, both, or-assoc, or-false, or-same, or-then}
+use Rattle.prelude.proofs.Basics.{ℕ, _+_, _%_, _≤_, _<_, arith, Bool, true, false, _||_, cond, _≡_, refl, sym, ap}
+use Rattle.prelude.proofs.Basics.{subst, _∙_, List, length, getD, take-length, eqb, eqb-true, both, or-false, or-same}
+use Rattle.prelude.proofs.Basics.{or-then}
 use Rattle.protocol.specs.Client as Client
 use Rattle.protocol.specs.Reason as Reason
 use Rattle.wire.specs.Padded.{valuePadded}
 use Rattle.wire.proofs.PaddedLaws.{quick-flag}
-use Rattle.layout.specs.Padded.{listPadded, paddedTo, nothingInside, partPadded, slotPadded}
-use Rattle.layout.specs.private.Arrays.{Holds}
+use Rattle.layout.specs.Padded.{listPadded, paddedTo, nothingInside}
+use Rattle.layout.proofs.CountedLaws.{counted-one}
 use Rattle.layout.proofs.PaddedLaws.{Marking, marks, marks-on, marked, padded-inside}
 use Rattle.args.specs.private.Pair.{pairPadded}
 use Rattle.args.proofs.PaddedLaws.{pair-absorbed}
 use Rattle.message.proofs.Names.{varintAt, paddedAt, Varint, ofVarint, asLength, fieldAt, fieldPadded, Field}
-use Rattle.message.proofs.Names.{Value, prepareStmt, openStmt, rowsOf, rowFor, checked, fieldsAt, hasRequired}
-use Rattle.message.proofs.Names.{embedded, Slots, ends, executePadded, headOf, payload, frameIn, frameOf}
-use Rattle.message.proofs.Names.{ownPadded, openExecutePadded, kindPadded, headPadded, paddedOf, Inner, Chosen}
-use Rattle.message.proofs.Names.{Frame}
+use Rattle.message.proofs.Names.{Value, prepareStmt, openStmt, rowsOf, onePart, partsIn, partsPadded, Counted}
+use Rattle.message.proofs.Names.{Part, Slots, one-part, one-flag, executePadded, headOf, payload, frameIn}
+use Rattle.message.proofs.Names.{frameOf}
+use Rattle.message.proofs.Names.{ownPadded, executesPadded, openStmtPadded, kindPadded, headPadded, paddedOf}
+use Rattle.message.proofs.Names.{Inner, Chosen, Frame, twice}
 use Rattle.message.specs.Frame.{refusedHead}
-use Rattle.message.specs.Padded.{preparePadded, openStmtPadded, openPadded, whereGood}
+use Rattle.message.specs.Padded.{whereRead}
 use Rattle.message.specs.private.First.{idTag, Starts}
-use Rattle.message.specs.private.Marks.{Tells, TellsChosen, TellsInner}
-use Rattle.message.specs.private.Outer.{Opens}
-use Rattle.message.proofs.ArrayLaws.{part-held, run-long, opened-long, prepared-long}
+use Rattle.message.specs.private.Marks.{Tells, Reads, TellsChosen, TellsInner}
+use Rattle.message.specs.private.Parts.{innerBy}
 use Rattle.message.proofs.OuterLaws.{rows-field}
-use Rattle.message.proofs.FirstLaws.{number-behind, bytes-behind, two-listed}
+use Rattle.message.proofs.FirstLaws.{number-behind, bytes-behind}
 
 -- ---- a frame that holds a request
 
@@ -31,6 +32,7 @@ tells-as Frame.NotAllThere flag e t = tt
 tells-as Frame.BadLength flag e t = tt
 tells-as (Frame.UnknownType used) flag e t = tt
 tells-as (Frame.BadPayload used kind) flag e t = tt
+tells-as (Frame.BodyTwice used kind) flag e t = t ∙ e
 tells-as (Frame.Good used q) flag e t = t ∙ e
 
 -- by the type that a frame was read as
@@ -44,7 +46,17 @@ tells Frame.NotAllThere e = tt
 tells Frame.BadLength e = tt
 tells (Frame.UnknownType used) e = tt
 tells (Frame.BadPayload used kind) e = tt
+tells (Frame.BodyTwice used kind) e = e
 tells (Frame.Good used q) e = e
+
+-- of a body twice, where it is good
+pub tells-twice : (r : Frame) (used kind : ℕ) (good : Bool) {flag p : Bool} → r ≡ twice used kind good →
+    (good ≡ true → flag ≡ p) → Tells r flag p
+tells-twice r used kind good {flag} {p} e h = subst (λ (x : Frame). Tells x flag p) (sym e) (go good h)
+  where
+    go : (b : Bool) → (b ≡ true → flag ≡ p) → Tells (twice used kind b) flag p
+    go true h = h refl
+    go false h = tt
 
 pub refused-tells : (reason : ℕ) (flag p : Bool) → Tells (refusedHead reason) flag p
 refused-tells reason flag p =
@@ -58,7 +70,9 @@ frame-tells s Frame.NotAllThere flag f e t = tt
 frame-tells s Frame.BadLength flag f e t = tt
 frame-tells s (Frame.UnknownType used) flag f e t = tt
 frame-tells s (Frame.BadPayload used kind) flag f e t = tt
-frame-tells s (Frame.Good used q) flag f e t = t ∙ e ∙ ap (λ (x : Frame). whereGood x (headPadded s (headOf s))) f
+frame-tells s (Frame.BodyTwice used kind) flag f e t =
+    t ∙ e ∙ ap (λ (x : Frame). whereRead x (headPadded s (headOf s))) f
+frame-tells s (Frame.Good used q) flag f e t = t ∙ e ∙ ap (λ (x : Frame). whereRead x (headPadded s (headOf s))) f
 
 -- ---- own fields
 
@@ -103,74 +117,71 @@ fetch-flag {next = next} past b f p q =
     past
 
 -- the short way of a Prepare: its statement stands in field 2
-module _ {s : List ℕ} {id next v start len end : ℕ} (past : length s ≤ end) (b : Starts s 18 id next)
-    (f : asLength s next ≡ Value.Good v start len end) where
-  stmt-slot : partPadded s start len ≡ slotPadded s (fieldsAt (rowsOf Client.prepare) s payload) 2
-  unfolding rowsOf rowFor hasRequired
-  stmt-slot =
-      ap (λ (x : Slots). slotPadded s (checked (rowsOf Client.prepare) x) 2)
-      (ends (two-listed b (rowsOf Client.prepare) (bytes-behind b (omega arith) (omega arith) refl f) refl refl) past)
+pub prepare-flag : {s : List ℕ} {id next v start len end : ℕ} → length s ≤ end → (b : Starts s 18 id next) →
+    asLength s next ≡ Value.Good v start len end → {one two : Bool} → one ≡ (false || paddedAt s (payload + 1)) →
+    two ≡ (one || paddedAt s next) → two ≡ ownPadded s
+prepare-flag past b f p q =
+    marked {before = false}
+    (behind-second b (omega arith) (omega arith) 2 refl (omega arith) refl
+    (bytes-behind b (omega arith) (omega arith) refl f) p q)
+    past
 
-  pub prepare-flag : {one two : Bool} → one ≡ (false || paddedAt s (payload + 1)) → two ≡ (one || paddedAt s next) →
-      (two || partPadded s start len) ≡ preparePadded s (fieldsAt (rowsOf Client.prepare) s payload)
-  prepare-flag p q =
-      ap₂ _||_
-      (marked {before = false}
-      (behind-second b (omega arith) (omega arith) 2 refl (omega arith) refl
-      (bytes-behind b (omega arith) (omega arith) refl f) p q)
-      past)
-      stmt-slot
+-- ---- statements
 
--- ---- by the arrays
+-- an Execute that stands once, behind the statement's own fields
+pub execute-flag : (s : List ℕ) (ps : List Part) {start len : ℕ} → partsIn 2 s ps ≡ onePart start len →
+    (partsPadded s ps || executePadded s start len) ≡ openStmtPadded s ps
+unfolding openStmtPadded executesPadded
+execute-flag s ps {start} {len} e =
+    or-same (partsPadded s ps) (or-false (executePadded s start len) ∙ ap (executesPadded s) (sym e))
 
--- a Prepare's statement, and an Open's
-pub stmt-held : (s : List ℕ) {g : Bool} {v w u : List ℕ} →
-    Holds (fieldsAt (rowsOf Client.prepare) s payload) g v w u → {flag : Bool} → flag ≡ (false || ownPadded s) →
-    (flag || partPadded s (getD u 2 0) (getD w 2 0)) ≡ preparePadded s (fieldsAt (rowsOf Client.prepare) s payload)
-stmt-held s h e = ap₂ _||_ e (part-held h 2 (prepared-long s h) (partPadded s))
+pub executes-flag : (s : List ℕ) (ps : List Part) →
+    (partsPadded s ps || executesPadded s (partsIn 2 s ps)) ≡ openStmtPadded s ps
+unfolding openStmtPadded
+executes-flag s ps = refl
 
-pub opening-held : (s : List ℕ) {g : Bool} {v w u : List ℕ} →
-    Holds (fieldsAt (rowsOf Client.open') s payload) g v w u → {flag : Bool} → flag ≡ (false || ownPadded s) →
-    (flag || openStmtPadded s (getD u 4 0) (getD w 4 0)) ≡ openPadded s (fieldsAt (rowsOf Client.open') s payload)
-opening-held s h e = ap₂ _||_ e (part-held h 4 (opened-long s h) (openStmtPadded s))
-
--- the Execute of an Open's statement
+-- what the pair read of a good statement counts once
 module _ (s : List ℕ) (at n : ℕ) where
-  -- its own fields, and then the Execute
-  pub inner-flag : (before : Bool) {flag p : Bool} → flag ≡ (before || partPadded s at n) →
-      p ≡ openExecutePadded s (embedded (rowsOf openStmt) s at n) → (flag || p) ≡ (before || openStmtPadded s at n)
-  unfolding openStmtPadded
-  inner-flag before e f =
-      ap₂ _||_ e f ∙ or-assoc before (partPadded s at n) (openExecutePadded s (embedded (rowsOf openStmt) s at n))
-
-  pub inner-held : {g : Bool} {v w u : List ℕ} → Holds (embedded (rowsOf openStmt) s at n) g v w u →
-      executePadded s (getD u 2 0) (getD w 2 0) ≡ openExecutePadded s (embedded (rowsOf openStmt) s at n)
-  inner-held h = part-held h 2 (run-long s 0 (record { present = false; value = 0 }) at n h) (executePadded s)
-
-  -- what the pair read of a good statement counts once
-  again : (rows : List (List ℕ)) → embedded rows s at n .good ≡ true → (before : Bool) → {mid flag : Bool} →
-      mid ≡ (before || pairPadded s at n) → flag ≡ (mid || partPadded s at n) → flag ≡ (before || partPadded s at n)
-  again rows good before p q =
-      or-then before (pairPadded s at n) (partPadded s at n) p q (pair-absorbed s at n rows good)
+  again : (rows : List (List ℕ)) (before : Bool) {mid flag : Bool} → mid ≡ (before || pairPadded s at n) →
+      Reads rows s (onePart at n) mid flag → Reads rows s (onePart at n) before flag
+  again rows before p (q, good) = (
+    or-then before (pairPadded s at n) (partsPadded s (onePart at n)) p q
+        (ap (λ (b : Bool). pairPadded s at n || b) (sym (one-flag s at n))
+        ∙ pair-absorbed s at n rows
+        (ap (λ (x : Slots). x .good) (sym (one-part rows s (record { start = at; len = n }))) ∙ good)
+        ∙ one-flag s at n),
+    good,
+  )
 
   pub chosen-again : (r : Chosen) (before mid flag : Bool) → mid ≡ (before || pairPadded s at n) →
-      TellsChosen s at n r mid flag → TellsChosen s at n r before flag
-  chosen-again (Chosen.Body operation start len) before mid flag p (q, good) =
-      (again (rowsOf prepareStmt) good before p q, good)
+      TellsChosen s (onePart at n) r mid flag → TellsChosen s (onePart at n) r before flag
+  chosen-again (Chosen.Body operation start len) before mid flag p q = again (rowsOf prepareStmt) before p q
+  chosen-again (Chosen.Twice operation) before mid flag p q = again (rowsOf prepareStmt) before p q
   chosen-again Chosen.Bad before mid flag p q = tt
 
   pub inner-again : (r : Inner) (before mid flag : Bool) → mid ≡ (before || pairPadded s at n) →
-      TellsInner s at n r mid flag → TellsInner s at n r before flag
-  unfolding openStmtPadded
-  inner-again (Inner.At start len) before mid flag p (q, good) =
-      let inside = openExecutePadded s (embedded (rowsOf openStmt) s at n) in (
-        q
-            ∙ sym (or-assoc mid (partPadded s at n) inside)
-            ∙ ap (λ (b : Bool). b || inside) (again (rowsOf openStmt) good before p refl)
-            ∙ or-assoc before (partPadded s at n) inside,
-        good,
-      )
+      TellsInner s (onePart at n) r mid flag → TellsInner s (onePart at n) r before flag
+  inner-again (Inner.At start len) before mid flag p (q, one) = (again (rowsOf openStmt) before p q, one)
+  inner-again Inner.Twice before mid flag p q = again (rowsOf openStmt) before p q
   inner-again Inner.Bad before mid flag p q = tt
+
+-- the flag of what the arrays of a good statement choose
+pub chosen-tells : (s : List ℕ) (ps : List Part) (r : Chosen) (before flag : Bool) →
+    Reads (rowsOf prepareStmt) s ps before flag → TellsChosen s ps r before flag
+chosen-tells s ps (Chosen.Body operation start len) before flag h = h
+chosen-tells s ps (Chosen.Twice operation) before flag h = h
+chosen-tells s ps Chosen.Bad before flag h = tt
+
+pub inner-tells : (s : List ℕ) (ps : List Part) (times value start : ℕ) → Counted (partsIn 2 s ps) times start value →
+    (before flag : Bool) → Reads (rowsOf openStmt) s ps before flag →
+    TellsInner s ps (innerBy times value start) before flag
+inner-tells s ps times value start c before flag h = go (eqb times 0) (eqb times 1) refl
+  where
+    go : (a b : Bool) → eqb times 1 ≡ b →
+        TellsInner s ps (cond a Inner.Bad (cond b (Inner.At start value) Inner.Twice)) before flag
+    go true b e = tt
+    go false true e = (h, counted-one c (eqb-true times 1 e))
+    go false false e = h
 
 -- ---- an Open's own fields
 
@@ -194,10 +205,3 @@ module _ {s : List ℕ} {id behind v start len next : ℕ} (b : Starts s 34 id b
       (r ∙ or-same two (quick-flag s next 40 more (sym at) (omega arith) 0 (omega arith) refl (omega arith)))
       (or-false three))
       past
-
--- where the fields were found, they are the whole
-pub outer-flag : (s : List ℕ) {id start len rows : ℕ} {has : Bool} →
-    Opens (fieldsAt (rowsOf Client.open') s payload) id start len has rows → {flag : Bool} →
-    flag ≡ (false || ownPadded s) →
-    (flag || openStmtPadded s start len) ≡ openPadded s (fieldsAt (rowsOf Client.open') s payload)
-outer-flag s o e = ap₂ _||_ e (ap₂ (openStmtPadded s) (o .start-is) (o .len-is))

@@ -1,19 +1,21 @@
 -- A body that a Prepare's type does not choose is not read. Assumes nothing.
-use Rattle.prelude.proofs.Basics.{ℕ, zero, suc, _+_, _≤_, _<_, arith, Bool, true, false, not, _&&_, cond, _≡_, refl}
-use Rattle.prelude.proofs.Basics.{sym, ap, ap₂, _∙_, _⊎_, inl, inr, ⊎-elim, List, [], length, getD, take}
-use Rattle.prelude.proofs.Basics.{length-take-le, eqb, leb, eq-eqb, leb-true}
+use Rattle.prelude.proofs.Basics.{ℕ, _+_, _≤_, _<_, arith, Bool, true, false, _&&_, cond, _≡_, refl, sym, ap, ap₂, _∙_}
+use Rattle.prelude.proofs.Basics.{inl, inr, ⊎-elim, List, [], _∷_, length, getD, take, length-take-le, leb, leb-true}
 use Rattle.protocol.specs.Client as Client
-use Rattle.args.specs.UnreadRules.{OnlyField}
-use Rattle.args.proofs.UnreadLaws.{same-take, take-same, embedded-local, arguments-local, field-beside}
-use Rattle.message.proofs.Names.{Argument, prepareStmt, stmtExecute, len, rowsOf, rowFor, hasRequired, countOf}
-use Rattle.message.proofs.Names.{absent, valueOf, startOf, lenOf, low32, Slots, argumentsAt, noArguments}
-use Rattle.message.proofs.Names.{together, typeIn, Arguments, take-size, argumentsWithin, prepareFrame, frameIn}
-use Rattle.message.proofs.Names.{ofHead, frameOf, prepareIn, stmtIn, Frame, Request}
+use Rattle.layout.specs.SameBut.{SameBut}
+use Rattle.layout.specs.Unchosen.{Apart, Every, Unread}
+use Rattle.layout.proofs.UnreadPartsLaws.{every-as, part-in, same-take, ReadsAlike, alike-beside, merged-local}
+use Rattle.layout.proofs.UnreadPartsLaws.{inner-unread}
+use Rattle.args.proofs.UnreadLaws.{take-same, embedded-local, arguments-local}
+use Rattle.message.proofs.Names.{Argument, prepareStmt, stmtExecute, rowsOf, fieldsAt, valueOf, low32, endOf}
+use Rattle.message.proofs.Names.{partsOf, partsIn, merged, Part, Slots, argumentsAt, noArguments, together}
+use Rattle.message.proofs.Names.{typeIn, Arguments, take-size, payload, twice, argumentsWithin, argumentsGood}
+use Rattle.message.proofs.Names.{bodyIn, bodiesGood, prepareBy, stmtParts, prepareFrame, frameIn, ofHead}
+use Rattle.message.proofs.Names.{frameOf}
+use Rattle.message.proofs.Names.{stmtIn, Frame, Request}
 use Rattle.message.specs.Operation as Operation
-use Rattle.message.specs.Prepare.{bodyIn}
 use Rattle.message.specs.UnreadRules.{UnchosenUnread}
 use Rattle.message.proofs.BehindLaws.{head-same}
-use Rattle.message.proofs.NestedLaws.{Bytes, required-there, payload-before, same-outer, same-inner}
 
 -- ---- a body with the same bytes
 
@@ -48,107 +50,110 @@ module _ (s t : List ℕ) (at n : ℕ) (size : length t ≡ length s)
         within-local,
       )
 
--- ---- the statement of a Prepare
+-- ---- bodies in other bytes
 
-two-needed : (count : List ℕ) → hasRequired (rowsOf Client.prepare) count ≡ true → getD count 2 0 ≡ 0 → ⊥
-unfolding rowsOf hasRequired
-two-needed count e z = go (not (eqb (getD count 1 0) 0)) (rw (eq-eqb (getD count 2 0) 0 z) at e)
-  where
-    go : (b : Bool) → cond b false false ≡ true → ⊥
-    go true f = let y : _≡_ {A = ℕ} 0 1 = cc in omega arith
-    go false f = let y : _≡_ {A = ℕ} 0 1 = cc in omega arith
+-- one body, or several, that stand beside what differs
+module _ {s t : List ℕ} (q : Part) (b : SameBut s t (q .start) (endOf q)) where
+  good-local : (ps : List Part) → Every (Apart q) ps → argumentsGood t ps ≡ argumentsGood s ps
+  unfolding argumentsGood Every
+  good-local [] w = refl
+  good-local (p ∷ ps) w =
+      ap₂ _&&_
+      (ap (λ (a : Arguments). a .good)
+      (within-local s t (p .start) (p .len) (b .size)
+      (λ i h l. ⊎-elim (λ d. b .same i (inl (omega arith))) (λ d. b .same i (inr (omega arith))) (w .0))))
+      (good-local ps (w .1))
 
-pub stmt-there : (s : List ℕ) → prepareIn s .good ≡ true → countOf (prepareIn s) 2 ≡ 0 → ⊥
-stmt-there = required-there (rowsOf Client.prepare) 2 two-needed
+  alike : (ps : List Part) → Every (Apart q) ps → Every (ReadsAlike s t) ps
+  alike ps w = every-as (Apart q) (ReadsAlike s t) (λ p d. alike-beside b p d) ps w
 
-pub stmt-row : Bytes (rowsOf Client.prepare) 2
-unfolding rowsOf rowFor
-stmt-row = (refl, refl)
+  bodies-local : (operation : ℕ) (bs : List Part) → Every (Apart q) bs →
+      bodiesGood t operation bs ≡ bodiesGood s operation bs
+  unfolding bodiesGood
+  bodies-local operation bs w =
+      rw (
+        merged-local (rowsOf stmtExecute) s t bs (alike bs w),
+        merged-local [] s t bs (alike bs w),
+        good-local bs w,
+      )
 
-pub body-row : (k : ℕ) → 2 ≤ k → k ≤ 6 → Bytes (rowsOf prepareStmt) k
-unfolding rowsOf rowFor
-body-row zero h g = absurd (omega arith)
-body-row (suc zero) h g = absurd (omega arith)
-body-row (suc (suc zero)) h g = (refl, refl)
-body-row (suc (suc (suc zero))) h g = (refl, refl)
-body-row (suc (suc (suc (suc zero)))) h g = (refl, refl)
-body-row (suc (suc (suc (suc (suc zero))))) h g = (refl, refl)
-body-row (suc (suc (suc (suc (suc (suc zero)))))) h g = (refl, refl)
-body-row (suc (suc (suc (suc (suc (suc (suc k))))))) h g = absurd (omega arith)
+  by-local : (id operation : ℕ) (bs : List Part) → Every (Apart q) bs →
+      prepareBy t id operation bs ≡ prepareBy s id operation bs
+  unfolding Every
+  by-local id operation [] w = ap (λ (n : ℕ). Frame.BadPayload n Client.prepare) (b .size)
+  by-local id operation (c ∷ []) w =
+      ap₂
+      (λ (n : ℕ) (a : Arguments).
+      cond (a .good)
+      (Frame.Good n
+      (Request.Prepare (record { stmt = low32 id; operation = operation; body = c; args = a })))
+      (Frame.BadPayload n Client.prepare))
+      (b .size)
+      (body-local s t (c .start) (c .len) (b .size)
+      (λ i h l. ⊎-elim (λ d. b .same i (inl (omega arith))) (λ d. b .same i (inr (omega arith))) (w .0)) operation)
+  by-local id operation (c ∷ (d ∷ bs)) w =
+      ap₂ (λ (n : ℕ) (good : Bool). twice n Client.prepare good) (b .size)
+      (bodies-local operation (c ∷ (d ∷ bs)) w)
 
 -- ---- the frame of its parts
 
-abbrev pub chosen : Slots → ℕ
-chosen y = Operation.fieldOf (typeIn y)
+unfoldable pub shape : ℕ → Slots → Slots → Frame → Frame
+shape n x y body =
+    cond (x .good) (cond (y .good) body (Frame.BadPayload n Client.prepare)) (Frame.BadPayload n Client.prepare)
 
-abbrev pub bodyBy : List ℕ → Slots → Arguments
-bodyBy s y = bodyIn s (typeIn y) (startOf y (chosen y)) (lenOf y (chosen y))
+abbrev pub prepareIn : List ℕ → Slots
+prepareIn s = fieldsAt (rowsOf Client.prepare) s payload
 
-unfoldable pub shape : ℕ → Slots → Slots → Arguments → Frame
-shape n x y a =
-    cond (x .good)
-    (cond (y .good && not (absent y (chosen y)))
-    (cond (a .good)
-    (Frame.Good n
-    (Request.Prepare
-    (record {
-      stmt = low32 (valueOf x 1);
-      operation = typeIn y;
-      body = record { start = startOf y (chosen y); len = lenOf y (chosen y) };
-      args = a;
-    })))
-    (Frame.BadPayload n Client.prepare))
-    (Frame.BadPayload n Client.prepare))
-    (Frame.BadPayload n Client.prepare)
+abbrev pub bodyBy : List ℕ → ℕ → List Part → Slots → Frame
+bodyBy s id ps y = prepareBy s id (typeIn y) (partsIn (Operation.fieldOf (typeIn y)) s ps)
 
-pub frame-shape : (s : List ℕ) → prepareFrame s ≡ shape (length s) (prepareIn s) (stmtIn s) (bodyBy s (stmtIn s))
+pub frame-shape : (s : List ℕ) →
+    prepareFrame s
+    ≡ shape (length s) (prepareIn s) (stmtIn s) (bodyBy s (valueOf (prepareIn s) 1) (stmtParts s) (stmtIn s))
 unfolding prepareFrame shape
 frame-shape s = refl
 
-module _ (f g : List ℕ) (k : ℕ) (good : prepareIn f .good ≡ true) (row : Bytes (rowsOf prepareStmt) k)
-    (other : k ≡ chosen (stmtIn f) → ⊥) (o : OnlyField (stmtIn f) k f g) where
-  abbrev x : Slots
-  x = prepareIn f
+-- the same but for bytes that are not read
+module _ {f g : List ℕ} {k : ℕ} {q : Part} (u : Unread 2 k f g payload q) where
+  pub same-stmt : stmtIn g ≡ stmtIn f
+  same-stmt = ap (merged (rowsOf prepareStmt) g) (u .parts 2) ∙ u .fields (rowsOf prepareStmt)
 
-  abbrev y : Slots
-  y = stmtIn f
+  pub same-bodies : (i : ℕ) → partsIn i g (stmtParts g) ≡ partsIn i f (stmtParts f)
+  same-bodies i = ap (partsIn i g) (u .parts 2) ∙ u .inner i
 
-  same-body : bodyBy g y ≡ bodyBy f y
-  same-body =
-      body-local f g (startOf y (chosen y)) (lenOf y (chosen y)) (o .same .size)
-      (λ i h l.
-      ⊎-elim (λ d. o .same .same i (inl (omega arith))) (λ d. o .same .same i (inr (omega arith)))
-      (field-beside (rowsOf prepareStmt) f (startOf x 2) (lenOf x 2) k (row .0) (row .1) (o .good) (chosen y)
-      (λ z. other (sym z))))
-      (typeIn y)
-
-  prepare-unread : prepareFrame g ≡ prepareFrame f
-  prepare-unread =
-      let there = stmt-there f good in
+  -- whatever is made of the bodies
+  pub same-frame : length g ≡ length f →
+      (let y = stmtIn f in
+      let id = valueOf (prepareIn f) 1 in
+      prepareBy g id (typeIn y) (partsIn (Operation.fieldOf (typeIn y)) f (stmtParts f))
+      ≡ bodyBy f id (stmtParts f) y) →
+      prepareFrame g ≡ prepareFrame f
+  same-frame size body =
+      let x = prepareIn f in
+      let y = stmtIn f in
       frame-shape g
-      ∙ ap (λ (z : Slots). shape (length g) z (stmtIn g) (bodyBy g (stmtIn g)))
-      (same-outer (rowsOf Client.prepare) (rowsOf prepareStmt) 2 k stmt-row row f good there (o .good) (o .there) g
-      (o .same))
-      ∙ ap (λ (z : Slots). shape (length g) x z (bodyBy g z))
-      (same-inner (rowsOf Client.prepare) (rowsOf prepareStmt) 2 k stmt-row row f good there (o .good) (o .there) g
-      (o .same))
-      ∙ ap (shape (length g) x y) same-body
-      ∙ ap (λ (n : ℕ). shape n x y (bodyBy f y)) (o .same .size)
+      ∙ ap (λ (z : Slots). shape (length g) z (stmtIn g) (bodyBy g (valueOf z 1) (stmtParts g) (stmtIn g)))
+      (u .own (rowsOf Client.prepare))
+      ∙ ap (λ (z : Slots). shape (length g) x z (bodyBy g (valueOf x 1) (stmtParts g) z)) same-stmt
+      ∙ ap (λ (bs : List Part). shape (length g) x y (prepareBy g (valueOf x 1) (typeIn y) bs))
+      (same-bodies (Operation.fieldOf (typeIn y)))
+      ∙ ap₂ (λ (n : ℕ) (r : Frame). shape n x y r) size body
       ∙ sym (frame-shape f)
 
 pub unchosen-unread : UnchosenUnread
 unfolding frameOf frameIn
-unchosen-unread s t end k head good two six other o =
+unchosen-unread s t end k p q head other o b =
     let f = take end s in
-    let row = body-row k two six in
-    let cut : OnlyField (stmtIn f) k f (take end t) =
-    record { good = o .good; there = o .there; same = same-take (o .same) end } in
-    let before =
-    payload-before (rowsOf Client.prepare) (rowsOf prepareStmt) 2 k stmt-row row f good (stmt-there f good)
-    (o .good) (o .there) in
+    let g = take end t in
+    let c = same-take b end in
+    let u = inner-unread 2 k f g payload p q o c in
+    let outer = part-in (o .outer) in
+    let inner = part-in (o .inner) in
+    let i = Operation.fieldOf (typeIn (stmtIn f)) in
     ap (ofHead t)
-    (head-same s t (omega (arith, o .same .size)) (λ i h _. o .same .same i (inl (omega arith)))
+    (head-same s t (omega (arith, b .size)) (λ j h _. b .same j (inl (omega (arith, outer .0, inner .0))))
     (λ e. let h = sym head ∙ e in let z : _≡_ {A = ℕ} 0 1 = cc in omega arith)
     ∙ head)
-    ∙ prepare-unread f (take end t) k good row other cut
+    ∙ same-frame u (c .size)
+    (by-local q c (valueOf (prepareIn f) 1) (typeIn (stmtIn f)) (partsIn i f (stmtParts f)) (u .beside i other))
     ∙ sym (ap (ofHead s) head)

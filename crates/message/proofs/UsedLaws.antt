@@ -1,15 +1,17 @@
 -- A whole frame is used to its last byte, and is not refused 1 or 2: every reader answers with the frame's length, be
 -- its type unknown, its payload bad or good. What the frame holds lies in these bytes. Assumes nothing.
-use Rattle.prelude.proofs.Basics.{ℕ, _+_, _≤_, arith, Bool, false, _||_, true≢false, _≡_, refl, sym, ap, _∙_, List}
+use Rattle.prelude.proofs.Basics.{ℕ, _+_, _≤_, arith, Bool, false, _||_, true≢false, _≡_, refl, sym, ap, _∙_, List, []}
 use Rattle.prelude.proofs.Basics.{length, take, drop, length-drop, length-take, length-take-le, eqb, both}
 use Rattle.protocol.specs.Reason as Reason
+use Rattle.scalar.specs.declared.argument.Argument.the-variants as Va
 use Rattle.args.specs.WithinRules.{EndsBy}
 use Rattle.args.proofs.ArgumentsLaws.{nth-within}
 use Rattle.args.proofs.WithinLaws.{ends-later}
 use Rattle.message.proofs.Names.{Part, nthArgument, headOf, argsOf, frameIn, ofHead, frameOf, reasonOf, usedOf}
 use Rattle.message.proofs.Names.{partOf, chosenPart, argumentIn, PartsInside, Head, Frame}
-use Rattle.message.specs.Frame.{bodyOf}
+use Rattle.message.specs.Frame.{bodyIn, bodyOf}
 use Rattle.message.specs.WithinRules.{LiesInFrame}
+use Rattle.message.specs.TwiceRules.{TwiceRefused}
 use Rattle.message.proofs.WithinLaws.{every-frame, frame-within}
 
 -- the refusals of a frame that was not read
@@ -24,6 +26,7 @@ record Whole (n : ℕ) (x : Frame) : Type 0 where
 kind-whole : (s : List ℕ) (kind : ℕ) → Whole (length s) (frameIn s kind)
 kind-whole s =
     every-frame s (Whole (length s)) (λ kind. record { used = refl; read = refl; parts = tt })
+    (λ kind. record { used = refl; read = refl; parts = tt })
     (record { used = refl; read = refl; parts = tt })
     (λ q h. record { used = refl; read = refl; parts = h })
 
@@ -75,6 +78,7 @@ part-inside Frame.NotAllThere w = omega arith
 part-inside Frame.BadLength w = omega arith
 part-inside (Frame.UnknownType used) w = omega arith
 part-inside (Frame.BadPayload used kind) w = omega arith
+part-inside (Frame.BodyTwice used kind) w = omega arith
 part-inside (Frame.Good used q) w = w .body
 
 pub chosen-within : (s : List ℕ) (p : Part) → p ≡ chosenPart s → p .start + p .len ≤ length s
@@ -93,6 +97,7 @@ argument-inside s index Frame.NotAllThere w = tt
 argument-inside s index Frame.BadLength w = tt
 argument-inside s index (Frame.UnknownType used) w = tt
 argument-inside s index (Frame.BadPayload used kind) w = tt
+argument-inside s index (Frame.BodyTwice used kind) w = tt
 argument-inside s index (Frame.Good used q) w =
     let a = argsOf q in
     let cut = take (a .end) s in
@@ -109,3 +114,17 @@ lies-in-frame s =
       parts = h .parts;
       argument = λ index. argument-inside s index (frameOf s) (h .parts);
     }
+
+-- ---- a body that occurs more than once
+
+twice-empty : (s : List ℕ) (x : Frame) → reasonOf x ≡ Reason.bodyTwice →
+    (bodyIn s (partOf x) ≡ []) × ((index : ℕ) → argumentIn s index x ≡ Va.Refused Reason.bodyTwice)
+twice-empty s Frame.NotAllThere e = absurd (omega arith)
+twice-empty s Frame.BadLength e = absurd (omega arith)
+twice-empty s (Frame.UnknownType used) e = absurd (omega arith)
+twice-empty s (Frame.BadPayload used kind) e = absurd (omega arith)
+twice-empty s (Frame.BodyTwice used kind) e = (refl, λ index. refl)
+twice-empty s (Frame.Good used q) e = absurd (omega arith)
+
+pub twice-refused : TwiceRefused
+twice-refused s = twice-empty s (frameOf s)

@@ -1,17 +1,18 @@
 -- The parts of a request lie within its frame, as a law for every frame. Assumes nothing.
-use Rattle.prelude.proofs.Basics.{ℕ, _+_, _-_, _≤_, arith, Bool, true, false, not, _&&_, _≡_, refl, sym, subst, _∙_}
+use Rattle.prelude.proofs.Basics.{ℕ, _+_, _-_, _≤_, arith, Bool, true, false, _≡_, refl, sym, subst, _∙_}
 use Rattle.prelude.proofs.Basics.{List, [], _∷_, length, take, length-take-le, eqb, leb, ltb, leb-true, ltb-false, both}
 use Rattle.protocol.specs.Client as Client
 use Rattle.args.specs.Arguments.{anyTypeOf, withType}
 use Rattle.message.proofs.Names.{Argument, prepareStmt, stmtExecute, openStmt, rowsOf, fieldsAt, embedded}
-use Rattle.message.proofs.Names.{absent, valueOf, startOf, lenOf, low32, Slots, good-list, argumentsAt}
+use Rattle.message.proofs.Names.{valueOf, low32, merged, Part, Slots, good-list, argumentsAt}
 use Rattle.message.proofs.Names.{noArguments, badArguments, together, Arguments, lengthBytes, maxLength}
-use Rattle.message.proofs.Names.{lengthOf, headOf, payload, ifGood, resetFrame, sessionCloseFrame}
-use Rattle.message.proofs.Names.{deallocateFrame, closeFrame, fetchFrame, badExecute, argumentsWithin, executeOf}
-use Rattle.message.proofs.Names.{executeIn, executeFrame, openFrame, prepareFrame, frameIn, Head, Frame, Request}
+use Rattle.message.proofs.Names.{lengthOf, headOf, payload, ifGood, twice, optionalOf, resetFrame}
+use Rattle.message.proofs.Names.{sessionCloseFrame, deallocateFrame, closeFrame, fetchFrame, badExecute}
+use Rattle.message.proofs.Names.{argumentsWithin, executeOf, executeIn, executeFrame, executesGood, openBy}
+use Rattle.message.proofs.Names.{openParts, executeParts, openFrame, bodyIn, bodiesGood, prepareBy, stmtParts}
+use Rattle.message.proofs.Names.{bodyParts, prepareFrame, frameIn, Head, Frame, Optional, Request}
 use Rattle.message.specs.Operation as Operation
 use Rattle.message.specs.Request as Request
-use Rattle.message.specs.Prepare.{bodyIn}
 use Rattle.message.specs.WithinRules.{Inside}
 
 -- arguments end where their bytes do, or are bad
@@ -88,14 +89,18 @@ body-inside s t at n =
     P : Arguments → Type 0
     P y = y .good ≡ true → (at + n ≤ length s) × Stretch (length s) y
 
--- what holds of a bad payload, of an unknown type and of every request that lies within the frame, holds of each
--- frame, whatever its type
+-- what holds of a bad payload, of a body twice, of an unknown type and of every request that lies within the frame,
+-- holds of each frame, whatever its type
 module _ (s : List ℕ) (P : Frame → Type 0) (bad : (kind : ℕ) → P (Frame.BadPayload (length s) kind))
-    (unknown : P (Frame.UnknownType (length s)))
+    (doubled : (kind : ℕ) → P (Frame.BodyTwice (length s) kind)) (unknown : P (Frame.UnknownType (length s)))
     (good : (q : Request) → Inside (length s) q → P (Frame.Good (length s) q)) where
   if-good : (kind : ℕ) (b : Bool) (q : Request) → (b ≡ true → Inside (length s) q) → P (ifGood s kind b q)
   if-good kind true q h = good q (h refl)
   if-good kind false q h = bad kind
+
+  either-twice : (kind : ℕ) (b : Bool) → P (twice (length s) kind b)
+  either-twice kind true = doubled kind
+  either-twice kind false = bad kind
 
   -- a request with no body and no arguments
   bare : (kind : ℕ) (b : Bool) (q : Request) → Request.bodyOf q .start + Request.bodyOf q .len ≡ 0 →
@@ -129,38 +134,42 @@ module _ (s : List ℕ) (P : Frame → Type 0) (bad : (kind : ℕ) → P (Frame.
       if-good Client.execute (executeIn s payload n .args .good) _
       (λ g. let h = execute-inside s payload n g in record { body = omega arith; stretch = h .1 .0; args = h .1 .1 })
 
+  open-by : (id : ℕ) (rows : Optional) (es : List Part) → P (openBy s id rows es)
+  open-by id rows [] = bad Client.open'
+  open-by id rows (e ∷ []) =
+      if-good Client.open' (executeIn s (e .start) (e .len) .args .good) _
+      (λ g.
+      let h = execute-inside s (e .start) (e .len) g in
+      record { body = h .0; stretch = h .1 .0; args = h .1 .1 })
+  open-by id rows (e ∷ (f ∷ es)) = either-twice Client.open' (executesGood s (e ∷ (f ∷ es)))
+
   open-has : P (openFrame s)
   unfolding openFrame
   open-has =
       let x = fieldsAt (rowsOf Client.open') s payload in
-      let y = embedded (rowsOf openStmt) s (startOf x 4) (lenOf x 4) in
       both P (x .good) _ _
       (λ _.
-      both P (y .good && not (absent y 2)) _ _
-      (λ _.
-      if-good Client.open' (executeIn s (startOf y 2) (lenOf y 2) .args .good) _
-      (λ g.
-      let h = execute-inside s (startOf y 2) (lenOf y 2) g in
-      record { body = h .0; stretch = h .1 .0; args = h .1 .1 }))
-      (λ _. bad Client.open'))
+      both P (merged (rowsOf openStmt) s (openParts s) .good) _ _
+      (λ _. open-by (valueOf x 1) (optionalOf x 5) (executeParts s)) (λ _. bad Client.open'))
       (λ _. bad Client.open')
+
+  prepare-by : (id t : ℕ) (bs : List Part) → P (prepareBy s id t bs)
+  prepare-by id t [] = bad Client.prepare
+  prepare-by id t (b ∷ []) =
+      if-good Client.prepare (bodyIn s t (b .start) (b .len) .good) _
+      (λ g.
+      let h = body-inside s t (b .start) (b .len) g in
+      record { body = h .0; stretch = h .1 .0; args = h .1 .1 })
+  prepare-by id t (b ∷ (c ∷ bs)) = either-twice Client.prepare (bodiesGood s t (b ∷ (c ∷ bs)))
 
   prepare-has : P (prepareFrame s)
   unfolding prepareFrame
   prepare-has =
       let x = fieldsAt (rowsOf Client.prepare) s payload in
-      let y = embedded (rowsOf prepareStmt) s (startOf x 2) (lenOf x 2) in
+      let y = merged (rowsOf prepareStmt) s (stmtParts s) in
       let t = low32 (valueOf y 1) in
-      let k = Operation.fieldOf t in
       both P (x .good) _ _
-      (λ _.
-      both P (y .good && not (absent y k)) _ _
-      (λ _.
-      if-good Client.prepare (bodyIn s t (startOf y k) (lenOf y k) .good) _
-      (λ g.
-      let h = body-inside s t (startOf y k) (lenOf y k) g in
-      record { body = h .0; stretch = h .1 .0; args = h .1 .1 }))
-      (λ _. bad Client.prepare))
+      (λ _. both P (y .good) _ _ (λ _. prepare-by (valueOf x 1) t (bodyParts s t)) (λ _. bad Client.prepare))
       (λ _. bad Client.prepare)
 
   pub every-frame : (kind : ℕ) → P (frameIn s kind)

@@ -1,7 +1,7 @@
--- Execute, and Open with the Execute in it (L1, L6, L11, L12).
+-- Execute, and Open with the Execute in it (L1, L6, L11, L12). An Open's statement may come in parts, its Execute not.
 use Prim.Native.Nat.{ℕ, _+_, _-_}
-use mathlib.Core.Bool.{not, cond, _&&_}
-use mathlib.Core.List.{List}
+use mathlib.Core.Bool.{Bool, true, cond, _&&_}
+use mathlib.Core.List.{List, [], _∷_}
 use lib.ListN.{length, take}
 use lib.Dec.{leb}
 use Rattle.protocol.specs.Client as Client
@@ -9,12 +9,13 @@ use Rattle.protocol.specs.Fields as Fields
 use Rattle.layout.specs.Table.{rowsOf, openStmt}
 use Rattle.layout.specs.Fields.{fieldsAt}
 use Rattle.layout.specs.declared.slots.Slots.{Slots}
-use Rattle.layout.specs.Part.{embedded, absent, valueOf, startOf, lenOf, low32}
+use Rattle.layout.specs.Part.{embedded, valueOf, low32}
+use Rattle.layout.specs.Merged.{partsOf, partsIn, merged}
 use Rattle.args.specs.Arguments.{badArguments, argumentsIn}
 use Rattle.layout.specs.declared.part.Part.{Part}
 use Rattle.args.specs.declared.arguments.Arguments.{Arguments}
 use Rattle.message.specs.Request.{noOptional}
-use Rattle.message.specs.Payload.{payload, ifGood, optionalOf, truthOf}
+use Rattle.message.specs.Payload.{payload, ifGood, twice, optionalOf, truthOf}
 use Rattle.message.specs.declared.request.Optional.{Optional}
 use Rattle.message.specs.declared.request.Execute.{Execute}
 use Rattle.message.specs.declared.request.Request.{Request}
@@ -52,23 +53,37 @@ openFrom s id rows body x =
     ifGood s Client.open' (x .args .good)
     (Request.Open (record { cursor = low32 id; rows = rows; body = body; execute = x }))
 
--- its statement must be an Execute (type 0), which must be present
-abbrev pub openChosen : List ℕ → ℕ → Optional → Slots → Frame
-openChosen s id rows y =
-    cond (y .good && not (absent y Fields.openExecute))
-    (openFrom s id rows (record { start = startOf y Fields.openExecute; len = lenOf y Fields.openExecute })
-    (executeIn s (startOf y Fields.openExecute) (lenOf y Fields.openExecute)))
+-- the arguments in these parts are all good
+unfoldable pub argumentsGood : List ℕ → List Part → Bool
+argumentsGood s [] = true
+argumentsGood s (p ∷ ps) = argumentsWithin s (p .start) (p .len) .good && argumentsGood s ps
+
+-- an Execute that occurs more than once is read all the same: as a message in parts, and every argument
+abbrev pub executesGood : List ℕ → List Part → Bool
+executesGood s es = merged (rowsOf Client.execute) s es .good && argumentsGood s es
+
+-- its statement must be an Execute (type 0), which must be present, and once (L6, R17)
+abbrev pub openBy : List ℕ → ℕ → Optional → List Part → Frame
+openBy s id rows [] = Frame.BadPayload (length s) Client.open'
+openBy s id rows (e ∷ []) = openFrom s id rows e (executeIn s (e .start) (e .len))
+openBy s id rows (e ∷ (f ∷ es)) = twice (length s) Client.open' (executesGood s (e ∷ (f ∷ es)))
+
+-- the statement stands in these parts
+abbrev pub openInside : List ℕ → ℕ → Optional → List Part → Frame
+openInside s id rows ps =
+    cond (merged (rowsOf openStmt) s ps .good) (openBy s id rows (partsIn Fields.openExecute s ps))
     (Frame.BadPayload (length s) Client.open')
 
--- the statement stands in n bytes of s from the place `at` on
-abbrev pub openInside : List ℕ → ℕ → Optional → ℕ → ℕ → Frame
-openInside s id rows at n = openChosen s id rows (embedded (rowsOf openStmt) s at n)
+-- the parts of an Open's statement, and of its Execute
+abbrev pub openParts : List ℕ → List Part
+openParts s = partsOf Fields.openStmt s payload
+
+abbrev pub executeParts : List ℕ → List Part
+executeParts s = partsIn Fields.openExecute s (openParts s)
 
 abbrev pub openOf : List ℕ → Slots → Frame
 openOf s x =
-    cond (x .good)
-    (openInside s (valueOf x Fields.id) (optionalOf x Fields.openRows) (startOf x Fields.openStmt)
-    (lenOf x Fields.openStmt))
+    cond (x .good) (openInside s (valueOf x Fields.id) (optionalOf x Fields.openRows) (openParts s))
     (Frame.BadPayload (length s) Client.open')
 
 unfoldable pub openFrame : List ℕ → Frame

@@ -1,5 +1,5 @@
--- What a frame means by itself: the request it holds, or the refusal 1, 2, 5 or 6 that it earns; its chosen body; its
--- arguments.
+-- What a frame means by itself: the request it holds, or the refusal 1, 2, 5, 6 or 17 that it earns; its chosen body;
+-- its arguments.
 use Prim.Native.Nat.{ℕ}
 use mathlib.Core.Bool.{cond}
 use mathlib.Core.List.{List}
@@ -20,7 +20,7 @@ use Rattle.message.specs.Prepare.{prepareFrame}
 use Rattle.message.specs.declared.head.Head.{Head}
 use Rattle.message.specs.declared.request.Frame.{Frame}
 use Rattle.message.specs.declared.request.Frame.the-variants.{NotAllThere, BadLength, UnknownType, BadPayload}
-use Rattle.message.specs.declared.request.Frame.the-variants.{Good}
+use Rattle.message.specs.declared.request.Frame.the-variants.{BodyTwice, Good}
 
 -- ---- reading
 
@@ -56,6 +56,7 @@ reasonOf NotAllThere = Reason.notAllThere
 reasonOf BadLength = Reason.badLength
 reasonOf (UnknownType used) = Reason.unknownType
 reasonOf (BadPayload used kind) = Reason.badPayload
+reasonOf (BodyTwice used kind) = Reason.bodyTwice
 reasonOf (Good used q) = Reason.accepted
 
 -- the frame's length, 0 where it is refused 1 or 2
@@ -64,6 +65,7 @@ usedOf NotAllThere = 0
 usedOf BadLength = 0
 usedOf (UnknownType used) = used
 usedOf (BadPayload used kind) = used
+usedOf (BodyTwice used kind) = used
 usedOf (Good used q) = used
 
 -- ---- parts of a frame
@@ -74,6 +76,7 @@ partOf NotAllThere = Request.noPart
 partOf BadLength = Request.noPart
 partOf (UnknownType used) = Request.noPart
 partOf (BadPayload used kind) = Request.noPart
+partOf (BodyTwice used kind) = Request.noPart
 partOf (Good used q) = Request.bodyOf q
 
 -- where it stands in the bytes s: its start and its length (A1, A2)
@@ -96,6 +99,7 @@ argumentIn s index NotAllThere = Va.Refused Reason.notAllThere
 argumentIn s index BadLength = Va.Refused Reason.badLength
 argumentIn s index (UnknownType used) = Va.Refused Reason.unknownType
 argumentIn s index (BadPayload used kind) = Va.Refused Reason.badPayload
+argumentIn s index (BodyTwice used kind) = Va.Refused Reason.bodyTwice
 argumentIn s index (Good used q) = argumentAt s index (Request.argsOf q)
 
 abbrev pub argumentOf : List ℕ → ℕ → Argument

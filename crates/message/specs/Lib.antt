@@ -10,4 +10,5 @@ pub mod Padded
 pub mod PaddedSamples
 pub mod WithinRules
 pub mod UnreadRules
+pub mod TwiceRules
 pub mod private

@@ -18,6 +18,10 @@ payload = 5
 abbrev pub ifGood : List ℕ → ℕ → Bool → Request → Frame
 ifGood s kind good q = cond good (Frame.Good (length s) q) (Frame.BadPayload (length s) kind)
 
+-- a frame of this type and length whose chosen body occurs more than once: it is refused for that (17), if it is good
+abbrev pub twice : ℕ → ℕ → Bool → Frame
+twice used kind good = cond good (Frame.BodyTwice used kind) (Frame.BadPayload used kind)
+
 -- an optional field
 abbrev pub optionalBy : Bool → ℕ → Optional
 optionalBy has value = record { present = has; value = value }

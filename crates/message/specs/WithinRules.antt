@@ -12,7 +12,7 @@ use Rattle.message.specs.declared.head.Head.{Head}
 use Rattle.message.specs.declared.request.Request.{Request}
 use Rattle.message.specs.declared.request.Frame.{Frame}
 use Rattle.message.specs.declared.request.Frame.the-variants.{NotAllThere, BadLength, UnknownType, BadPayload}
-use Rattle.message.specs.declared.request.Frame.the-variants.{Good}
+use Rattle.message.specs.declared.request.Frame.the-variants.{BodyTwice, Good}
 
 -- a request's body and arguments end within n bytes
 pub record Inside (n : ℕ) (q : Request) : Type 0 where
@@ -26,6 +26,7 @@ PartsInside NotAllThere = Unit {0}
 PartsInside BadLength = Unit {0}
 PartsInside (UnknownType used) = Unit {0}
 PartsInside (BadPayload used kind) = Unit {0}
+PartsInside (BodyTwice used kind) = Unit {0}
 PartsInside (Good used q) = Inside used q
 
 pub record LiesIn (s : List ℕ) : Type 0 where

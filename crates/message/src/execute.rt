@@ -1,17 +1,17 @@
 // Execute, and Open with the Execute in it. Where an Open's parts stand is found first, as in a Prepare.
 ghost use mathlib.Core.Path.{_≡_};
-ghost use mathlib.Core.Bool.{_||_, false};
+ghost use mathlib.Core.Bool.{_||_, false, true};
 ghost use Prim.Native.Nat.{_-_};
 ghost use lib.ListN.{length};
-ghost use Rattle.protocol.specs.Client as Client;
-ghost use Rattle.layout.specs.Table.{rowsOf};
-ghost use Rattle.layout.specs.Fields.{fieldsAt};
+ghost use Rattle.protocol.specs.Fields as Fields;
+ghost use Rattle.layout.specs.Merged.{onePart};
 ghost use Rattle.args.specs.Padded.{executePadded};
-ghost use Rattle.message.specs.Execute.{executeFrame, executeFrom, executeIn, openFrame, openFrom, openInside};
-ghost use Rattle.message.specs.Padded.{openPadded, openStmtPadded};
+ghost use Rattle.message.specs.Execute.{executeFrame, executeFrom, executeIn, executeParts, executesGood};
+ghost use Rattle.message.specs.Execute.{openFrame, openFrom, openInside, openParts};
+ghost use Rattle.message.specs.Padded.{executesPadded, openPadded, openStmtPadded};
 ghost use Rattle.message.specs.Payload.{optionalBy, payload};
 ghost use Rattle.message.specs.private.Marks.{Tells, TellsInner, TellsOpening};
-ghost use Rattle.message.specs.private.Parts.{Runs, executeBy, ofOpening};
+ghost use Rattle.message.specs.private.Parts.{FindsOpening, Runs, Whole, executeBy, innerOf};
 use crate::outer::Outer;
 use crate::payload::PAYLOAD;
 use crate::payload::fill_payload;
@@ -22,8 +22,11 @@ use crate::request::Execute;
 use crate::request::Frame;
 use crate::request::Open;
 use crate::request::Request;
+use crate::twice::good_arguments;
+use crate::twice::is_message;
 use args::bound::Bound;
 use args::pair::Pair;
+use layout::merge::merge_fields;
 use layout::part::Part;
 use layout::part::fill_part;
 use layout::slots::SLOTS;
@@ -31,11 +34,12 @@ use protocol::client;
 use protocol::fields;
 use protocol::wire_type;
 
-// An Open's cursor id, where its statement stands, and whether fetch_rows is there and what it is; or the message is
-// bad.
+// An Open's cursor id, whether its statement is whole, where it stands, and whether fetch_rows is there and what it is;
+// a statement that is not whole comes in parts. Or the message is bad.
 pub enum Opening {
     Of {
         id: u64,
+        whole: bool,
         start: usize,
         len: usize,
         has: bool,
@@ -44,9 +48,10 @@ pub enum Opening {
     Bad,
 }
 
-// Where the Execute of an Open's statement stands; or the statement is bad.
+// Where the Execute of an Open's statement stands, or that it stands there more than once; or the statement is bad.
 pub enum Inner {
     At { start: usize, len: usize },
+    Twice,
     Bad,
 }
 
@@ -104,19 +109,17 @@ fn execute_of(b: Bound, start: usize, end: usize) -> Execute
 
 pub fn read_open(s: &[u8], padded: &mut bool) -> Frame
     ensures answer { λ r. ⌜ r ≡ openFrame (now (s .entry)) ⌝ }
-    ensures told { λ r. ⌜
-        Tells r (now (padded .exit))
-        (openPadded (now (s .entry)) (fieldsAt (rowsOf Client.open') (now (s .entry)) payload))
-        ⌝ }
+    ensures told { λ r. ⌜ Tells r (now (padded .exit)) (openPadded (now (s .entry))) ⌝ }
 {
     match find_opening(s, padded) {
         Opening::Of {
             id,
+            whole,
             start,
             len,
             has,
             rows,
-        } => open_inside(s, id, has, rows, start, len, padded),
+        } => open_inside(s, id, has, rows, whole, start, len, padded),
         Opening::Bad => Frame::BadPayload {
             used: s.len(),
             kind: client::OPEN,
@@ -124,26 +127,48 @@ pub fn read_open(s: &[u8], padded: &mut bool) -> Frame
     }
 }
 
-// An Open with this cursor id and fetch_rows, and its statement in `n` bytes of s from `at` on.
+// An Open with this cursor id and fetch_rows, and its statement: where it is whole, in `n` bytes of s from `at` on.
 fn open_inside(
     s: &[u8],
     id: u64,
     has: bool,
     asked: u64,
+    whole: bool,
     at: usize,
     n: usize,
     padded: &mut bool,
 ) -> Frame
-    ensures answer { λ r. ⌜ r ≡ openInside (now (s .entry)) id (optionalBy has asked) at n ⌝ }
-    ensures told { λ r. ⌜ Tells r (now (padded .exit)) (now (padded .entry) || openStmtPadded (now (s .entry)) at n) ⌝ }
+    requires { ⌜ Whole Fields.openStmt (now s) whole at n ⌝ }
+    ensures answer { λ r. ⌜ r ≡ openInside (now (s .entry)) id (optionalBy has asked) (openParts (now (s .entry))) ⌝ }
+    ensures told { λ r. ⌜
+        Tells r (now (padded .exit))
+        (now (padded .entry) || openStmtPadded (now (s .entry)) (openParts (now (s .entry))))
+        ⌝ }
 {
-    match find_execute(s, at, n, padded) {
+    match find_execute(s, whole, at, n, padded) {
         Inner::At { start, len } => open_from(s, id, has, asked, start, len, padded),
+        Inner::Twice => { crate::twice::refused(s.len(), client::OPEN, good_executes(s, padded)) }
         Inner::Bad => Frame::BadPayload {
             used: s.len(),
             kind: client::OPEN,
         },
     }
+}
+
+// Whether an Execute that occurs more than once is good in every part.
+fn good_executes(s: &[u8], padded: &mut bool) -> bool
+    ensures answer { λ r. ⌜ r ≡ executesGood (now (s .entry)) (executeParts (now (s .entry))) ⌝ }
+    ensures told { λ r. ⌜
+        (r ≡ true →
+        now (padded .exit)
+        ≡ (now (padded .entry) || executesPadded (now (s .entry)) (executeParts (now (s .entry)))))
+        ⌝ }
+{
+    let rows = layout::rows::execute_rows();
+    if !is_message(&rows, s, STMT_NUMBER, EXECUTE_NUMBER) {
+        return false;
+    }
+    good_arguments(s, STMT_NUMBER, EXECUTE_NUMBER, padded)
 }
 
 // An Open with this cursor id and fetch_rows, and its Execute in `len` bytes of s from `start` on.
@@ -187,7 +212,7 @@ fn open_from(
 // The long way, by the rows.
 fn long_opening(s: &[u8], padded: &mut bool) -> Opening
     requires { ⌜ now padded ≡ false ⌝ }
-    ensures answer { λ r. ⌜ ofOpening (now (s .entry)) r ≡ openFrame (now (s .entry)) ⌝ }
+    ensures answer { λ r. ⌜ FindsOpening (now (s .entry)) r ⌝ }
     ensures told { λ r. ⌜ TellsOpening (now (s .entry)) r (now (padded .exit)) ⌝ }
 {
     let rows = layout::rows::open_rows();
@@ -199,6 +224,7 @@ fn long_opening(s: &[u8], padded: &mut bool) -> Opening
     }
     Opening::Of {
         id: values[fields::ID],
+        whole: times[fields::OPEN_STMT] == 1,
         start: starts[fields::OPEN_STMT],
         len: values[fields::OPEN_STMT] as usize,
         has: times[fields::OPEN_ROWS] != 0,
@@ -208,7 +234,7 @@ fn long_opening(s: &[u8], padded: &mut bool) -> Opening
 
 // With the short way for its own fields.
 fn find_opening(s: &[u8], padded: &mut bool) -> Opening
-    ensures answer { λ r. ⌜ ofOpening (now (s .entry)) r ≡ openFrame (now (s .entry)) ⌝ }
+    ensures answer { λ r. ⌜ FindsOpening (now (s .entry)) r ⌝ }
     ensures told { λ r. ⌜ TellsOpening (now (s .entry)) r (now (padded .exit)) ⌝ }
 {
     *padded = false;
@@ -222,6 +248,7 @@ fn find_opening(s: &[u8], padded: &mut bool) -> Opening
     } = crate::outer::read_outer(s, padded) {
         return Opening::Of {
             id,
+            whole: true,
             start,
             len,
             has,
@@ -232,10 +259,26 @@ fn find_opening(s: &[u8], padded: &mut bool) -> Opening
     long_opening(&s[..n], padded)
 }
 
+// What the arrays of a good statement hold of its Execute.
+fn inner_of(times: &[u8; SLOTS], values: &[u64; SLOTS], starts: &[usize; SLOTS]) -> Inner
+    ensures { λ r. ⌜ r ≡ innerOf (now (times .entry)) (now (values .entry)) (now (starts .entry)) ⌝ }
+{
+    if times[fields::OPEN_EXECUTE] == 0 {
+        return Inner::Bad;
+    }
+    if times[fields::OPEN_EXECUTE] == 1 {
+        return Inner::At {
+            start: starts[fields::OPEN_EXECUTE],
+            len: values[fields::OPEN_EXECUTE] as usize,
+        };
+    }
+    Inner::Twice
+}
+
 // The long way, by the rows.
 fn long_inner(s: &[u8], at: usize, n: usize, padded: &mut bool) -> Inner
-    ensures answer { λ r. ⌜ Runs (now (s .entry)) at n r ⌝ }
-    ensures told { λ r. ⌜ TellsInner (now (s .entry)) at n r (now (padded .entry)) (now (padded .exit)) ⌝ }
+    ensures answer { λ r. ⌜ Runs (now (s .entry)) (onePart at n) r ⌝ }
+    ensures told { λ r. ⌜ TellsInner (now (s .entry)) (onePart at n) r (now (padded .entry)) (now (padded .exit)) ⌝ }
 {
     let rows = layout::rows::open_stmt_rows();
     let mut times = [0; SLOTS];
@@ -253,24 +296,56 @@ fn long_inner(s: &[u8], at: usize, n: usize, padded: &mut bool) -> Inner
     ) {
         return Inner::Bad;
     }
-    if times[fields::OPEN_EXECUTE] == 0 {
-        return Inner::Bad;
-    }
-    Inner::At {
-        start: starts[fields::OPEN_EXECUTE],
-        len: values[fields::OPEN_EXECUTE] as usize,
-    }
+    inner_of(&times, &values, &starts)
 }
 
-// The type and the tag of an Open's statement of two fields, in one number: type 0, and its Execute in field 2.
-const CHOSEN_EXECUTE: u64 = fields::OPEN_EXECUTE as u64 * 8 + wire_type::LEN;
+// A statement in parts.
+fn parted_inner(s: &[u8], padded: &mut bool) -> Inner
+    ensures answer { λ r. ⌜ Runs (now (s .entry)) (openParts (now (s .entry))) r ⌝ }
+    ensures told { λ r. ⌜
+        TellsInner (now (s .entry)) (openParts (now (s .entry))) r (now (padded .entry)) (now (padded .exit))
+        ⌝ }
+{
+    let rows = layout::rows::open_stmt_rows();
+    let mut times = [0; SLOTS];
+    let mut values = [0; SLOTS];
+    let mut starts = [0; SLOTS];
+    if !merge_fields(
+        &rows,
+        s,
+        PAYLOAD,
+        STMT_NUMBER,
+        &mut times,
+        &mut values,
+        &mut starts,
+        padded,
+    ) {
+        return Inner::Bad;
+    }
+    inner_of(&times, &values, &starts)
+}
 
-// The statement in `n` bytes of s from `at` on, with a short way for one of two fields, its type and its Execute.
-fn find_execute(s: &[u8], at: usize, n: usize, padded: &mut bool) -> Inner
-    ensures answer { λ r. ⌜ Runs (now (s .entry)) at n r ⌝ }
-    ensures told { λ r. ⌜ TellsInner (now (s .entry)) at n r (now (padded .entry)) (now (padded .exit)) ⌝ }
+// The numbers of the statement and of its Execute.
+const STMT_NUMBER: u64 = fields::OPEN_STMT as u64;
+
+const EXECUTE_NUMBER: u64 = fields::OPEN_EXECUTE as u64;
+
+// The type and the tag of an Open's statement of two fields, in one number: type 0, and its Execute in field 2.
+const CHOSEN_EXECUTE: u64 = EXECUTE_NUMBER * 8 + wire_type::LEN;
+
+// The statement, where it is whole in `n` bytes of s from `at` on, with a short way for one of two fields, its type and
+// its Execute.
+fn find_execute(s: &[u8], whole: bool, at: usize, n: usize, padded: &mut bool) -> Inner
+    requires { ⌜ Whole Fields.openStmt (now s) whole at n ⌝ }
+    ensures answer { λ r. ⌜ Runs (now (s .entry)) (openParts (now (s .entry))) r ⌝ }
+    ensures told { λ r. ⌜
+        TellsInner (now (s .entry)) (openParts (now (s .entry))) r (now (padded .entry)) (now (padded .exit))
+        ⌝ }
 {
     let all = s.len();
+    if !whole {
+        return parted_inner(&s[..all], padded);
+    }
     if let Pair::Two {
         first,
         tag,

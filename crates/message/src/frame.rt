@@ -41,8 +41,9 @@ fn refused_head(reason: u64) -> Frame
     Frame::NotAllThere
 }
 
-// The frame that a byte string begins with; bytes past it are not read. Where it holds a request the flag says whether
-// a varint that was read in its payload is padded, whatever it said before; else nothing is said of it.
+// The frame that a byte string begins with; bytes past it are not read. Where it holds a request, or a body
+// twice, the flag says whether a varint that was read in its payload is padded, whatever it said before; else nothing
+// is said of it.
 pub fn read_frame(s: &[u8], padded: &mut bool) -> Frame
     ensures answer { λ r. ⌜ r ≡ frameOf (now (s .entry)) ⌝ }
     ensures told { λ r. ⌜ Tells r (now (padded .exit)) (paddedOf (now (s .entry))) ⌝ }
@@ -64,6 +65,7 @@ pub fn chosen_part(s: &[u8]) -> Part
         Frame::BadLength => Part { start: 0, len: 0 },
         Frame::UnknownType { used: _ } => Part { start: 0, len: 0 },
         Frame::BadPayload { used: _, kind: _ } => Part { start: 0, len: 0 },
+        Frame::BodyTwice { used: _, kind: _ } => Part { start: 0, len: 0 },
         Frame::Good { used: _, request } => crate::request::body_of(request),
     }
 }
@@ -93,6 +95,7 @@ pub fn argument(s: &[u8], index: usize) -> Argument
         Frame::BadLength => Argument::Refused(reason::BAD_LENGTH),
         Frame::UnknownType { used: _ } => Argument::Refused(reason::UNKNOWN_TYPE),
         Frame::BadPayload { used: _, kind: _ } => Argument::Refused(reason::BAD_PAYLOAD),
+        Frame::BodyTwice { used: _, kind: _ } => Argument::Refused(reason::BODY_TWICE),
         Frame::Good { used: _, request } => {
             let args = crate::request::args_of(request);
             let start = args.start;

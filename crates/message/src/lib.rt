@@ -9,3 +9,4 @@ pub mod payload;
 pub mod prepare;
 pub mod request;
 pub mod simple;
+mod twice;

@@ -3,25 +3,28 @@
 // waits. Padded varints in the body do not count: there `unread` is a flag that nobody looks at.
 ghost use mathlib.Core.Path.{_≡_};
 ghost use mathlib.Core.Bool.{_||_, false};
-ghost use Rattle.protocol.specs.Client as Client;
-ghost use Rattle.layout.specs.Table.{rowsOf};
-ghost use Rattle.layout.specs.Fields.{fieldsAt};
-ghost use Rattle.layout.specs.Padded.{partPadded};
+ghost use Rattle.protocol.specs.Fields as Fields;
+ghost use Rattle.layout.specs.Merged.{onePart};
+ghost use Rattle.layout.specs.Padded.{partsPadded};
 ghost use Rattle.message.specs.Padded.{preparePadded};
-ghost use Rattle.message.specs.Payload.{payload};
-ghost use Rattle.message.specs.Prepare.{bodyIn, prepareFrame, prepareFrom, prepareInside};
+ghost use Rattle.message.specs.Prepare.{bodiesGood, bodyIn, bodyParts, prepareFrame, prepareFrom};
+ghost use Rattle.message.specs.Prepare.{prepareInside, stmtParts};
 ghost use Rattle.message.specs.private.Marks.{Tells, TellsChosen, TellsStmt};
-ghost use Rattle.message.specs.private.Parts.{Chooses, ofStmt};
+ghost use Rattle.message.specs.private.Parts.{Chooses, FindsStmt, Whole, chosenOf};
 use crate::first::First;
 use crate::operation;
+use crate::payload::PAYLOAD;
 use crate::payload::fill_payload;
 use crate::payload::low;
 use crate::request::Frame;
 use crate::request::Prepare;
 use crate::request::Request;
+use crate::twice::good_arguments;
+use crate::twice::is_message;
 use args::arguments::Arguments;
 use args::pair::Pair;
 use args::pair::Text;
+use layout::merge::merge_fields;
 use layout::part::Part;
 use layout::part::fill_part;
 use layout::slots::SLOTS;
@@ -31,31 +34,43 @@ use protocol::uint32;
 use protocol::wire_type;
 use wire::value::Value;
 
-// A Prepare's id, and where its statement stands; or the message is bad.
+// A Prepare's id, whether its statement is whole, and where it stands; one that is not comes in parts. Or the message
+// is bad.
 pub enum Stmt {
-    At { id: u64, start: usize, len: usize },
-    Bad,
-}
-
-// A statement's type, and where the body that it chooses stands; or the statement is bad.
-pub enum Chosen {
-    Body {
-        operation: u64,
+    At {
+        id: u64,
+        whole: bool,
         start: usize,
         len: usize,
     },
     Bad,
 }
 
+// A statement's type, and where the body that it chooses stands, or that it stands there more than once; or the
+// statement is bad.
+pub enum Chosen {
+    Body {
+        operation: u64,
+        start: usize,
+        len: usize,
+    },
+    Twice {
+        operation: u64,
+    },
+    Bad,
+}
+
 pub fn read_prepare(s: &[u8], padded: &mut bool) -> Frame
     ensures answer { λ r. ⌜ r ≡ prepareFrame (now (s .entry)) ⌝ }
-    ensures told { λ r. ⌜
-        Tells r (now (padded .exit))
-        (preparePadded (now (s .entry)) (fieldsAt (rowsOf Client.prepare) (now (s .entry)) payload))
-        ⌝ }
+    ensures told { λ r. ⌜ Tells r (now (padded .exit)) (preparePadded (now (s .entry))) ⌝ }
 {
     match find_stmt(s, padded) {
-        Stmt::At { id, start, len } => prepare_inside(s, id, start, len, padded),
+        Stmt::At {
+            id,
+            whole,
+            start,
+            len,
+        } => prepare_inside(s, id, whole, start, len, padded),
         Stmt::Bad => Frame::BadPayload {
             used: s.len(),
             kind: client::PREPARE,
@@ -63,17 +78,23 @@ pub fn read_prepare(s: &[u8], padded: &mut bool) -> Frame
     }
 }
 
-// A Prepare with this id, and its statement in `n` bytes of s from `at` on.
-fn prepare_inside(s: &[u8], id: u64, at: usize, n: usize, padded: &mut bool) -> Frame
-    ensures answer { λ r. ⌜ r ≡ prepareInside (now (s .entry)) id at n ⌝ }
-    ensures told { λ r. ⌜ Tells r (now (padded .exit)) (now (padded .entry) || partPadded (now (s .entry)) at n) ⌝ }
+// A Prepare with this id, and its statement: where it is whole, in `n` bytes of s from `at` on.
+fn prepare_inside(s: &[u8], id: u64, whole: bool, at: usize, n: usize, padded: &mut bool) -> Frame
+    requires { ⌜ Whole Fields.prepareStmt (now s) whole at n ⌝ }
+    ensures answer { λ r. ⌜ r ≡ prepareInside (now (s .entry)) id (stmtParts (now (s .entry))) ⌝ }
+    ensures told { λ r. ⌜
+        Tells r (now (padded .exit)) (now (padded .entry) || partsPadded (now (s .entry)) (stmtParts (now (s .entry))))
+        ⌝ }
 {
-    match find_body(s, at, n, padded) {
+    match find_body(s, whole, at, n, padded) {
         Chosen::Body {
             operation,
             start,
             len,
         } => prepare_from(s, id, operation, start, len),
+        Chosen::Twice { operation } => {
+            crate::twice::refused(s.len(), client::PREPARE, good_bodies(s, operation))
+        }
         Chosen::Bad => Frame::BadPayload {
             used: s.len(),
             kind: client::PREPARE,
@@ -111,7 +132,7 @@ fn prepare_from(s: &[u8], id: u64, operation: u64, start: usize, len: usize) -> 
 // The long way, by the rows.
 fn long_stmt(s: &[u8], padded: &mut bool) -> Stmt
     requires { ⌜ now padded ≡ false ⌝ }
-    ensures answer { λ r. ⌜ ofStmt (now (s .entry)) r ≡ prepareFrame (now (s .entry)) ⌝ }
+    ensures answer { λ r. ⌜ FindsStmt (now (s .entry)) r ⌝ }
     ensures told { λ r. ⌜ TellsStmt (now (s .entry)) r (now (padded .exit)) ⌝ }
 {
     let rows = layout::rows::prepare_rows();
@@ -123,17 +144,20 @@ fn long_stmt(s: &[u8], padded: &mut bool) -> Stmt
     }
     Stmt::At {
         id: values[fields::ID],
+        whole: times[fields::PREPARE_STMT] == 1,
         start: starts[fields::PREPARE_STMT],
         len: values[fields::PREPARE_STMT] as usize,
     }
 }
 
-// The tag of the statement.
+// The number and the tag of the statement.
+const STMT_NUMBER: u64 = fields::PREPARE_STMT as u64;
+
 const STMT_TAG: u8 = (fields::PREPARE_STMT as u64 * 8 + wire_type::LEN) as u8;
 
 // With a short way for a Prepare of its two fields alone, as most are.
 fn find_stmt(s: &[u8], padded: &mut bool) -> Stmt
-    ensures answer { λ r. ⌜ ofStmt (now (s .entry)) r ≡ prepareFrame (now (s .entry)) ⌝ }
+    ensures answer { λ r. ⌜ FindsStmt (now (s .entry)) r ⌝ }
     ensures told { λ r. ⌜ TellsStmt (now (s .entry)) r (now (padded .exit)) ⌝ }
 {
     *padded = false;
@@ -146,7 +170,12 @@ fn find_stmt(s: &[u8], padded: &mut bool) -> Stmt
             next: end,
         } = wire::value::length_value(s, next, padded) {
             if end == n {
-                return Stmt::At { id, start, len };
+                return Stmt::At {
+                    id,
+                    whole: true,
+                    start,
+                    len,
+                };
             }
         }
     }
@@ -154,10 +183,31 @@ fn find_stmt(s: &[u8], padded: &mut bool) -> Stmt
     long_stmt(&s[..n], padded)
 }
 
+// What the arrays of a good statement choose.
+fn chosen_of(times: &[u8; SLOTS], values: &[u64; SLOTS], starts: &[usize; SLOTS]) -> Chosen
+    ensures { λ r. ⌜ r ≡ chosenOf (now (times .entry)) (now (values .entry)) (now (starts .entry)) ⌝ }
+{
+    let operation = values[fields::TYPE] % uint32::COUNT;
+    let k = operation::field_of(operation);
+    if times[k] == 0 {
+        return Chosen::Bad;
+    }
+    if times[k] == 1 {
+        return Chosen::Body {
+            operation,
+            start: starts[k],
+            len: values[k] as usize,
+        };
+    }
+    Chosen::Twice { operation }
+}
+
 // The long way, by the rows.
 fn long_chosen(s: &[u8], at: usize, n: usize, padded: &mut bool) -> Chosen
-    ensures answer { λ r. ⌜ Chooses (now (s .entry)) at n r ⌝ }
-    ensures told { λ r. ⌜ TellsChosen (now (s .entry)) at n r (now (padded .entry)) (now (padded .exit)) ⌝ }
+    ensures answer { λ r. ⌜ Chooses (now (s .entry)) (onePart at n) r ⌝ }
+    ensures told { λ r. ⌜
+        TellsChosen (now (s .entry)) (onePart at n) r (now (padded .entry)) (now (padded .exit))
+        ⌝ }
 {
     let rows = layout::rows::prepare_stmt_rows();
     let mut times = [0; SLOTS];
@@ -175,16 +225,33 @@ fn long_chosen(s: &[u8], at: usize, n: usize, padded: &mut bool) -> Chosen
     ) {
         return Chosen::Bad;
     }
-    let operation = values[fields::TYPE] % uint32::COUNT;
-    let k = operation::field_of(operation);
-    if times[k] == 0 {
+    chosen_of(&times, &values, &starts)
+}
+
+// A statement in parts.
+fn parted_chosen(s: &[u8], padded: &mut bool) -> Chosen
+    ensures answer { λ r. ⌜ Chooses (now (s .entry)) (stmtParts (now (s .entry))) r ⌝ }
+    ensures told { λ r. ⌜
+        TellsChosen (now (s .entry)) (stmtParts (now (s .entry))) r (now (padded .entry)) (now (padded .exit))
+        ⌝ }
+{
+    let rows = layout::rows::prepare_stmt_rows();
+    let mut times = [0; SLOTS];
+    let mut values = [0; SLOTS];
+    let mut starts = [0; SLOTS];
+    if !merge_fields(
+        &rows,
+        s,
+        PAYLOAD,
+        STMT_NUMBER,
+        &mut times,
+        &mut values,
+        &mut starts,
+        padded,
+    ) {
         return Chosen::Bad;
     }
-    Chosen::Body {
-        operation,
-        start: starts[k],
-        len: values[k] as usize,
-    }
+    chosen_of(&times, &values, &starts)
 }
 
 // A statement's type StmtExecute, and the tag of the body that it chooses (field 6, wire type 2), in one number.
@@ -192,13 +259,19 @@ const CHOSEN_EXECUTE: u64 = operation::STMT_EXECUTE * 256
     + operation::STMT_EXECUTE_FIELD as u64 * 8
     + wire_type::LEN;
 
-// The statement in `n` bytes of s from `at` on, with a short way for one of two fields, its type and its body, a
-// StmtExecute.
-fn find_body(s: &[u8], at: usize, n: usize, padded: &mut bool) -> Chosen
-    ensures answer { λ r. ⌜ Chooses (now (s .entry)) at n r ⌝ }
-    ensures told { λ r. ⌜ TellsChosen (now (s .entry)) at n r (now (padded .entry)) (now (padded .exit)) ⌝ }
+// The statement, where it is whole in `n` bytes of s from `at` on, with a short way for one of two fields, its type and
+// its body, a StmtExecute.
+fn find_body(s: &[u8], whole: bool, at: usize, n: usize, padded: &mut bool) -> Chosen
+    requires { ⌜ Whole Fields.prepareStmt (now s) whole at n ⌝ }
+    ensures answer { λ r. ⌜ Chooses (now (s .entry)) (stmtParts (now (s .entry))) r ⌝ }
+    ensures told { λ r. ⌜
+        TellsChosen (now (s .entry)) (stmtParts (now (s .entry))) r (now (padded .entry)) (now (padded .exit))
+        ⌝ }
 {
     let all = s.len();
+    if !whole {
+        return parted_chosen(&s[..all], padded);
+    }
     if let Pair::Two {
         first,
         tag,
@@ -214,6 +287,22 @@ fn find_body(s: &[u8], at: usize, n: usize, padded: &mut bool) -> Chosen
         }
     }
     long_chosen(&s[..all], at, n, padded)
+}
+
+// Whether a body of this type that occurs more than once is good in every part.
+fn good_bodies(s: &[u8], operation: u64) -> bool
+    ensures { λ r. ⌜ r ≡ bodiesGood (now (s .entry)) operation (bodyParts (now (s .entry)) operation) ⌝ }
+{
+    let rows = layout::rows::stmt_execute_rows();
+    let k = operation::field_of(operation) as u64;
+    if operation != operation::STMT_EXECUTE {
+        return is_message(&rows[..0], s, STMT_NUMBER, k);
+    }
+    if !is_message(&rows, s, STMT_NUMBER, k) {
+        return false;
+    }
+    let mut unread = false;
+    good_arguments(s, STMT_NUMBER, k, &mut unread)
 }
 
 // The long way, in one pass or by the rows.

@@ -73,6 +73,8 @@ pub enum Frame {
     UnknownType { used: usize },
     // `kind` is the message type.
     BadPayload { used: usize, kind: u64 },
+    // The chosen body, or an Open's Execute, occurs more than once.
+    BodyTwice { used: usize, kind: u64 },
     Good { used: usize, request: Request },
 }
 

@@ -64,3 +64,7 @@ badReport = 15
 
 abbrev pub engineFailed : ℕ
 engineFailed = 16
+
+-- the chosen body, or an Open's Execute, occurs more than once; told behind 6 and before 7
+abbrev pub bodyTwice : ℕ
+bodyTwice = 17

@@ -32,3 +32,5 @@ pub const CURSORS_FULL: u64 = 14;
 pub const BAD_REPORT: u64 = 15;
 
 pub const ENGINE_FAILED: u64 = 16;
+
+pub const BODY_TWICE: u64 = 17;

@@ -1,4 +1,4 @@
--- What bytes a reply is (P8, P9; the codes R4 to R16).
+-- What bytes a reply is (P8, P9; the codes R4 to R17).
 use Prim.Native.Nat.{ℕ}
 use mathlib.Core.List.{List, [], _∷_, _++_}
 use lib.ListN.{getD}
@@ -10,9 +10,10 @@ use Rattle.reply.specs.Text.{text}
 use Rattle.encode.specs.Frame.{frame}
 use Rattle.reply.specs.Frame.{errorFrame}
 
--- the wire codes of the refusals 0 to 15; 0 to 3 send none, and 16 has the engine's own
+-- the wire codes of the refusals 0 to 17; 0 to 3 send none, and 16 has the engine's own
 abbrev pub codes : List ℕ
-codes = 0 ∷ 0 ∷ 0 ∷ 0 ∷ 6004 ∷ 6005 ∷ 5000 ∷ 5110 ∷ 6008 ∷ 6009 ∷ 5111 ∷ 6011 ∷ 6012 ∷ 6013 ∷ 6014 ∷ 6015 ∷ []
+codes =
+    0 ∷ 0 ∷ 0 ∷ 0 ∷ 6004 ∷ 6005 ∷ 5000 ∷ 5110 ∷ 6008 ∷ 6009 ∷ 5111 ∷ 6011 ∷ 6012 ∷ 6013 ∷ 6014 ∷ 6015 ∷ 0 ∷ 6017 ∷ []
 
 abbrev pub codeOf : ℕ → ℕ
 codeOf reason = getD codes reason 0

@@ -32,7 +32,7 @@ pub enum Reply {
     Error(Refusal),
 }
 
-const CODES: [u64; 16] = [
+const CODES: [u64; 18] = [
     0,
     0,
     0,
@@ -49,13 +49,15 @@ const CODES: [u64; 16] = [
     6013,
     6014,
     6015,
+    0,
+    6017,
 ];
 
 // The wire code of a refusal: 0 for those that send none, and for 16, which has the engine's own.
 pub fn code_of(reason: u64) -> u64
     ensures { λ r. ⌜ r ≡ codeOf reason ⌝ }
 {
-    if reason::BAD_REPORT < reason {
+    if reason::BODY_TWICE < reason {
         return 0;
     }
     CODES[reason as usize]

@@ -3,7 +3,8 @@
 use Rattle.prelude.proofs.Basics.{ℕ, Bool, true, false, cond, _≡_, refl, ap, _∙_}
 use Rattle.protocol.specs.Reason as Reason
 use Rattle.message.specs.declared.request.Request.the-variants.{Reset, SessionClose}
-use Rattle.message.specs.declared.request.Frame.the-variants.{NotAllThere, BadLength, UnknownType, BadPayload, Good}
+use Rattle.message.specs.declared.request.Frame.the-variants.{NotAllThere, BadLength, UnknownType, BadPayload}
+use Rattle.message.specs.declared.request.Frame.the-variants.{BodyTwice, Good}
 use Rattle.rules.proofs.Names.{frameOf, Frame, Request, Session, isClosed, firstOf, requestTests, lookReason}
 use Rattle.rules.proofs.Names.{lookOf, lookAt}
 use Rattle.rules.specs.Decision.{lookBy}
@@ -18,6 +19,10 @@ module _ (s : Session) (used : ℕ) where
   bad-reason : (kind : ℕ) → lookReason s (BadPayload used kind) ≡ cond (isClosed s) Reason.closed Reason.badPayload
   unfolding lookReason
   bad-reason kind = refl
+
+  twice-reason : (kind : ℕ) → lookReason s (BodyTwice used kind) ≡ cond (isClosed s) Reason.closed Reason.bodyTwice
+  unfolding lookReason
+  twice-reason kind = refl
 
   good-reason : (q : Request) →
       lookReason s (Good used q) ≡ cond (isClosed s) Reason.closed (firstOf (requestTests s q))
@@ -48,6 +53,8 @@ closed-look s (UnknownType used) e a b =
     look-by s (UnknownType used) Reason.unknownType (unknown-reason s used) e
 closed-look s (BadPayload used kind) e a b =
     look-by s (BadPayload used kind) Reason.badPayload (bad-reason s used kind) e
+closed-look s (BodyTwice used kind) e a b =
+    look-by s (BodyTwice used kind) Reason.bodyTwice (twice-reason s used kind) e
 closed-look s (Good used q) e a b = look-by s (Good used q) (firstOf (requestTests s q)) (good-reason s used q) e
 
 pub closed-first : ClosedFirst

@@ -4,7 +4,8 @@ use Rattle.prelude.proofs.Basics.{ℕ, _≤_, le-trans, Bool, _≡_, sym, ap, _
 use Rattle.protocol.specs.Reason as Reason
 use Rattle.message.specs.declared.request.Request.the-variants.{Reset, SessionClose, Prepare, Execute, Deallocate, Open}
 use Rattle.message.specs.declared.request.Request.the-variants.{Close, Fetch}
-use Rattle.message.specs.declared.request.Frame.the-variants.{NotAllThere, BadLength, UnknownType, BadPayload, Good}
+use Rattle.message.specs.declared.request.Frame.the-variants.{NotAllThere, BadLength, UnknownType, BadPayload}
+use Rattle.message.specs.declared.request.Frame.the-variants.{BodyTwice, Good}
 use Rattle.rules.proofs.Names.{frameOf, paddedOf, Frame, Request, Session, replyBytes, minBuffer, Reply}
 use Rattle.rules.proofs.Names.{fits-smallest, onGood, stepReason, sendsColumns, replyTo, accepted, refusalOf}
 use Rattle.rules.proofs.Names.{refusedReply, refused, decisionOf, stepOn, answerSays, ReadIn, Report}
@@ -42,6 +43,7 @@ accepted-fits s NotAllThere r = fits-smallest Reply.Nothing tt
 accepted-fits s BadLength r = fits-smallest Reply.Nothing tt
 accepted-fits s (UnknownType used) r = fits-smallest Reply.Nothing tt
 accepted-fits s (BadPayload used kind) r = fits-smallest Reply.Nothing tt
+accepted-fits s (BodyTwice used kind) r = fits-smallest Reply.Nothing tt
 accepted-fits s (Good used q) r = reply-fits s q r
 
 pub refused-fits : (s : Session) (x : Frame) (r : Report) → ReadIn x → Fits (refusedReply x r (stepReason s x r))

@@ -1,17 +1,18 @@
 -- A look and a step agree. Assumes nothing.
-use Rattle.prelude.proofs.Basics.{ℕ, _≤_, _<_, arith, Bool, true, false, cond, true≢false, _≡_, refl, sym, ap, _∙_}
+use Rattle.prelude.proofs.Basics.{ℕ, _<_, arith, Bool, true, false, cond, true≢false, _≡_, refl, sym, ap, _∙_}
 use Rattle.prelude.proofs.Basics.{List, length, eqb, eqb-true, le-ltb, lt-ltb, ltb-true, ne-eqb}
 use Rattle.protocol.specs.Reason as Reason
 use Rattle.message.specs.declared.request.Request.the-variants.{Reset, SessionClose, Prepare, Execute, Deallocate, Open}
 use Rattle.message.specs.declared.request.Request.the-variants.{Close, Fetch}
-use Rattle.message.specs.declared.request.Frame.the-variants.{NotAllThere, BadLength, UnknownType, BadPayload, Good}
+use Rattle.message.specs.declared.request.Frame.the-variants.{NotAllThere, BadLength, UnknownType, BadPayload}
+use Rattle.message.specs.declared.request.Frame.the-variants.{BodyTwice, Good}
 use Rattle.rules.proofs.Names.{frameOf, paddedOf, Frame, Request, Session, among, minBuffer, Reply, onGood}
 use Rattle.rules.proofs.Names.{noWork, workOf, lookReason, reportReason, stepReason, rowCount, sendsColumns}
 use Rattle.rules.proofs.Names.{sessionAfter, replyTo, accepted, wireCode, refusedReply, refused, decisionOf}
 use Rattle.rules.proofs.Names.{looked, lookOf, short, tooShort, stepBy, stepOn, stepSays, lookAt, Report}
 use Rattle.rules.specs.Decision.{decidedBy, lookRefused}
 use Rattle.rules.specs.StepRules.{RefusesAlike, RefusesFew, ShortFirst, ReportNotConsulted}
-use Rattle.rules.proofs.RefusalLaws.{took-look, look-small, not-three, idle, few, report-few}
+use Rattle.rules.proofs.RefusalLaws.{took-look, look-failed, not-three, idle, few, report-few}
 use Rattle.rules.proofs.StepLaws.{step-has}
 
 -- ---- a look, by cases
@@ -50,6 +51,7 @@ step-reason s x r buffer room = rw room (go (eqb (stepReason s x r) 0) refl x re
     go true e BadLength g = refl
     go true e (UnknownType used) g = refl
     go true e (BadPayload used kind) g = refl
+    go true e (BodyTwice used kind) g = refl
     go true e (Good used q) g = sym (eqb-true (stepReason s x r) 0 e)
     go false e y g = refl
 
@@ -98,10 +100,10 @@ accepted-same s r other (Open o) e = absurd (omega arith)
 accepted-same s r other (Close cursor) e = refl
 accepted-same s r other (Fetch f) e = absurd (omega arith)
 
-refused-same : (x : Frame) (r other : Report) (n : ℕ) → n ≤ Reason.cursorsFull →
+refused-same : (x : Frame) (r other : Report) (n : ℕ) → (n ≡ Reason.engineFailed → ⊥) →
     refusedReply x r n ≡ refusedReply x other n
 unfolding refusedReply wireCode
-refused-same x r other n h = rw (ne-eqb n Reason.engineFailed (λ e. omega arith))
+refused-same x r other n h = rw (ne-eqb n Reason.engineFailed h)
 
 -- by the look alone
 module _ (s : Session) (x : Frame) (r : Report) where
@@ -138,7 +140,8 @@ decided-same s x r other true e w = go x (g .2) e w
         ap (λ z. decisionOf s z r) f ∙ decided-idle s (g .0) (g .1) r h' idle' ∙ accepted-same s r other (g .1) idle'
         ∙ sym (decided-idle s (g .0) (g .1) other h' idle') ∙ ap (λ z. decisionOf s z other) (sym f)
 decided-same s x r other false e w =
-    decided-refused s x r e ∙ ap (refused s (lookReason s x)) (refused-same x r other (lookReason s x) (look-small s x))
+    decided-refused s x r e
+    ∙ ap (refused s (lookReason s x)) (refused-same x r other (lookReason s x) (look-failed s x))
     ∙ sym (decided-refused s x other e)
 
 pub report-not-consulted : ReportNotConsulted

@@ -1,6 +1,6 @@
 -- Every request that a frame gives has numbers of 32 bits: ids are cut to them, and a frame has fewer bytes. Assumes
 -- nothing.
-use Rattle.prelude.proofs.Basics.{ℕ, zero, suc, _+_, _-_, _%_, _^_, _≤_, _<_, arith, le-trans, mod-lt, Bool, not, _&&_}
+use Rattle.prelude.proofs.Basics.{ℕ, zero, suc, _+_, _-_, _%_, _^_, _≤_, _<_, arith, le-trans, mod-lt, Bool}
 use Rattle.prelude.proofs.Basics.{List, [], _∷_, length, getD, take, length-take, eqb, leb, ltb, ltb-false, both}
 use Rattle.protocol.specs.Client.{reset, sessionClose, execute, deallocate, close}
 use Rattle.protocol.specs.Reason as Reason
@@ -8,18 +8,19 @@ use Rattle.scalar.specs.declared.argument.Argument.{Argument}
 use Rattle.layout.specs.Table.{rowsOf, prepareStmt, stmtExecute, openStmt}
 use Rattle.layout.specs.Fields.{fieldsAt}
 use Rattle.layout.specs.declared.slots.Slots.{Slots}
-use Rattle.layout.specs.Part.{embedded, absent, valueOf, startOf, lenOf, low32}
+use Rattle.layout.specs.Part.{embedded, valueOf, low32}
+use Rattle.layout.specs.Merged.{partsIn, merged}
 use Rattle.layout.specs.declared.part.Part.{Part}
 use Rattle.args.specs.Arguments.{noArguments, badArguments, counted, withType, anyTypeOf, together, argumentsFrom}
 use Rattle.args.specs.Arguments.{argumentsAt, argumentsIn, nextArgument, andMore}
 use Rattle.args.specs.declared.arguments.Arguments.{Arguments}
 use Rattle.args.specs.declared.arguments.NextArgument.{NextArgument}
 use Rattle.message.specs.Operation as Operation
-use Rattle.message.specs.Payload.{payload, ifGood, optionalOf, truthOf}
+use Rattle.message.specs.Payload.{payload, ifGood, twice, optionalOf, truthOf}
 use Rattle.message.specs.Simple.{resetFrame, sessionCloseFrame, deallocateFrame, closeFrame, fetchFrame}
-use Rattle.message.specs.Execute.{badExecute, argumentsWithin, executeOf, executeIn, executeFrame, openFrom, openChosen}
-use Rattle.message.specs.Execute.{openInside, openFrame}
-use Rattle.message.specs.Prepare.{bodyIn, prepareFrom, prepareChosen, prepareInside, prepareFrame}
+use Rattle.message.specs.Execute.{badExecute, argumentsWithin, executeOf, executeIn, executeFrame, executesGood}
+use Rattle.message.specs.Execute.{openBy, openInside, openParts, openFrame}
+use Rattle.message.specs.Prepare.{bodyIn, bodiesGood, prepareBy, prepareTyped, prepareInside, stmtParts, prepareFrame}
 use Rattle.message.specs.declared.request.Execute.{Execute}
 use Rattle.rules.proofs.Names.{prepare, open', fetch, lengthBytes, maxLength, lengthOf, headOf, ofHead, frameIn}
 use Rattle.rules.proofs.Names.{frameOf, Head, Frame, Optional, Request, maxNumber, Read, ReadIn}
@@ -90,6 +91,11 @@ none-read = none-few maxNumber 0 0
 pub if-good-read : (s : List ℕ) (kind : ℕ) (good : Bool) (q : Request) → Read q → ReadIn (ifGood s kind good q)
 if-good-read s kind good q h = both ReadIn good (Frame.Good (length s) q) (Frame.BadPayload (length s) kind) (λ _. h)
     (λ _. tt)
+
+-- a body that occurs more than once
+twice-read : (s : List ℕ) (kind : ℕ) (good : Bool) → ReadIn (twice (length s) kind good)
+twice-read s kind good =
+    both ReadIn good (Frame.BodyTwice (length s) kind) (Frame.BadPayload (length s) kind) (λ _. tt) (λ _. tt)
 
 reset-read : Read Request.Reset
 reset-read = record {
@@ -188,22 +194,25 @@ module _ (s : List ℕ) (long : length s ≤ maxNumber) where
       if-good-read s execute (x .args .good) (Request.Execute x)
       (execute-read x (in-short payload (length s - payload)))
 
-  open-chosen : (id : ℕ) (rows : Optional) (y : Slots) → ReadIn (openChosen s id rows y)
-  open-chosen id rows y =
-      let body : Part = record { start = startOf y 2; len = lenOf y 2 } in
-      let x = executeIn s (startOf y 2) (lenOf y 2) in
-      both ReadIn (y .good && not (absent y 2)) (openFrom s id rows body x) (Frame.BadPayload (length s) open')
-      (λ _. if-good-read s open' (x .args .good) _ (open-read id rows body x (in-short (startOf y 2) (lenOf y 2))))
-      (λ _. tt)
+  open-by : (id : ℕ) (rows : Optional) (es : List Part) → ReadIn (openBy s id rows es)
+  open-by id rows [] = tt
+  open-by id rows (e ∷ []) =
+      let x = executeIn s (e .start) (e .len) in
+      if-good-read s open' (x .args .good) _ (open-read id rows e x (in-short (e .start) (e .len)))
+  open-by id rows (e ∷ (f ∷ es)) = twice-read s open' (executesGood s (e ∷ (f ∷ es)))
+
+  open-inside : (id : ℕ) (rows : Optional) (ps : List Part) → ReadIn (openInside s id rows ps)
+  open-inside id rows ps =
+      both ReadIn (merged (rowsOf openStmt) s ps .good) _ (Frame.BadPayload (length s) open')
+      (λ _. open-by id rows (partsIn 2 s ps)) (λ _. tt)
 
   open-frame : ReadIn (openFrame s)
   unfolding openFrame
   open-frame =
       let x = fieldsAt (rowsOf open') s payload in
-      both ReadIn (x .good) (openInside s (valueOf x 1) (optionalOf x 5) (startOf x 4) (lenOf x 4))
+      both ReadIn (x .good) (openInside s (valueOf x 1) (optionalOf x 5) (openParts s))
       (Frame.BadPayload (length s) open')
-      (λ _. open-chosen (valueOf x 1) (optionalOf x 5) (embedded (rowsOf openStmt) s (startOf x 4) (lenOf x 4)))
-      (λ _. tt)
+      (λ _. open-inside (valueOf x 1) (optionalOf x 5) (openParts s)) (λ _. tt)
 
   body-few : (t at n : ℕ) → Few maxNumber (bodyIn s t at n)
   unfolding bodyIn
@@ -214,22 +223,26 @@ module _ (s : List ℕ) (long : length s ≤ maxNumber) where
       (λ _. both (Few maxNumber) (embedded [] s at n .good) (noArguments 0 0) badArguments (λ _. none-read)
       (λ _. bad-few maxNumber))
 
-  prepare-chosen : (id : ℕ) (y : Slots) (t k : ℕ) → ReadIn (prepareChosen s id y t k)
-  prepare-chosen id y t k =
-      let body : Part = record { start = startOf y k; len = lenOf y k } in
-      let args = bodyIn s t (startOf y k) (lenOf y k) in
-      both ReadIn (y .good && not (absent y k)) (prepareFrom s id t body args) (Frame.BadPayload (length s) prepare)
-      (λ _. if-good-read s prepare (args .good) _ (prepare-read id t body args
-      (body-few t (startOf y k) (lenOf y k)))) (λ _. tt)
+  prepare-by : (id t : ℕ) (bs : List Part) → ReadIn (prepareBy s id t bs)
+  prepare-by id t [] = tt
+  prepare-by id t (b ∷ []) =
+      let args = bodyIn s t (b .start) (b .len) in
+      if-good-read s prepare (args .good) _ (prepare-read id t b args (body-few t (b .start) (b .len)))
+  prepare-by id t (b ∷ (c ∷ bs)) = twice-read s prepare (bodiesGood s t (b ∷ (c ∷ bs)))
+
+  prepare-inside : (id : ℕ) (ps : List Part) → ReadIn (prepareInside s id ps)
+  prepare-inside id ps =
+      let y = merged (rowsOf prepareStmt) s ps in
+      let t = low32 (valueOf y 1) in
+      both ReadIn (y .good) (prepareTyped s id ps t) (Frame.BadPayload (length s) prepare)
+      (λ _. prepare-by id t (partsIn (Operation.fieldOf t) s ps)) (λ _. tt)
 
   prepare-frame : ReadIn (prepareFrame s)
   unfolding prepareFrame
   prepare-frame =
       let x = fieldsAt (rowsOf prepare) s payload in
-      let y = embedded (rowsOf prepareStmt) s (startOf x 2) (lenOf x 2) in
-      both ReadIn (x .good) (prepareInside s (valueOf x 1) (startOf x 2) (lenOf x 2))
-      (Frame.BadPayload (length s) prepare)
-      (λ _. prepare-chosen (valueOf x 1) y (low32 (valueOf y 1)) (Operation.fieldOf (low32 (valueOf y 1)))) (λ _. tt)
+      both ReadIn (x .good) (prepareInside s (valueOf x 1) (stmtParts s)) (Frame.BadPayload (length s) prepare)
+      (λ _. prepare-inside (valueOf x 1) (stmtParts s)) (λ _. tt)
 
   reset-frame : ReadIn (resetFrame s)
   unfolding resetFrame

@@ -1,17 +1,19 @@
 -- What the tests of a step come to: which reasons it gives, and what holds where it gives none. Assumes nothing.
 use Rattle.prelude.proofs.Basics.{ℕ, _≤_, arith, Bool, true, false, not, _&&_, _||_, cond, true≢false, false≢true, _≡_}
-use Rattle.prelude.proofs.Basics.{refl, sym, ap, _∙_, List, [], _∷_, eqb, leb, eqb-false, eqb-true, leb-true, both}
+use Rattle.prelude.proofs.Basics.{refl, sym, ap, _∙_, List, [], _∷_, eqb, leb, eq-eqb, eqb-false, eqb-true, leb-true}
+use Rattle.prelude.proofs.Basics.{both}
 use Rattle.protocol.specs.Reason as Reason
 use Rattle.message.specs.declared.request.Request.the-variants.{Reset, SessionClose, Prepare, Execute, Deallocate, Open}
 use Rattle.message.specs.declared.request.Request.the-variants.{Close, Fetch}
-use Rattle.message.specs.declared.request.Frame.the-variants.{NotAllThere, BadLength, UnknownType, BadPayload, Good}
+use Rattle.message.specs.declared.request.Frame.the-variants.{NotAllThere, BadLength, UnknownType, BadPayload}
+use Rattle.message.specs.declared.request.Frame.the-variants.{BodyTwice, Good}
 use Rattle.rules.proofs.Names.{usedOf, Frame, Request, Session, isClosed, maxNumber, and-true, among, noWork}
 use Rattle.rules.proofs.Names.{workOf, suits, Test, firstOf, requestTests, lookReason, reportTests, reportReason}
-use Rattle.rules.proofs.Names.{stepReason, Report}
+use Rattle.rules.proofs.Names.{stepReason, onGood, Report}
 use Rattle.rules.specs.Report.{failed, works, fails}
 use Rattle.rules.specs.Refusal.{refusal, isRefused, stmtNotLive, unsupported, fewArguments, cursorNotLive}
-use Rattle.rules.specs.Refusal.{allSent, otherCursor, stmtsFull, cursorsFull}
-use Rattle.rules.proofs.TestLaws.{allOf, first-passes, accepted-none}
+use Rattle.rules.specs.Refusal.{allSent, otherCursor, stmtsFull, cursorsFull, frameTests, lookTests}
+use Rattle.rules.proofs.TestLaws.{allOf, first-passes, all-append, accepted-none}
 
 -- ---- the look
 
@@ -37,7 +39,7 @@ pub record Looked (s : Session) (q : Request) : Type 0 where
 
 pub looked-at : (s : Session) (used : ℕ) (q : Request) → lookReason s (Good used q) ≡ 0 → Looked s q
 looked-at s used q e =
-    let h = accepted-none 0 (goodTests s q) refl (sym (look-good s used q) ∙ e) in
+    let h = accepted-none (goodTests s q) refl (sym (look-good s used q) ∙ e) in
     let t = h .1 in
     record {
       unclosed = h .0;
@@ -76,7 +78,7 @@ by-work (Fetch f) r h = h refl
 
 pub suited : (used : ℕ) (q : Request) (r : Report) → reportReason (Good used q) r ≡ 0 → suits q r ≡ true
 suited used q r e =
-    let h = accepted-none 0 (reportTests q r) refl (sym (report-same used q r) ∙ e) in
+    let h = accepted-none (reportTests q r) refl (sym (report-same used q r) ∙ e) in
     by-work q r (works-suits (works q) (suits q r) (fails r) (h .0) (h .1 .0))
 
 -- a report that is not consulted refuses nothing
@@ -122,6 +124,7 @@ took-look s NotAllThere e = absurd (omega arith)
 took-look s BadLength e = absurd (omega arith)
 took-look s (UnknownType used) e = absurd (closed-or (isClosed s) Reason.unknownType (λ z. omega arith) e)
 took-look s (BadPayload used kind) e = absurd (closed-or (isClosed s) Reason.badPayload (λ z. omega arith) e)
+took-look s (BodyTwice used kind) e = absurd (closed-or (isClosed s) Reason.bodyTwice (λ z. omega arith) e)
 took-look s (Good used q) e = (used, q, refl)
 
 pub took : (s : Session) (x : Frame) (r : Report) → stepReason s x r ≡ 0 → Taken s x r
@@ -153,41 +156,45 @@ report-passes p z a b NotAllThere r = z
 report-passes p z a b BadLength r = z
 report-passes p z a b (UnknownType used) r = z
 report-passes p z a b (BadPayload used kind) r = z
+report-passes p z a b (BodyTwice used kind) r = z
 report-passes p z a b (Good used q) r =
     first-passes p z (reportTests q r) (rw (a, b))
 
--- of a look: by itself, closed, or of the request
-pub look-passes : (p : ℕ → Bool) → p Reason.notAllThere ≡ true → p Reason.badLength ≡ true →
-    p Reason.unknownType ≡ true → p Reason.badPayload ≡ true →
-    p 0 ≡ true → ((s : Session) (q : Request) → allOf p (goodTests s q) ≡ true) → (s : Session) (x : Frame) →
+-- of a look
+pub look-passes : (p : ℕ → Bool) → p 0 ≡ true → ((s : Session) (x : Frame) → allOf p (frameTests s x) ≡ true) →
+    ((s : Session) (q : Request) → allOf p (requestTests s q) ≡ true) → (s : Session) (x : Frame) →
     p (lookReason s x) ≡ true
 unfolding lookReason
-look-passes p a b c d z h s NotAllThere = a
-look-passes p a b c d z h s BadLength = b
-look-passes p a b c d z h s (UnknownType used) = both (λ (n : ℕ). p n ≡ true) (isClosed s) Reason.closed
-    Reason.unknownType (λ _. closed s) (λ _. c)
+look-passes p z f h s x =
+    first-passes p z (lookTests s x)
+    (all-append p (frameTests s x) (onGood [] (requestTests s) x) (f s x) (asked x))
   where
-    closed : (s : Session) → p Reason.closed ≡ true
-    closed s = and-true (p Reason.closed) (allOf p (requestTests s Reset)) (h s Reset) .0
-look-passes p a b c d z h s (BadPayload used kind) = both (λ (n : ℕ). p n ≡ true) (isClosed s) Reason.closed
-    Reason.badPayload (λ _. closed s) (λ _. d)
-  where
-    closed : (s : Session) → p Reason.closed ≡ true
-    closed s = and-true (p Reason.closed) (allOf p (requestTests s Reset)) (h s Reset) .0
-look-passes p a b c d z h s (Good used q) = first-passes p z (goodTests s q) (h s q)
+    asked : (x : Frame) → allOf p (onGood [] (requestTests s) x) ≡ true
+    asked NotAllThere = refl
+    asked BadLength = refl
+    asked (UnknownType used) = refl
+    asked (BadPayload used kind) = refl
+    asked (BodyTwice used kind) = refl
+    asked (Good used q) = h s q
 
--- a look gives none of the report's reasons
-pub look-small : (s : Session) (x : Frame) → lookReason s x ≤ Reason.cursorsFull
-look-small s x =
-    leb-true (lookReason s x) Reason.cursorsFull
-    (look-passes (λ n. leb n Reason.cursorsFull) refl refl refl refl refl (λ s q. refl) s x)
+-- a number that is not another
+abbrev pub other : ℕ → ℕ → Bool
+other k n = not (eqb n k)
+
+pub unlike : (n k : ℕ) → other k n ≡ true → n ≡ k → ⊥
+unlike n k h e = true≢false (sym h ∙ ap not (eq-eqb n k e))
+
+-- a look gives no reason of a failed engine
+pub look-failed : (s : Session) (x : Frame) → lookReason s x ≡ Reason.engineFailed → ⊥
+look-failed s x =
+    unlike (lookReason s x) Reason.engineFailed
+    (look-passes (other Reason.engineFailed) refl (λ s x. refl) (λ s q. refl) s x)
 
 pub not-three : (s : Session) (x : Frame) (r : Report) → stepReason s x r ≡ Reason.noRoom → ⊥
-not-three s x r e =
-    let p : ℕ → Bool = λ n. not (eqb n Reason.noRoom) in
-    let h = step-passes p s x r (look-passes p refl refl refl refl refl (λ s q. refl) s x)
-    (report-passes p refl refl refl x r) in
-    false≢true (sym (ap p e) ∙ h)
+not-three s x r =
+    let p = other Reason.noRoom in
+    unlike (stepReason s x r) Reason.noRoom (step-passes p s x r (look-passes p refl (λ s x. refl) (λ s q. refl) s x)
+    (report-passes p refl refl refl x r))
 
 abbrev pub few : ℕ → Bool
 few n = among n (Reason.accepted ∷ Reason.noRoom ∷ Reason.badReport ∷ Reason.engineFailed ∷ [])
@@ -212,6 +219,7 @@ report-code NotAllThere r = λ e. absurd (omega arith)
 report-code BadLength r = λ e. absurd (omega arith)
 report-code (UnknownType used) r = λ e. absurd (omega arith)
 report-code (BadPayload used kind) r = λ e. absurd (omega arith)
+report-code (BodyTwice used kind) r = λ e. absurd (omega arith)
 report-code (Good used q) r =
     both (CodeSmall r) (works q && not (suits q r || fails r)) Reason.badReport _ (λ _ e. absurd (omega arith))
     (λ _. both (CodeSmall r) (works q && fails r) Reason.engineFailed Reason.accepted
@@ -220,43 +228,42 @@ report-code (Good used q) r =
 pub code-small : (s : Session) (x : Frame) (r : Report) → CodeSmall r (stepReason s x r)
 code-small s x r =
     both (CodeSmall r) (eqb (lookReason s x) 0) (reportReason x r) (lookReason s x) (λ _. report-code x r)
-    (λ _ e. absurd (omega (arith, look-small s x)))
+    (λ _ e. absurd (look-failed s x e))
 
 -- ---- reasons 1 to 3
 
-late : (n : ℕ) → (eqb n 0 || leb Reason.closed n) ≡ true → n ≤ Reason.noRoom → n ≡ 0
+-- none, or from 4 on
+abbrev isLate : ℕ → Bool
+isLate n = eqb n 0 || leb Reason.closed n
+
+late : (n : ℕ) → isLate n ≡ true → n ≤ Reason.noRoom → n ≡ 0
 late n e h = go (eqb n 0) refl e
   where
     go : (b : Bool) → eqb n 0 ≡ b → (b || leb Reason.closed n) ≡ true → n ≡ 0
     go true f g = eqb-true n 0 f
     go false f g = absurd (omega (arith, leb-true Reason.closed n g))
 
+late-step : (s : Session) (x : Frame) (r : Report) → isLate (lookReason s x) ≡ true →
+    stepReason s x r ≤ Reason.noRoom → stepReason s x r ≡ 0
+late-step s x r h = late (stepReason s x r) (step-passes isLate s x r h (report-passes isLate refl refl refl x r))
+
+-- closed, or a reason that comes behind it
+late-own : (b : Bool) (n : ℕ) → isLate n ≡ true → isLate (cond b Reason.closed n) ≡ true
+late-own b n h = both (λ (m : ℕ). isLate m ≡ true) b Reason.closed n (λ _. refl) (λ _. h)
+
 -- of a frame that is all there and of a good length only reasons from 4 on are given
 pub late-read : (s : Session) (x : Frame) (r : Report) →
     (isRefused Reason.notAllThere x || isRefused Reason.badLength x) ≡ false →
     stepReason s x r ≤ Reason.noRoom → stepReason s x r ≡ 0
-unfolding lookReason reportReason
-late-read s NotAllThere r e h = absurd (true≢false e)
-late-read s BadLength r e h = absurd (true≢false e)
-late-read s (UnknownType used) r e h = absurd (no (isClosed s) h)
-  where
-    no : (b : Bool) → cond (eqb (cond b Reason.closed Reason.unknownType) 0) 0
-        (cond b Reason.closed Reason.unknownType) ≤ Reason.noRoom → ⊥
-    no true e = omega arith
-    no false e = omega arith
-late-read s (BadPayload used kind) r e h = absurd (no (isClosed s) h)
-  where
-    no : (b : Bool) → cond (eqb (cond b Reason.closed Reason.badPayload) 0) 0 (cond b Reason.closed Reason.badPayload)
-        ≤ Reason.noRoom → ⊥
-    no true e = omega arith
-    no false e = omega arith
-late-read s (Good used q) r e h =
-    late (stepReason s (Good used q) r)
-    (step-passes p s (Good used q) r (first-passes p refl (goodTests s q) refl)
-    (report-passes p refl refl refl (Good used q) r)) h
-  where
-    p : ℕ → Bool
-    p n = eqb n 0 || leb Reason.closed n
+unfolding lookReason
+late-read s NotAllThere r e = absurd (true≢false e)
+late-read s BadLength r e = absurd (true≢false e)
+late-read s (UnknownType used) r e = late-step s (UnknownType used) r (late-own (isClosed s) Reason.unknownType refl)
+late-read s (BadPayload used kind) r e =
+    late-step s (BadPayload used kind) r (late-own (isClosed s) Reason.badPayload refl)
+late-read s (BodyTwice used kind) r e =
+    late-step s (BodyTwice used kind) r (late-own (isClosed s) Reason.bodyTwice refl)
+late-read s (Good used q) r e = late-step s (Good used q) r (first-passes isLate refl (goodTests s q) refl)
 
 -- below 4 stand 1 and 2, of a frame that uses no byte
 pub low-used : (s : Session) (x : Frame) (r : Report) → stepReason s x r ≤ Reason.noRoom →
@@ -265,4 +272,5 @@ low-used s NotAllThere r h z = refl
 low-used s BadLength r h z = refl
 low-used s (UnknownType used) r h z = absurd (z (late-read s (UnknownType used) r refl h))
 low-used s (BadPayload used kind) r h z = absurd (z (late-read s (BadPayload used kind) r refl h))
+low-used s (BodyTwice used kind) r h z = absurd (z (late-read s (BodyTwice used kind) r refl h))
 low-used s (Good used q) r h z = absurd (z (late-read s (Good used q) r refl h))

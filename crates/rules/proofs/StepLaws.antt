@@ -6,7 +6,8 @@ use Rattle.prelude.proofs.Basics.{drop, take-at, eqb, leb, eqb-false, eqb-true,
 use Rattle.prelude.proofs.Basics.{both}
 use Rattle.protocol.specs.Reason as Reason
 use Rattle.message.specs.Request.{argsOf}
-use Rattle.message.specs.declared.request.Frame.the-variants.{NotAllThere, BadLength, UnknownType, BadPayload, Good}
+use Rattle.message.specs.declared.request.Frame.the-variants.{NotAllThere, BadLength, UnknownType, BadPayload}
+use Rattle.message.specs.declared.request.Frame.the-variants.{BodyTwice, Good}
 use Rattle.encode.specs.Put.{written}
 use Rattle.reply.specs.Reply.{codes, codeOf}
 use Rattle.reply.proofs.ReplyLaws.{reply-error}
@@ -60,8 +61,8 @@ within-at k [] e n = omega arith
 within-at k (x ∷ xs) e zero = leb-true x k (and-true (leb x k) (allWithin k xs) e .0)
 within-at k (x ∷ xs) e (suc n) = within-at k xs (and-true (leb x k) (allWithin k xs) e .1) n
 
-code-within : (n : ℕ) → codeOf n ≤ 6015
-code-within n = within-at 6015 codes refl n
+code-within : (n : ℕ) → codeOf n ≤ 6017
+code-within n = within-at 6017 codes refl n
 
 wire-small : (r : Report) (n : ℕ) → (n ≡ Reason.engineFailed → r .code ≤ maxNumber) → wireCode r n < 2 ^ 32
 unfolding wireCode
@@ -84,6 +85,7 @@ named-in NotAllThere h n = omega arith
 named-in BadLength h n = omega arith
 named-in (UnknownType used) h n = omega arith
 named-in (BadPayload used kind) h n = omega arith
+named-in (BodyTwice used kind) h n = omega arith
 named-in (Good used q) h n = named-small q h n
 
 pub written-none : (b : List ℕ) → written b 0 [] ≡ b

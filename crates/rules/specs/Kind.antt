@@ -5,7 +5,8 @@ use lib.Dec.{eqb}
 use Rattle.message.specs.Request.{kindOf}
 use Rattle.message.specs.declared.request.Request.{Request}
 use Rattle.message.specs.declared.request.Frame.{Frame}
-use Rattle.message.specs.declared.request.Frame.the-variants.{NotAllThere, BadLength, UnknownType, BadPayload, Good}
+use Rattle.message.specs.declared.request.Frame.the-variants.{NotAllThere, BadLength, UnknownType, BadPayload}
+use Rattle.message.specs.declared.request.Frame.the-variants.{BodyTwice, Good}
 
 -- a message of this type
 abbrev pub isA : ℕ → Request → Bool
@@ -24,4 +25,5 @@ onGood none said NotAllThere = none
 onGood none said BadLength = none
 onGood none said (UnknownType used) = none
 onGood none said (BadPayload used kind) = none
+onGood none said (BodyTwice used kind) = none
 onGood none said (Good used q) = said q

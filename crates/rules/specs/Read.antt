@@ -5,7 +5,8 @@ use Rattle.message.specs.Request.{stmtOf, cursorOf, argsOf}
 use Rattle.message.specs.Frame.{frameOf}
 use Rattle.message.specs.declared.request.Request.{Request}
 use Rattle.message.specs.declared.request.Frame.{Frame}
-use Rattle.message.specs.declared.request.Frame.the-variants.{NotAllThere, BadLength, UnknownType, BadPayload, Good}
+use Rattle.message.specs.declared.request.Frame.the-variants.{NotAllThere, BadLength, UnknownType, BadPayload}
+use Rattle.message.specs.declared.request.Frame.the-variants.{BodyTwice, Good}
 use Rattle.session.specs.Sound.{maxNumber}
 
 pub record Read (q : Request) : Type 0 where
@@ -19,6 +20,7 @@ ReadIn NotAllThere = Unit {0}
 ReadIn BadLength = Unit {0}
 ReadIn (UnknownType used) = Unit {0}
 ReadIn (BadPayload used kind) = Unit {0}
+ReadIn (BodyTwice used kind) = Unit {0}
 ReadIn (Good used q) = Read q
 
 abbrev pub FramesAreRead : Type 0

@@ -31,7 +31,7 @@ abbrev pub firstOf : List Test → ℕ
 firstOf [] = Reason.accepted
 firstOf (t ∷ ts) = cond (t .holds) (t .reason) (firstOf ts)
 
--- 1, 2, 5 and 6: the frame is refused so by itself
+-- 1, 2, 5, 6 and 17: the frame is refused so by itself
 abbrev pub isRefused : ℕ → Frame → Bool
 isRefused reason x = eqb (reasonOf x) reason
 
@@ -80,6 +80,7 @@ frameTests s x =
     ∷ refusal Reason.closed (isClosed s)
     ∷ refusal Reason.unknownType (isRefused Reason.unknownType x)
     ∷ refusal Reason.badPayload (isRefused Reason.badPayload x)
+    ∷ refusal Reason.bodyTwice (isRefused Reason.bodyTwice x)
     ∷ []
 
 abbrev pub requestTests : Session → Request → List Test

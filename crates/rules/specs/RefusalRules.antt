@@ -52,8 +52,10 @@ StepDecides =
 
 -- a look gives none of 3, 15 and 16, and no number past the table's
 pub record OfLook (reason : ℕ) : Type 0 where
-  pub small : reason ≤ Reason.cursorsFull
+  pub small : reason ≤ Reason.bodyTwice
   pub room : reason ≡ Reason.noRoom → ⊥
+  pub report : reason ≡ Reason.badReport → ⊥
+  pub failed : reason ≡ Reason.engineFailed → ⊥
 
 abbrev pub LookGives : Type 0
 LookGives = (s : Session) (frame : List ℕ) → OfLook (lookAt s frame .reason)
@@ -61,7 +63,7 @@ LookGives = (s : Session) (frame : List ℕ) → OfLook (lookAt s frame .reason)
 abbrev pub StepGives : Type 0
 StepGives =
     (s : Session) (frame : List ℕ) (r : Report) (buffer : List ℕ) →
-    stepOf s frame r buffer .answer .reason ≤ Reason.engineFailed
+    stepOf s frame r buffer .answer .reason ≤ Reason.bodyTwice
 
 -- as many entries are live as there are places, and none has the id
 pub record FullWhen (limit live own : ℕ) (full : Bool) : Type 0 where

@@ -156,6 +156,7 @@ pub fn print(s: &[u8]) {
         Frame::BadLength => refused(s, reason::BAD_LENGTH, 0),
         Frame::UnknownType { used } => refused(s, reason::UNKNOWN_TYPE, used),
         Frame::BadPayload { used, kind: _ } => refused(s, reason::BAD_PAYLOAD, used),
+        Frame::BodyTwice { used, kind: _ } => refused(s, reason::BODY_TWICE, used),
         Frame::Good { used, request } => accepted(s, used, request),
     }
 }

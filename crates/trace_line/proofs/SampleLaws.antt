@@ -6,6 +6,7 @@ use Rattle.wire.specs.Field.{fieldAt}
 use Rattle.layout.specs.Fields.{fieldsFrom, hasRequired}
 use Rattle.layout.specs.Row.{rowFor}
 use Rattle.layout.specs.Table.{rowsOf}
+use Rattle.layout.specs.Merged.{partsFrom, partsIn, partsOnto}
 use Rattle.args.specs.Arguments.{argumentsFrom, placeFrom, nextArgument, together}
 use Rattle.message.specs.Prepare.{prepareFrame, bodyIn}
 use Rattle.message.specs.Execute.{openFrame, executeIn, argumentsWithin}
@@ -34,6 +35,6 @@ pub example-shown : ExampleShown
 unfolding header linesFrom endText recordAt frameAt kindAt reportAt preparedAt resultAt rowsAt numberAt groups
     lineOf markOf digits stepOn decisionOf lookReason reportReason sessionAfter replyTo firstRow rowCount
     sendsColumns refusedReply wireCode named namedKind frameOf frameIn prepareFrame fetchFrame openFrame executeIn
-    bodyIn argumentsWithin argumentsFrom placeFrom nextArgument together little fieldAt fieldsFrom hasRequired
-    rowFor rowsOf first replyBytes sumBy text errorPayload numberField bytesField shortest
+    bodyIn partsFrom partsIn partsOnto argumentsWithin argumentsFrom placeFrom nextArgument together little fieldAt
+    fieldsFrom hasRequired rowFor rowsOf first replyBytes sumBy text errorPayload numberField bytesField shortest
 example-shown = refl

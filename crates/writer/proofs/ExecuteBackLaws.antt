@@ -3,9 +3,12 @@ use Rattle.prelude.proofs.Basics.{ℕ, _+_, _-_, _*_, _^_, _<_, arith, mod-eq-o
 use Rattle.prelude.proofs.Basics.{sym, ap, _∙_, List, [], _∷_, _++_, map, append-nil, length, take, length-take-le}
 use Rattle.protocol.specs.Client as Client
 use Rattle.layout.specs.Table.{rowsOf, openStmt}
-use Rattle.message.specs.Execute.{executeOf, executeIn, executeFrom, executeFrame, openFrom, openChosen, openInside}
-use Rattle.message.specs.Execute.{openOf, openFrame}
-use Rattle.message.specs.declared.request.Optional.{Optional}
+use Rattle.layout.specs.Part.{countOf, startOf, lenOf}
+use Rattle.layout.specs.Merged.{onePart, partsIn}
+use Rattle.layout.specs.MergedRules.{holdsBytes}
+use Rattle.layout.proofs.MergedLaws.{one-part}
+use Rattle.message.specs.Execute.{executeOf, executeIn, executeFrom, executeFrame, openFrom, openBy, openInside}
+use Rattle.message.specs.Execute.{openParts, openOf, openFrame}
 use Rattle.message.specs.declared.request.Execute.{Execute}
 use Rattle.message.proofs.MessageLaws.{execute-good}
 use Rattle.writer.proofs.Names.{tail-length, Stands, stands-length, stands-cut, tail-stands, stands-first}
@@ -14,7 +17,8 @@ use Rattle.writer.proofs.Names.{low32, Use, Slots, argumentsAt, noArgum
 use Rattle.writer.proofs.Names.{argumentsWithin, Frame, Request, payload-good, within-there, numberField}
 use Rattle.writer.proofs.Names.{optionalField, bytesField, frame, given}
 use Rattle.writer.proofs.FieldLaws.{withNumber, withBytes, behindTag, reads-number, reads-bytes, reads-optional}
-use Rattle.writer.proofs.FieldLaws.{reads-then, whole-good, embedded-good, stands-inside}
+use Rattle.writer.proofs.FieldLaws.{reads-then, whole-good, embedded-good, stands-inside, parts-whole}
+use Rattle.writer.proofs.FieldLaws.{parts-inner}
 use Rattle.writer.proofs.ArgListLaws.{together-kept, together-moved}
 use Rattle.writer.proofs.StretchLaws.{Stretch, fieldCount, bump, bumped, withCount, reads-stretch}
 use Rattle.writer.proofs.ListsLaws.{lists-number, lists-optional, lists-then, lists-whole, lists-stretch}
@@ -220,14 +224,21 @@ partStart num at n = behindTag (behindTag at (num * 8 + 2)) n
 
 -- what is read of those slots
 open-inner : (s : List ℕ) (cursor at n far rows : ℕ) (b : Bool) →
-    openOf s (openSlots cursor at n far b rows) ≡ openInside s cursor (given b rows) (partStart 4 at n) n
+    openOf s (openSlots cursor at n far b rows) ≡ openInside s cursor (given b rows) (openParts s)
 open-inner s cursor at n far rows true = refl
 open-inner s cursor at n far rows false = refl
 
-open-taken : (s : List ℕ) (cursor : ℕ) (rows : Optional) (at far n : ℕ) →
-    openChosen s cursor rows (openStmtSlots at far n)
-    ≡ openFrom s cursor rows (record { start = partStart 2 far n; len = n }) (executeIn s (partStart 2 far n) n)
-open-taken s cursor rows at far n = refl
+-- and where the statement and the Execute stand
+open-holds : (holdsBytes (rowsOf Client.open') 4 ≡ true) × (holdsBytes (rowsOf openStmt) 2 ≡ true)
+unfolding rowsOf rowFor
+open-holds = (refl, refl)
+
+open-once : (cursor at n far rows : ℕ) (b : Bool) →
+    (openSlots cursor at n far b rows .good ≡ true) × (countOf (openSlots cursor at n far b rows) 4 ≡ 1)
+    × (onePart (startOf (openSlots cursor at n far b rows) 4) (lenOf (openSlots cursor at n far b rows) 4)
+    ≡ onePart (partStart 4 at n) n)
+open-once cursor at n far rows true = (refl, refl, refl)
+open-once cursor at n far rows false = (refl, refl, refl)
 
 module _ (stmt : ℕ) (b z : Bool) (args : List ℕ) (g : Stretch args 0) (small : stmt < 2 ^ 32)
     (cursor rows : ℕ) (b′ : Bool) (small-cursor : cursor < 2 ^ 32) (small-rows : rows < 2 ^ 64) where
@@ -301,17 +312,35 @@ module _ (stmt : ℕ) (b z : Bool) (args : List ℕ) (g : Stretch args 0) (small
       short-run))
       stmt-stands (sym (open-stmt-needed stmt-at (stmt-at + length (numberField 1 0)) (length run-bytes)))
 
+  pub stmt-once : length stmt-bytes < 2 ^ 64 → openParts opened ≡ onePart stmt-at (length stmt-bytes)
+  stmt-once short =
+      let at = payload + length (numberField 1 cursor) in
+      let far = payload + length (numberField 1 cursor ++ bytesField 4 stmt-bytes) in
+      let once = open-once cursor at (length stmt-bytes) far rows b′ in
+      parts-whole (rowsOf Client.open') 4 (open-holds .0) (once .0) (once .1) opened payload (open-listed short)
+      ∙ once .2
+
+  pub run-once : length run-bytes < 2 ^ 64 →
+      partsIn 2 opened (onePart stmt-at (length stmt-bytes)) ≡ onePart run-at (length run-bytes)
+  run-once short =
+      parts-inner (rowsOf openStmt) 2 (open-holds .1) refl refl opened stmt-at (length stmt-bytes)
+      (open-stmt-listed short)
+
   pub open-back : length stmt-bytes < 2 ^ 64 → length run-bytes < 2 ^ 64 →
       openFrame opened ≡ Frame.Good (length opened) (opening cursor)
   unfolding openFrame
   open-back short short-run =
       let at = payload + length (numberField 1 cursor) in
       let far = payload + length (numberField 1 cursor ++ bytesField 4 stmt-bytes) in
-      let run-far = stmt-at + length (numberField 1 0) in
+      let ps = onePart stmt-at (length stmt-bytes) in
+      let unopened = Frame.BadPayload (length opened) Client.open' in
       ap (openOf opened) (open-listed short)
       ∙ open-inner opened cursor at (length stmt-bytes) far rows b′
-      ∙ ap (openChosen opened cursor (given b′ rows)) (open-stmt-listed short-run)
-      ∙ open-taken opened cursor (given b′ rows) stmt-at run-far (length run-bytes)
+      ∙ ap (openInside opened cursor (given b′ rows)) (stmt-once short)
+      ∙ ap (λ (x : Slots). cond (x .good) (openBy opened cursor (given b′ rows) (partsIn 2 opened ps)) unopened)
+      (one-part (rowsOf openStmt) opened (record { start = stmt-at; len = length stmt-bytes })
+      ∙ open-stmt-listed short-run)
+      ∙ ap (openBy opened cursor (given b′ rows)) (run-once short-run)
       ∙ ap (openFrom opened cursor (given b′ rows) (record { start = run-at; len = length run-bytes }))
       (execute-is stmt b z args g small run-stands)
       ∙ sym (payload-good opened Client.open' (opening (low32 cursor))

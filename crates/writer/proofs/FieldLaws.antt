@@ -1,6 +1,6 @@
 -- A field that is written reads back, wherever it stands; and field lists part by part. Assumes nothing.
 use Rattle.prelude.proofs.Basics.{ℕ, _+_, _-_, _*_, _/_, _%_, _^_, _<_, arith, Bool, true, false, cond, _≡_, refl, sym}
-use Rattle.prelude.proofs.Basics.{ap, subst, _∙_, List, [], _++_, length, length-append}
+use Rattle.prelude.proofs.Basics.{ap, subst, _∙_, List, [], _++_, length, length-append, take}
 use Rattle.varint.specs.declared.Varint.{Varint}
 use Rattle.varint.proofs.VarintLaws.{reads-there, varint-length}
 use Rattle.wire.specs.Tag.{tagOf, tagAt}
@@ -11,7 +11,13 @@ use Rattle.wire.proofs.ValueLaws.{length-good}
 use Rattle.wire.proofs.FieldLaws.{field-tagged}
 use Rattle.layout.specs.Fields.{checked}
 use Rattle.layout.proofs.FieldsLaws.{starts, ends, checked-good}
+use Rattle.layout.specs.Part.{countOf, startOf, lenOf}
+use Rattle.layout.specs.Merged.{onePart, partsOf, partsIn}
+use Rattle.layout.specs.MergedRules.{holdsBytes, Keeps}
+use Rattle.layout.specs.declared.part.Part.{Part}
 use Rattle.layout.proofs.PartLaws.{part-within}
+use Rattle.layout.proofs.CountLaws.{good-list}
+use Rattle.layout.proofs.KeepsLaws.{parts-kept, one-only}
 use Rattle.encode.proofs.FieldLaws.{number-parts, prefix-parts}
 use Rattle.writer.proofs.Names.{varintBytes, Tail, tail-length, Stands, stands-length, stands-cut, tail-stands}
 use Rattle.writer.proofs.Names.{stands-first, stands-next, fieldAt, Field, Tag, noSlots, useOf, noted, fieldsAt}
@@ -175,3 +181,27 @@ stands-inside {s} {at} num bs {q} k =
     let n = varintBytes (length bs) in
     let e : at + length (g ++ n) ≡ at + length g + length n = omega (arith, length-append g n) in
     subst (λ (p : ℕ). Stands s p bs q) e (stands-next (g ++ n) bs k)
+
+-- ---- where a field with bytes stands
+
+-- in a message that has it once it is the one part
+module _ (rows : List (List ℕ)) (k : ℕ) (h : holdsBytes rows k ≡ true) {x : Slots} (good : x .good ≡ true)
+    (one : countOf x k ≡ 1) where
+  pub parts-whole : (s : List ℕ) (from : ℕ) → fieldsAt rows s from ≡ x →
+      partsOf k s from ≡ onePart (startOf x k) (lenOf x k)
+  parts-whole s from e =
+      one-only x k (partsOf k s from)
+      (subst (λ (y : Slots). Keeps y k (partsOf k s from)) e
+      (parts-kept .whole rows k s from h (ap (λ (y : Slots). y .good) e ∙ good)))
+      one
+
+  pub parts-embedded : (s : List ℕ) (at n : ℕ) → embedded rows s at n ≡ x →
+      partsOf k (take (at + n) s) at ≡ onePart (startOf x k) (lenOf x k)
+  parts-embedded s at n e =
+      parts-whole (take (at + n) s) at
+      (part-within rows s at n (good-list rows s at (at + n) (ap (λ (y : Slots). y .good) e ∙ good) .0) ∙ e)
+
+  pub parts-inner : (s : List ℕ) (at n : ℕ) → embedded rows s at n ≡ x →
+      partsIn k s (onePart at n) ≡ onePart (startOf x k) (lenOf x k)
+  unfolding partsIn
+  parts-inner s at n e = ap (λ (ps : List Part). ps ++ []) (parts-embedded s at n e)

@@ -6,11 +6,11 @@ use Rattle.varint.specs.Varint.{groups}
 use Rattle.varint.specs.Shortest.{shortest}
 use Rattle.varint.specs.Padded.{sameBytes, paddedAt}
 use Rattle.layout.specs.Table.{rowsOf}
-use Rattle.layout.specs.Padded.{slotPadded}
-use Rattle.layout.specs.Part.{startOf, lenOf}
-use Rattle.args.specs.Value.{ofAnyType, anyOf}
-use Rattle.args.specs.Padded.{insideAny}
-use Rattle.message.specs.Padded.{ownPadded, openExecutePadded, openStmtPadded, kindPadded, whereGood, headPadded}
+use Rattle.layout.specs.Padded.{partPadded, partsPadded}
+use Rattle.layout.specs.Merged.{onePart, partsFrom, partsIn, partsOnto}
+use Rattle.args.specs.Value.{ofAnyType, anyOf, scalarOf, ofType}
+use Rattle.args.specs.Padded.{insideAny, scalarPadded, insideScalar}
+use Rattle.message.specs.Padded.{ownPadded, executesPadded, openStmtPadded, kindPadded, whereRead, headPadded}
 use Rattle.message.specs.Padded.{paddedOf}
 use Rattle.writer.proofs.Names.{tail-length, stands-length, tail-stands, fieldAt, fieldPadded, rowFor}
 use Rattle.writer.proofs.Names.{fieldsFrom, hasRequired, paddedFrom, Slots, insideArgs, argumentPadded}
@@ -25,10 +25,9 @@ use Rattle.writer.proofs.MarkLaws.{ownOnly, Says, says-as, says-none, s
 use Rattle.writer.proofs.MarkLaws.{says-execute, says-stretch, says-number, says-bytes, says-optional}
 use Rattle.writer.proofs.MarkLaws.{says-other}
 use Rattle.writer.proofs.BackLaws.{head-is, payload-tail}
-use Rattle.writer.proofs.ExecuteBackLaws.{executeBytes, openSlots, partStart, stmt-stands, run-stands}
-use Rattle.writer.proofs.ExecuteBackLaws.{open-listed, open-stmt-listed}
-use Rattle.writer.proofs.PrepareBackLaws.{listed, prepare-listed, stmt-stands as prepare-stmt-stands}
-use Rattle.writer.proofs.PrepareBackLaws.{body-stands}
+use Rattle.writer.proofs.ExecuteBackLaws.{executeBytes, stmt-stands, run-stands, stmt-once, run-once}
+use Rattle.writer.proofs.PrepareBackLaws.{listed, stmt-stands as prepare-stmt-stands, body-stands}
+use Rattle.writer.proofs.PrepareBackLaws.{stmt-once as prepare-once}
 use Rattle.writer.proofs.RoundTripLaws.{good-prepare, accepted-kinds, not-refused, written-fits, left-is}
 use Rattle.writer.proofs.RoundTripLaws.{round-trip}
 
@@ -39,10 +38,19 @@ frame-flag : (kind : ℕ) (content rest : List ℕ) → length content + 1 ≤ m
 unfolding paddedOf
 frame-flag kind content rest fits e =
     let s = frame kind content ++ rest in
-    ap (λ (x : Frame). whereGood x (headPadded s (headOf s))) e
+    ap (λ (x : Frame). whereRead x (headPadded s (headOf s))) e
     ∙ ap (headPadded s) (head-is kind content rest fits)
     ∙ ap (λ (l : List ℕ). kindPadded l kind)
     (take-at (frame kind content) rest (4 + (length content + 1)) (omega (arith, frame-length kind content)))
+
+-- one part, and one Execute
+pub one-said : (s : List ℕ) (at n : ℕ) → partsPadded s (onePart at n) ≡ partPadded s at n
+unfolding partsPadded
+one-said s at n = sym (or-false (partPadded s at n))
+
+one-run : (s : List ℕ) (at n : ℕ) → executesPadded s (onePart at n) ≡ executePadded s at n
+unfolding executesPadded
+one-run s at n = sym (or-false (executePadded s at n))
 
 -- a payload's own fields
 own-flag : (kind : ℕ) {content : List ℕ} → Says ownOnly content false → ownPadded (frame kind content) ≡ false
@@ -58,13 +66,6 @@ run-says stmt c b args g small low =
     (says-then (says-other 1 (omega arith) (omega arith) (λ e. omega arith) true stmt (omega arith))
     (says-stretch args g))
     (says-other 3 (omega arith) (omega arith) (λ e. omega arith) b c low))
-
--- where an Open's statement stands, be there fetch_rows or not
-opened-at : (P : ℕ → ℕ → Bool) (cursor at n far rows : ℕ) (b : Bool) →
-    P (startOf (openSlots cursor at n far b rows) 4) (lenOf (openSlots cursor at n far b rows) 4)
-    ≡ P (partStart 4 at n) n
-opened-at P cursor at n far rows true = refl
-opened-at P cursor at n far rows false = refl
 
 bit-small : (z : Bool) → cond z 1 0 < 2 ^ 64
 bit-small true = omega arith
@@ -115,8 +116,9 @@ module _ (d : Draft) (body args : List ℕ) (sized : Sized d) where
       (own-flag Client.prepare
       (says-then (says-number 1 (omega arith) (omega arith) (d .stmt) (omega (arith, sized .stmt)))
       (says-bytes 2 (omega arith) (omega arith) (prepareStmtPayload d body) (omega (arith, stands-length stmt)))))
-      (ap (λ (x : Slots). slotPadded s x 2)
-      (prepare-listed (d .stmt) (d .operation) body (sized .stmt) t (omega (arith, stands-length stmt)))
+      (ap (partsPadded s)
+      (prepare-once (d .stmt) (d .operation) body (sized .stmt) t (omega (arith, stands-length stmt)))
+      ∙ one-said s _ _
       ∙ says-part
       (says-then (says-number 1 (omega arith) (omega arith) (d .operation) (omega (arith, k .small)))
       (says-bytes (fieldOf (d .operation)) (k .some) (k .few) body (omega (arith, stands-length inner))))
@@ -152,18 +154,19 @@ module _ (d : Draft) (body args : List ℕ) (sized : Sized d) where
       (says-then (says-number 1 (omega arith) (omega arith) (d .cursor) (omega (arith, sized .cursor)))
       (says-bytes 4 (omega arith) (omega arith) (openStmtPayload d args) (omega (arith, stands-length stmt))))
       (says-optional 5 (omega arith) (omega arith) (d .hasrows) (d .rows) (sized .rows))))
-      (ap (λ (x : Slots). openStmtPadded s (startOf x 4) (lenOf x 4))
-      (open-listed (d .stmt) (d .hascompact) (d .compact) args g (sized .stmt) (d .cursor) (d .rows) (d .hasrows)
+      (ap (openStmtPadded s)
+      (stmt-once (d .stmt) (d .hascompact) (d .compact) args g (sized .stmt) (d .cursor) (d .rows) (d .hasrows)
       (sized .cursor) (sized .rows) (omega (arith, stands-length stmt)))
-      ∙ opened-at (openStmtPadded s) (d .cursor) _ _ _ (d .rows) (d .hasrows)
       ∙ ap₂ _||_
-      (says-part
+      (one-said s _ _
+      ∙ says-part
       (says-then (says-number 1 (omega arith) (omega arith) 0 (omega arith))
       (says-bytes 2 (omega arith) (omega arith) (executePayload d args) (omega (arith, stands-length run))))
       stmt)
-      (ap (openExecutePadded s)
-      (open-stmt-listed (d .stmt) (d .hascompact) (d .compact) args g (sized .stmt) (d .cursor) (d .rows) (d .hasrows)
+      (ap (executesPadded s)
+      (run-once (d .stmt) (d .hascompact) (d .compact) args g (sized .stmt) (d .cursor) (d .rows) (d .hasrows)
       (sized .cursor) (sized .rows) (omega (arith, stands-length run)))
+      ∙ one-run s _ _
       ∙ says-execute
       (run-says (d .stmt) (cond (d .compact) 1 0) (d .hascompact) args g (sized .stmt) (bit-small (d .compact)))
       run))

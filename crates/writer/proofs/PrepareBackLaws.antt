@@ -5,7 +5,12 @@ use Rattle.protocol.specs.Client as Client
 use Rattle.layout.specs.Table.{rowsOf, prepareStmt, stmtExecute}
 use Rattle.args.proofs.MovedArgLaws.{embedded-alike, args-moved}
 use Rattle.message.specs.Operation as Operation
-use Rattle.message.specs.Prepare.{bodyIn, prepareFrom, prepareRead, prepareOf, prepareFrame}
+use Rattle.layout.specs.Part.{countOf, valueOf, startOf, lenOf}
+use Rattle.layout.specs.Merged.{onePart}
+use Rattle.layout.specs.MergedRules.{holdsBytes}
+use Rattle.layout.proofs.MergedLaws.{one-part}
+use Rattle.message.specs.Prepare.{bodyIn, prepareBy, prepareTyped, prepareRead, prepareInside, stmtParts, prepareOf}
+use Rattle.message.specs.Prepare.{prepareFrame}
 use Rattle.message.proofs.MessageLaws.{body-list, body-list-bad}
 use Rattle.writer.proofs.Names.{tail-length, Stands, stands-length, stands-cut, tail-stands, stands-next}
 use Rattle.writer.proofs.Names.{Argument, rowFor, noSlots, useOf, fieldsAt, hasRequired, embedded, low32, Use}
@@ -14,7 +19,7 @@ use Rattle.writer.proofs.Names.{argumentsFrom, together, moved, Argumen
 use Rattle.writer.proofs.Names.{Request, payload-good, within-there, numberField, bytesField, frame, isType}
 use Rattle.writer.proofs.Names.{goodBody}
 use Rattle.writer.proofs.FieldLaws.{withNumber, withBytes, reads-number, reads-bytes, reads-then, whole-good}
-use Rattle.writer.proofs.FieldLaws.{embedded-good, stands-inside}
+use Rattle.writer.proofs.FieldLaws.{embedded-good, stands-inside, parts-whole, parts-inner}
 use Rattle.writer.proofs.JudgeLaws.{type-none}
 use Rattle.writer.proofs.ArgListLaws.{together-kept, together-moved}
 use Rattle.writer.proofs.BackLaws.{payload-tail}
@@ -36,9 +41,11 @@ pub record Listed (t k : ℕ) : Type 0 where
   type-kept : Use.Kept ≡ useOf (rowsOf prepareStmt) 1 0 t
   body-kept : (n : ℕ) → Use.Kept ≡ useOf (rowsOf prepareStmt) k 2 n
   needed : (at far n : ℕ) → true ≡ hasRequired (rowsOf prepareStmt) (stmtSlots t k at far n .count)
-  taken : (s : List ℕ) (stmt at far n : ℕ) →
-      prepareRead s stmt (stmtSlots t k at far n)
-      ≡ prepareFrom s stmt t (record { start = partStart k far n; len = n }) (bodyIn s t (partStart k far n) n)
+  holds : holdsBytes (rowsOf prepareStmt) k ≡ true
+  type-is : (at far n : ℕ) → low32 (valueOf (stmtSlots t k at far n) 1) ≡ t
+  once : (at far n : ℕ) → countOf (stmtSlots t k at far n) k ≡ 1
+  stands : (at far n : ℕ) →
+      onePart (startOf (stmtSlots t k at far n) k) (lenOf (stmtSlots t k at far n) k) ≡ onePart (partStart k far n) n
 
 listed-find : Listed Operation.find 2
 unfolding rowsOf rowFor hasRequired
@@ -50,7 +57,10 @@ listed-find =
       type-kept = refl;
       body-kept = λ n. refl;
       needed = λ at far n. refl;
-      taken = λ s stmt at far n. refl;
+      holds = refl;
+      type-is = λ at far n. refl;
+      once = λ at far n. refl;
+      stands = λ at far n. refl;
     }
 
 listed-insert : Listed Operation.insert 3
@@ -63,7 +73,10 @@ listed-insert =
       type-kept = refl;
       body-kept = λ n. refl;
       needed = λ at far n. refl;
-      taken = λ s stmt at far n. refl;
+      holds = refl;
+      type-is = λ at far n. refl;
+      once = λ at far n. refl;
+      stands = λ at far n. refl;
     }
 
 listed-update : Listed Operation.update 4
@@ -76,7 +89,10 @@ listed-update =
       type-kept = refl;
       body-kept = λ n. refl;
       needed = λ at far n. refl;
-      taken = λ s stmt at far n. refl;
+      holds = refl;
+      type-is = λ at far n. refl;
+      once = λ at far n. refl;
+      stands = λ at far n. refl;
     }
 
 listed-delete : Listed Operation.delete 5
@@ -89,7 +105,10 @@ listed-delete =
       type-kept = refl;
       body-kept = λ n. refl;
       needed = λ at far n. refl;
-      taken = λ s stmt at far n. refl;
+      holds = refl;
+      type-is = λ at far n. refl;
+      once = λ at far n. refl;
+      stands = λ at far n. refl;
     }
 
 listed-stmt-execute : Listed Operation.stmtExecute 6
@@ -102,7 +121,10 @@ listed-stmt-execute =
       type-kept = refl;
       body-kept = λ n. refl;
       needed = λ at far n. refl;
-      taken = λ s stmt at far n. refl;
+      holds = refl;
+      type-is = λ at far n. refl;
+      once = λ at far n. refl;
+      stands = λ at far n. refl;
     }
 
 -- each of them
@@ -126,6 +148,10 @@ kept-prepare : (v : ℕ) →
     (Use.Kept ≡ useOf (rowsOf Client.prepare) 1 0 v) × (Use.Kept ≡ useOf (rowsOf Client.prepare) 2 2 v)
 unfolding rowsOf rowFor
 kept-prepare v = (refl, refl)
+
+prepare-holds : holdsBytes (rowsOf Client.prepare) 2 ≡ true
+unfolding rowsOf rowFor
+prepare-holds = refl
 
 prepare-needed : (stmt at n : ℕ) → true ≡ hasRequired (rowsOf Client.prepare) (prepareSlots stmt at n .count)
 unfolding rowsOf hasRequired
@@ -284,20 +310,39 @@ module _ (stmt t : ℕ) (body : List ℕ) (small : stmt < 2 ^ 32) (is-type : isT
       (payload-tail Client.prepare content)
       (sym (prepare-needed stmt (payload + length (numberField 1 stmt)) (length stmt-bytes)))
 
+  pub stmt-once : length stmt-bytes < 2 ^ 64 → stmtParts prepared ≡ onePart stmt-at (length stmt-bytes)
+  stmt-once short =
+      parts-whole (rowsOf Client.prepare) 2 prepare-holds refl refl prepared payload (prepare-listed short)
+
+  stmt-listed : length body < 2 ^ 64 →
+      embedded (rowsOf prepareStmt) prepared stmt-at (length stmt-bytes)
+      ≡ stmtSlots t (Operation.fieldOf t) stmt-at (stmt-at + length (numberField 1 t)) (length body)
+  stmt-listed short =
+      let k = listed t is-type in
+      embedded-good
+      (reads-then (reads-number (rowsOf prepareStmt) 1 t (k .type-kept) (omega arith) (omega arith)
+      (omega (arith, k .small)))
+      (reads-bytes (rowsOf prepareStmt) (Operation.fieldOf t) body (k .body-kept (length body)) (k .some) (k .few)
+      short))
+      stmt-stands (sym (k .needed stmt-at (stmt-at + length (numberField 1 t)) (length body)))
+
   pub prepare-back : goodBody t body ≡ true → length stmt-bytes < 2 ^ 64 → length body < 2 ^ 64 →
       prepareFrame prepared ≡ Frame.Good (length prepared) (preparing stmt)
   unfolding prepareFrame
   prepare-back h short short-body =
       let k = listed t is-type in
+      let f = Operation.fieldOf t in
       let far = stmt-at + length (numberField 1 t) in
+      let ps = onePart stmt-at (length stmt-bytes) in
       ap (prepareOf prepared) (prepare-listed short)
-      ∙ ap (prepareRead prepared stmt)
-      (embedded-good
-      (reads-then (reads-number (rowsOf prepareStmt) 1 t (k .type-kept) (omega arith) (omega arith)
-      (omega (arith, k .small)))
-      (reads-bytes (rowsOf prepareStmt) (Operation.fieldOf t) body (k .body-kept (length body)) (k .some) (k .few)
-      short-body))
-      stmt-stands (sym (k .needed stmt-at far (length body))))
-      ∙ k .taken prepared stmt stmt-at far (length body)
+      ∙ ap (prepareInside prepared stmt) (stmt-once short)
+      ∙ ap (prepareRead prepared stmt ps)
+      (one-part (rowsOf prepareStmt) prepared (record { start = stmt-at; len = length stmt-bytes })
+      ∙ stmt-listed short-body)
+      ∙ ap (prepareTyped prepared stmt ps) (k .type-is stmt-at far (length body))
+      ∙ ap (prepareBy prepared stmt t)
+      (parts-inner (rowsOf prepareStmt) f (k .holds) refl (k .once stmt-at far (length body)) prepared stmt-at
+      (length stmt-bytes) (stmt-listed short-body)
+      ∙ k .stands stmt-at far (length body))
       ∙ sym (payload-good prepared Client.prepare (preparing (low32 stmt)) (body-good body body-stands t ∙ h))
       ∙ ap (λ (v : ℕ). Frame.Good (length prepared) (preparing v)) (mod-eq-of-lt small)

@@ -157,7 +157,7 @@ pub struct Arguments {
 #[repr(C)]
 #[derive(Debug, Clone, Copy, Default, PartialEq, Eq)]
 pub struct Message {
-    /// 0, or why the frame is refused whatever the session.
+    /// 0, or why the frame is refused whatever the session: 1, 2, 5, 6 or 17.
     pub reason: u64,
     /// The frame's length.
     pub used: usize,
@@ -177,7 +177,7 @@ pub struct Message {
     pub body: Part,
     /// The arguments.
     pub args: Arguments,
-    /// Whether a varint that was read in the payload is padded; not where the frame is refused.
+    /// Whether a varint that was read in the payload is padded; not where the frame is refused 1, 2, 5 or 6.
     pub padded: bool,
 }
 

@@ -38,6 +38,28 @@
 //! Bytes of a network arrive cut anywhere. [`Frames`] takes them and hands out whole frames; it shows a
 //! server's loop.
 //!
+//! # Messages in parts
+//!
+//! A message inside another may come in several parts, such as a statement's type in one and its body in
+//! the next: the statement of a Prepare or an Open, the scalar of an argument, the octets or the string of
+//! a scalar. The fields of all parts count as if they stood in one, and of a field that is not repeated the
+//! last occurrence counts. Each part that is read must be a good list of fields by itself, and what is
+//! required may stand in any of them. What the type does not choose is skipped unread, in every part; the
+//! type is the one that all parts together have. Arguments are repeated: each is one of its own.
+//!
+//! The body that a Prepare's type chooses and an Open's Execute are handed out as one part of the frame, so
+//! they must not come twice. A frame in which one does, and which is otherwise good, is refused as
+//! [`Refusal::BodyTwice`].
+//!
+//! ```
+//! use karramotx::{Message, Operation};
+//!
+//! // Prepare of statement 1: the type in one part of its statement, an empty Find in the next
+//! let frame = [11, 0, 0, 0, 40, 8, 1, 18, 2, 8, 0, 18, 2, 18, 0];
+//! assert_eq!(Message::read(&frame)?.operation(), Some(Operation::Find));
+//! # Ok::<(), karramotx::Refusal>(())
+//! ```
+//!
 //! # Padded numbers
 //!
 //! The tags, lengths and numbers of a payload are varints. A varint is padded if its bytes are not the
@@ -56,15 +78,16 @@
 //!
 //! A look, an inspection, a step and a [`Message`] say whether any varint that they read in the payload
 //! is padded. The tag of every field counts, known or not, and so does its length or its number; of a
-//! group the start tag; of an Execute or Open also all that is read of the arguments. The rest of a group
-//! does not count, nor do the bytes inside a Prepare's body, nor those inside a part that is skipped
-//! unread: an embedded message that a later occurrence of its field replaces, or what the type beside it
-//! does not choose. The tag and the length of such a part count.
+//! group the start tag; of an Execute or Open also all that is read of the arguments. A message that comes
+//! in several parts counts in each of them. The rest of a group does not count, nor do the bytes inside a
+//! Prepare's body, nor those inside a part that is skipped unread, which is one that the type does not
+//! choose, the one that all parts together have. The tag and the length of such a part count.
 //!
 //! Of a frame refused as [`Refusal::NotAllThere`] to [`Refusal::BadPayload`], numbers 1 to 6, they say
 //! no; of any other, refused or accepted, what was read. So a look and a step say the same, unless the
 //! step is refused as [`Refusal::NoRoom`]. A [`Message`] knows of no session: in a closed one the look
-//! of an inspection says no, and its message what was read.
+//! of an inspection says no, and its message what was read. Of a frame refused as [`Refusal::BodyTwice`]
+//! there is no [`Message`]; its look and its step say what was read.
 #![deny(missing_docs)]
 
 mod argument;

@@ -86,7 +86,9 @@ pub struct Message<'f> {
 }
 
 impl<'f> Message<'f> {
-    /// Reads the frame that the bytes begin with; bytes past it are not read.
+    /// Reads the frame that the bytes begin with; bytes past it are not read. Refused as
+    /// [`Refusal::NotAllThere`], [`Refusal::BadLength`], [`Refusal::UnknownType`], [`Refusal::BadPayload`] or
+    /// [`Refusal::BodyTwice`].
     pub fn read(frame: &'f [u8]) -> Result<Message<'f>, Refusal> {
         // SAFETY: the pointer and the length are those of a slice.
         let raw = unsafe { ffi::karramotx_read(frame.as_ptr(), frame.len()) };

@@ -39,11 +39,15 @@ pub enum Refusal {
     BadReport = 15,
     /// The engine failed.
     EngineFailed = 16,
+    /// The body that a Prepare's type chooses, or an Open's Execute, comes
+    /// [more than once](crate#messages-in-parts). It stands behind [`Refusal::BadPayload`] and ahead of
+    /// [`Refusal::NoStatement`] in the order of the refusals.
+    BodyTwice = 17,
 }
 
 use Refusal::*;
 
-const ALL: [Refusal; 16] = [
+const ALL: [Refusal; 17] = [
     NotAllThere,
     BadLength,
     NoRoom,
@@ -60,10 +64,11 @@ const ALL: [Refusal; 16] = [
     CursorsFull,
     BadReport,
     EngineFailed,
+    BodyTwice,
 ];
 
 impl Refusal {
-    /// The reason's number, 1 to 16.
+    /// The reason's number, 1 to 17.
     pub fn number(self) -> u64 {
         self as u64
     }
@@ -93,6 +98,7 @@ impl fmt::Display for Refusal {
             CursorsFull => "16 cursors are live",
             BadReport => "the report is of the wrong kind or outside its limits",
             EngineFailed => "the engine failed",
+            BodyTwice => "the chosen body comes more than once",
         })
     }
 }
@@ -104,5 +110,5 @@ pub(crate) fn accepted(reason: u64) -> Result<(), Refusal> {
     if reason == 0 {
         return Ok(());
     }
-    Err(Refusal::from_number(reason).expect("the library's reasons are 0 to 16"))
+    Err(Refusal::from_number(reason).expect("the library's reasons are 0 to 17"))
 }

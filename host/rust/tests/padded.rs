@@ -1,61 +1,28 @@
 //! Padded numbers: which of them count, sample by sample.
 
 mod common;
+#[path = "common/samples.rs"]
+mod samples;
 
-use common::{busy, in_bytes, is_padded, shortest, stepped};
+use common::sessions::{busy, stepped};
+use common::{in_bytes, read_alone, shortest};
 use karramotx::{
     sql_body, Args, Argument, ClientMessage, Operation, Refusal, Report, Session, MAX_CURSORS,
     MAX_STATEMENTS, MIN_REPLY,
 };
+use samples::{bytes, frame};
 
-// ---- Samples as text
-
-/// Bytes in hex. `(` and `)` stand around bytes whose length goes in front of them. `!` puts the number below
-/// 128 behind it, which may be such a length, into five bytes.
-fn bytes(text: &str) -> Vec<u8> {
-    let spaced: String =
-        text.chars().flat_map(|c| if "()!".contains(c) { vec![' ', c, ' '] } else { vec![c] }).collect();
-    let mut words = spaced.split_whitespace();
-    let all = bytes_to_end(&mut words);
-    assert_eq!(words.next(), None, "{text}: a bracket too many");
-    all
+/// Whether a good frame is padded.
+fn is_padded(frame: &[u8]) -> bool {
+    common::is_padded(frame, Ok(()))
 }
 
-/// Up to a closing bracket or the end.
-fn bytes_to_end(words: &mut std::str::SplitWhitespace) -> Vec<u8> {
-    let mut all = Vec::new();
-    let mut long = false;
-    while let Some(word) = words.next() {
-        let (number, inside) = match word {
-            "!" => {
-                long = true;
-                continue;
-            }
-            ")" => break,
-            "(" => {
-                let inside = bytes_to_end(words);
-                assert!(inside.len() < 0x80, "a length has one byte");
-                (inside.len() as u8, inside)
-            }
-            hex => (u8::from_str_radix(hex, 16).expect("a byte in hex"), Vec::new()),
-        };
-        assert!(!long || number < 0x80, "a number to pad has one byte");
-        all.extend(if long { vec![number | 0x80, 0x80, 0x80, 0x80, 0] } else { vec![number] });
-        all.extend(inside);
-        long = false;
-    }
-    all
-}
-
-fn frame(kind: u8, text: &str) -> Vec<u8> {
-    let payload = bytes(text);
-    let length = u32::try_from(payload.len() + 1).expect("a sample is short");
-    [&length.to_le_bytes(), &[kind][..], &payload].concat()
-}
+// ---- Samples with marks
 
 /// A sample with marks: `!` in front of numbers whose padding counts, `?` in front of those whose padding does
 /// not. Without padding the frame says no, with one mark's padding what the mark says, with that of all `?` no.
-fn check(kind: u8, marked: &str) {
+/// By itself it is good, or refused.
+fn check_alone(alone: Result<(), Refusal>, kind: u8, marked: &str) {
     let with = |keep: &dyn Fn(usize) -> bool| -> Vec<u8> {
         let mark = |(i, c): (usize, char)| match c {
             '!' | '?' => keep(i).then_some('!'),
@@ -65,11 +32,16 @@ fn check(kind: u8, marked: &str) {
     };
     let marks: Vec<(usize, char)> = marked.chars().enumerate().filter(|(_, c)| "!?".contains(*c)).collect();
     let ignored: Vec<usize> = marks.iter().filter(|(_, c)| *c == '?').map(|(i, _)| *i).collect();
-    assert!(!is_padded(&with(&|_| false)), "type {kind}: {marked}, nothing padded");
-    assert!(!is_padded(&with(&|i| ignored.contains(&i))), "type {kind}: {marked}, each ? padded");
+    let padded = |keep: &dyn Fn(usize) -> bool| common::is_padded(&with(keep), alone);
+    assert!(!padded(&|_| false), "type {kind}: {marked}, nothing padded");
+    assert!(!padded(&|i| ignored.contains(&i)), "type {kind}: {marked}, each ? padded");
     for (place, mark) in marks {
-        assert_eq!(is_padded(&with(&|i| i == place)), mark == '!', "type {kind}: {marked}, at {place}");
+        assert_eq!(padded(&|i| i == place), mark == '!', "type {kind}: {marked}, at {place}");
     }
+}
+
+fn check(kind: u8, marked: &str) {
+    check_alone(Ok(()), kind, marked);
 }
 
 fn check_all(samples: &[(u8, &str)]) {
@@ -192,15 +164,28 @@ fn enums_that_are_not_listed_count() {
 // ---- Parts that are skipped
 
 #[test]
-fn of_an_earlier_embedded_message_only_tag_and_length_count() {
+fn every_part_of_a_message_counts() {
     check_all(&[
-        (40, "08 01 !12 !(?08 ?05 ?32 ?(?0a ?(53))) 12 (08 00 12 ())"),
-        (40, "08 01 12 (08 00 !12 !(?08 ?01) 12 ())"),
-        (43, "08 01 !22 !(?08 ?00 ?12 ?(?08 ?01)) 22 (08 00 12 (08 01))"),
-        (43, "08 01 22 (08 00 !12 !(?08 ?01 ?12 ?(?08 ?02)) 12 (08 01))"),
-        (41, "08 01 12 (08 01 !12 !(?08 ?02 ?18 ?07) 12 (08 03))"),
-        (41, "08 01 12 (08 01 12 (08 04 !2a !(?0a ?(61)) 2a (0a (62))))"),
-        (41, "08 01 12 (08 01 12 (08 08 !4a !(?0a ?(61)) 4a (0a (62))))"),
+        (40, "08 01 !12 !(!08 !00) !12 !() !12 !(!12 !(?08 ?01))"),
+        (40, "08 01 !12 !(!08 !05) !12 !(!08 !00) !12 !(!12 !())"),
+        (43, "08 01 !22 !(!08 !00) !28 !02 !22 !(!12 !(!08 !01 !12 !(!08 !02)))"),
+        (43, "!22 !(!12 !(!08 !01)) !08 !01 !22 !() !22 !(!08 !00)"),
+        (41, "08 01 12 (08 01 !12 !(!08 !02 !18 !07) !12 !(!08 !03))"),
+        (41, "08 01 12 (!12 !(!18 !07) !08 !01 !12 !() !12 !(!08 !02))"),
+        (41, "08 01 12 (08 01 12 (08 04 !2a !(!0a !(61)) !2a !(!0a !(62))))"),
+        (41, "08 01 12 (08 01 12 (08 08 !4a !(!10 !05) !4a !() !4a !(!0a !(62))))"),
+        (41, "08 01 12 (08 01 !12 !(!4a !(!0a !(61))) !12 !(!4a !(!10 !05)) !12 !(!08 !08))"),
+    ]);
+}
+
+#[test]
+fn nothing_inside_a_part_that_no_type_chooses_counts() {
+    check_all(&[
+        (40, "08 01 12 (08 05 !32 !(?0a ?(53))) 12 (!32 !(?0a ?(53))) 12 (08 00 12 ())"),
+        (40, "08 01 12 (!1a !(?08 ?01) !1a !(?08 ?01)) 12 (08 00) 12 (12 (?08 ?01))"),
+        (41, "08 01 12 (08 01 !12 !(?08 ?02 ?18 ?07) !12 !(?08 ?03) 08 02)"),
+        (41, "08 01 12 (08 01 12 (08 04 !2a !(?0a ?(61))) 12 (!2a !(?0a ?(62))) 12 (08 03))"),
+        (41, "08 01 12 (08 01 12 (!4a !(?0a ?(61)) 2a (0a (61)) !4a !(?0a ?(61))) 12 (08 04))"),
     ]);
 }
 
@@ -353,10 +338,17 @@ fn a_frame_refused_7_or_more_says_what_was_read() {
     }
 }
 
-/// What reading the frame by itself says, where it is refused too.
-fn read_says(frame: &[u8]) -> bool {
-    // SAFETY: the pointer and the length are those of a slice.
-    unsafe { karramotx::ffi::karramotx_read(frame.as_ptr(), frame.len()) }.padded
+/// A body that comes twice is read, a Prepare's without counting inside.
+#[test]
+fn a_frame_refused_17_says_what_was_read() {
+    for (kind, marked) in [
+        (40, "08 !01 12 (08 00 !12 !(?08 ?01) !12 !())"),
+        (40, "!12 !(!08 !05 !32 !(?0a ?(53))) !08 !01 !12 !(!32 !(?12 ?(?08 ?02)) !08 !03)"),
+        (43, "!08 !01 !22 !(!08 !00 !12 !(!08 !01) !12 !(!12 !(!08 !01 !12 !(!08 !03)))) !28 !02"),
+        (43, "08 01 22 (12 (08 01 !18 !01)) 22 (08 00) 22 (!12 !(12 (08 02 !12 !(?08 ?01))))"),
+    ] {
+        check_alone(Err(Refusal::BodyTwice), kind, marked);
+    }
 }
 
 /// The reason of a frame that must not say that it is padded.
@@ -371,7 +363,7 @@ fn refused_without_padding(session: &mut Session, frame: &[u8], room: usize) -> 
     }
     // these two have nothing to do with the frame by itself
     let good = matches!(refusal, Refusal::NoRoom | Refusal::Closed);
-    assert_eq!(read_says(frame), good, "{frame:02x?}");
+    assert_eq!(read_alone(frame).padded, good, "{frame:02x?}");
     refusal.number()
 }
 
@@ -397,6 +389,7 @@ fn a_frame_refused_1_to_6_says_no() {
         (41, "08 !01 12 (08 01)"),                      // no scalar
         (43, "08 !01 22 (08 00)"),                      // no Execute
         (40, "08 !01 12 (08 00 12 (08))"),              // a body that is no field list
+        (40, "08 !01 12 (08 00 12 () 12 (08))"),        // and one that comes twice
         (41, "08 01 12 (!08 01 12 (08 02 18 !07) 0c)"), // the end of a group alone
     ] {
         assert_eq!(refused_without_padding(&mut session, &frame(kind, bad), MIN_REPLY), 6, "{bad}");

@@ -3,8 +3,12 @@
 
 mod common;
 
-use common::{in_bytes, is_padded, shortest};
+use common::{in_bytes, shortest};
 use karramotx::{Argument, Message, Refusal};
+
+fn is_padded(frame: &[u8]) -> bool {
+    common::is_padded(frame, Ok(()))
+}
 
 fn vectors() -> Vec<Vec<u8>> {
     let path = concat!(env!("CARGO_MANIFEST_DIR"), "/../../tests/protobuf/vectors.txt");

@@ -1,7 +1,8 @@
-//! Frames that Google's protobuf wrote are read field by field, and the library writes the same bytes. The
-//! vectors and what made them stand in `tests/protobuf`.
+//! Frames that Google's protobuf wrote are read field by field, and the library writes the same bytes. Frames
+//! whose embedded messages come in parts are read as protobuf reads them. The vectors and what made them stand
+//! in `tests/protobuf`.
 
-use karramotx::{Args, Argument, ClientMessage, Kind, Message, Operation, Refusal};
+use karramotx::{ffi, Args, Argument, ClientMessage, Kind, Message, Operation, Refusal};
 use std::collections::HashMap;
 
 struct Vector {
@@ -9,8 +10,9 @@ struct Vector {
     values: HashMap<String, String>,
 }
 
-fn vectors() -> Vec<Vector> {
-    let path = concat!(env!("CARGO_MANIFEST_DIR"), "/../../tests/protobuf/vectors.txt");
+/// Those of a file of `tests/protobuf`.
+fn vectors(file: &str) -> Vec<Vector> {
+    let path = format!("{}/../../tests/protobuf/{file}", env!("CARGO_MANIFEST_DIR"));
     let text = std::fs::read_to_string(path).expect("the vectors are there");
     text.lines().map(vector).collect()
 }
@@ -77,25 +79,54 @@ fn expected(text: &str) -> String {
     }
 }
 
+/// The frame holds what the vector says, and none of its numbers is padded.
+fn check_read(v: &Vector) {
+    let m = Message::read(&v.frame).unwrap_or_else(|refusal| panic!("{:02x?}: {refusal}", v.frame));
+    assert_eq!(m.frame(), v.frame);
+    assert!(!m.is_padded(), "{:02x?}", v.frame);
+    assert_eq!(Some(m.kind() as u64), v.number("kind"));
+    assert_eq!(m.statement_id(), v.id("stmt"), "{:02x?}", v.frame);
+    assert_eq!(m.cursor_id(), v.id("cursor"), "{:02x?}", v.frame);
+    assert_eq!(m.fetch_rows(), v.number("rows"), "{:02x?}", v.frame);
+    assert_eq!(m.compact_metadata(), v.number("compact").map(|c| c != 0), "{:02x?}", v.frame);
+    assert_eq!(m.operation(), v.operation(), "{:02x?}", v.frame);
+    assert_eq!(m.body(), v.body(), "{:02x?}", v.frame);
+    let args: Vec<String> = v.args().into_iter().map(expected).collect();
+    assert_eq!(m.argument_count(), args.len(), "{:02x?}", v.frame);
+    assert_eq!(m.arguments().map(text_of).collect::<Vec<_>>(), args, "{:02x?}", v.frame);
+    let by_index: Vec<String> = (0..args.len()).map(|i| text_of(m.argument(i))).collect();
+    assert_eq!(by_index, args, "{:02x?}", v.frame);
+    assert_eq!(m.argument(args.len()), Err(Refusal::FewArguments), "{:02x?}", v.frame);
+}
+
+/// The frame is refused for this reason, has no body, and its arguments are refused alike.
+fn check_refused(v: &Vector, reason: u64) {
+    let refusal = Message::read(&v.frame).expect_err("it is refused");
+    assert_eq!(refusal.number(), reason, "{:02x?}", v.frame);
+    let (at, len) = (v.frame.as_ptr(), v.frame.len());
+    // SAFETY: the pointer and the length are those of a slice.
+    let (body, argument) = unsafe { (ffi::karramotx_body(at, len), ffi::karramotx_argument(at, len, 0)) };
+    assert_eq!(body.len, 0, "{:02x?}", v.frame);
+    assert_eq!(argument, ffi::Value { reason, ..ffi::Value::default() }, "{:02x?}", v.frame);
+}
+
 #[test]
 fn what_protobuf_writes_is_read() {
-    for v in vectors() {
-        let m = Message::read(&v.frame).expect("a good frame");
-        assert_eq!(m.frame(), v.frame);
-        assert!(!m.is_padded());
-        assert_eq!(Some(m.kind() as u64), v.number("kind"));
-        assert_eq!(m.statement_id(), v.id("stmt"));
-        assert_eq!(m.cursor_id(), v.id("cursor"));
-        assert_eq!(m.fetch_rows(), v.number("rows"));
-        assert_eq!(m.compact_metadata(), v.number("compact").map(|c| c != 0));
-        assert_eq!(m.operation(), v.operation());
-        assert_eq!(m.body(), v.body());
-        let args: Vec<String> = v.args().into_iter().map(expected).collect();
-        assert_eq!(m.argument_count(), args.len());
-        assert_eq!(m.arguments().map(text_of).collect::<Vec<_>>(), args);
-        let by_index: Vec<String> = (0..args.len()).map(|i| text_of(m.argument(i))).collect();
-        assert_eq!(by_index, args);
-        assert_eq!(m.argument(args.len()), Err(Refusal::FewArguments));
+    vectors("vectors.txt").iter().for_each(check_read);
+}
+
+#[test]
+fn messages_in_parts_are_read_as_protobuf_reads_them() {
+    let all = vectors("split.txt");
+    for v in &all {
+        match v.number("reason") {
+            None => check_read(v),
+            Some(reason) => check_refused(v, reason),
+        }
+    }
+    for (reason, least) in [(None, 300), (Some(6), 40), (Some(17), 40)] {
+        let count = all.iter().filter(|v| v.number("reason") == reason).count();
+        assert!(count >= least, "{count} vectors with reason {reason:?}");
     }
 }
 
@@ -122,7 +153,7 @@ fn stretch(v: &Vector) -> Args {
 #[test]
 fn what_is_written_is_what_protobuf_writes() {
     let mut compared = 0;
-    for v in vectors().iter().filter(|v| v.number("plain") == Some(1)) {
+    for v in vectors("vectors.txt").iter().filter(|v| v.number("plain") == Some(1)) {
         let kind = Message::read(&v.frame).expect("a good frame").kind();
         let body = v.body();
         let args = if kind == Kind::Prepare { Args::new() } else { stretch(v) };

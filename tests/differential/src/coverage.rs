@@ -1,6 +1,7 @@
 //! What a run has met, so that one can see it was not idle.
 
 use crate::implementation::*;
+use crate::model::{Layer, Model};
 use std::fmt;
 
 const NAMES: [&str; 9] =
@@ -10,17 +11,25 @@ const MARKS: [char; 6] = ['O', 'S', 'D', 'X', 'E', 'N'];
 const TYPES: [&str; 10] =
     ["sint", "uint", "null", "octets", "double", "float", "bool", "string", "object", "array"];
 
+/// Reasons run from 0, for accepted, to 17.
+const REASONS: usize = 18;
+const LAYERS: usize = Layer::IN_PARTS.len();
+
 #[derive(Clone, Debug, Default)]
 pub struct Coverage {
     pub steps: u64,
     /// By kind of message, then by reason, 0 for accepted.
-    pub reasons: [[u64; 17]; 9],
+    pub reasons: [[u64; REASONS]; 9],
     pub marks: [[u64; 6]; 9],
     /// By kind of message, where the answer says what was read: not padded, padded.
     pub padded: [[u64; 2]; 8],
+    /// The same of frames refused 17: a Prepare, an Open.
+    pub padded_twice: [[u64; 2]; 2],
+    /// By layer, where it is in several parts: accepted, bad, refused 17, other refusals.
+    pub in_parts: [[u64; 4]; LAYERS],
     pub arguments: [u64; 10],
-    pub drafts: [u64; 17],
-    pub stretches: [u64; 17],
+    pub drafts: [u64; REASONS],
+    pub stretches: [u64; REASONS],
     pub arrivals: Arrivals,
 }
 
@@ -48,24 +57,50 @@ impl Coverage {
         self.steps += 1;
         let byte = frame.get(4).copied().unwrap_or(0);
         let kind = KINDS.iter().position(|k| *k == byte).unwrap_or(8);
-        self.reasons[kind][usize::from(answer.reason).min(16)] += 1;
+        self.reasons[kind][usize::from(answer.reason)] += 1;
         let mark = mark(reply);
         let place = MARKS.iter().position(|m| *m == mark).unwrap_or(5);
         self.marks[kind][place] += 1;
         if !(1..=6).contains(&answer.reason) {
             self.padded[kind][usize::from(answer.padded)] += 1;
         }
+        if answer.reason == 17 {
+            self.padded_twice[usize::from(byte == CURSOR_OPEN)][usize::from(answer.padded)] += 1;
+        }
         for value in &message.args {
             self.arguments[type_of(value)] += 1;
+        }
+        self.parts(frame, answer.reason);
+    }
+
+    fn print_parts(&self, f: &mut fmt::Formatter) -> fmt::Result {
+        let [[no, yes], [open_no, open_yes]] = self.padded_twice;
+        write!(f, "\nof these refused 17  Prepare {no}/{yes}  Open {open_no}/{open_yes}")?;
+        write!(f, "\nin parts, accepted/bad/refused 17/otherwise refused:")?;
+        for (layer, [accepted, bad, twice, other]) in Layer::IN_PARTS.iter().zip(self.in_parts) {
+            write!(f, "  {layer:?} {accepted}/{bad}/{twice}/{other}")?;
+        }
+        Ok(())
+    }
+
+    fn parts(&mut self, frame: &[u8], reason: u8) {
+        let outcome = match reason {
+            0 => 0,
+            6 => 1,
+            17 => 2,
+            _ => 3,
+        };
+        for (counts, split) in self.in_parts.iter_mut().zip(Model::reference().layers_in_parts(frame)) {
+            counts[outcome] += u64::from(split);
         }
     }
 
     pub fn draft(&mut self, written: Written) {
-        self.drafts[usize::from(written.reason).min(16)] += 1;
+        self.drafts[usize::from(written.reason)] += 1;
     }
 
     pub fn stretch(&mut self, written: Written) {
-        self.stretches[usize::from(written.reason).min(16)] += 1;
+        self.stretches[usize::from(written.reason)] += 1;
     }
 
     pub fn push(&mut self, pushed: Pushed, offered: usize) {
@@ -91,6 +126,11 @@ impl Coverage {
     /// How often a reason was given, over all kinds.
     pub fn reason(&self, reason: usize) -> u64 {
         self.reasons.iter().map(|row| row[reason]).sum()
+    }
+
+    /// How often a kind of message was refused 17.
+    pub fn twice(&self, kind: u8) -> u64 {
+        KINDS.iter().zip(&self.reasons).filter(|(k, _)| **k == kind).map(|(_, row)| row[17]).sum()
     }
 
     pub fn accepted_share(&self) -> f64 {
@@ -128,7 +168,7 @@ fn type_of(value: &Value) -> usize {
 impl fmt::Display for Coverage {
     fn fmt(&self, f: &mut fmt::Formatter) -> fmt::Result {
         write!(f, "{:>9}", "")?;
-        for reason in 0..17 {
+        for reason in 0..REASONS {
             write!(f, " {reason:>6}")?;
         }
         for mark in MARKS {
@@ -141,7 +181,7 @@ impl fmt::Display for Coverage {
             }
         }
         write!(f, "\n{:>9}", "all")?;
-        for reason in 0..17 {
+        for reason in 0..REASONS {
             write!(f, " {:>6}", self.reason(reason))?;
         }
         for mark in 0..6 {
@@ -152,6 +192,7 @@ impl fmt::Display for Coverage {
         for (name, [no, yes]) in NAMES.iter().zip(self.padded) {
             write!(f, "  {name} {no}/{yes}")?;
         }
+        self.print_parts(f)?;
         write!(f, "\narguments")?;
         for (name, count) in TYPES.iter().zip(self.arguments) {
             write!(f, "  {name} {count}")?;

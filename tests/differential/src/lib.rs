@@ -1,6 +1,6 @@
 //! Independent evidence for the session keeper.
 //!
-//! [`model`] implements document 01 and items 1 and 2 of document 02 from the
+//! [`model`] implements document 01 and items 1 to 3 of document 02 from the
 //! papers alone, [`generate`] makes random sequences of frames, reports, reply
 //! buffers and arrivals, and [`compare`] runs one sequence against two
 //! implementations and demands equal answers, equal buffers, equal tables and

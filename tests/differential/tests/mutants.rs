@@ -3,8 +3,8 @@
 use differential::compare::{search, search_arrivals, sweep, sweep_arrivals};
 use differential::coverage::Coverage;
 use differential::generate::{arrivals, Event, Operation, Random};
-use differential::implementation::{Implementation, NextFrame, Pushed};
-use differential::model::{Mistake, Model, MISTAKES};
+use differential::implementation::*;
+use differential::model::{Layer, Mistake, Model, MISTAKES};
 use differential::mutants::{hunt_all, WITHIN};
 use differential::under_test;
 
@@ -18,12 +18,10 @@ fn all_are_found() {
     assert!(free.is_empty(), "not found within {WITHIN} steps: {}", free.len());
 }
 
-/// Against itself a mutant differs in nothing: only the promises checked on
-/// each side alone, the tally first among them, can find it.
-#[test]
-fn promises_alone_find_these() {
+/// These break a promise.
+const BROKEN: &[Mistake] = {
     use Mistake::*;
-    let broken = [
+    &[
         OpenToldEndsNothing,
         PrepareToldFreePlace,
         FreeToldEnded,
@@ -33,6 +31,21 @@ fn promises_alone_find_these() {
         CloseKeepsTables,
         FailedExecuteEnds,
         OtherCursorClosed,
+        FirstPartAlone,
+        LastStatementPart,
+        LastScalarPart,
+        LastBytesPart,
+        BytesOfLastScalar,
+        RequiredOfEachPart,
+        FirstPartsType,
+        TwiceInLastPart,
+        TwiceInOnePart,
+        TwiceArgumentNine,
+        TwiceKeepsBody,
+        TwiceBeforeClosed,
+        TwiceAfterAll,
+        TwiceMessageSaysNo,
+        UnknownBeforeClosed,
         ClosedSaysYes,
         BadPayloadSaysYes,
         SmallReplySaysYes,
@@ -42,9 +55,15 @@ fn promises_alone_find_these() {
         LastRowSuspends,
         OpenWithoutDone,
         ReplyCleared,
-    ];
-    for mistake in broken {
-        let mutant = Model::wrong(mistake);
+    ]
+};
+
+/// Against itself a mutant differs in nothing: only the promises checked on
+/// each side alone, the tally first among them, can find it.
+#[test]
+fn promises_alone_find_these() {
+    for mistake in BROKEN {
+        let mutant = Model::wrong(*mistake);
         let found = search(&mutant, &mutant, SEED, WITHIN, &mut Coverage::default());
         assert!(found.is_some(), "{mistake:?} keeps all promises");
     }
@@ -105,19 +124,33 @@ fn comparison_alone_finds_all_on_arrivals() {
 fn the_reference_is_not_accused() {
     let (reference, other) = (Model::reference(), under_test());
     let mut coverage = Coverage::default();
-    let found = sweep(&reference, &other, &mut coverage)
+    let found = sweep(&reference, &other, &mut Coverage::default())
         .or_else(|| search(&reference, &other, SEED, 60_000, &mut coverage));
     if let Some(found) = found {
         panic!("{}", found.print);
     }
     // A run that misses a refusal, or accepts next to nothing, proves little.
-    assert!((0..=16).all(|reason| coverage.reason(reason) > 0), "\n{coverage}");
+    assert!((0..=17).all(|reason| coverage.reason(reason) > 0), "\n{coverage}");
+    assert!([PREPARE, CURSOR_OPEN].iter().all(|kind| coverage.twice(*kind) >= 100), "\n{coverage}");
     assert!((0.4..0.7).contains(&coverage.accepted_share()), "\n{coverage}");
     assert!(coverage.arguments.iter().all(|count| *count > 0), "\n{coverage}");
     // Both answers about padded numbers, often, of each of the eight messages.
     assert!(coverage.padded.iter().flatten().all(|count| *count >= 20), "\n{coverage}");
+    // And of frames refused 17.
+    assert!(coverage.padded_twice.iter().flatten().all(|count| *count >= 20), "\n{coverage}");
     assert!([0, 2, 3, 6].iter().all(|reason| coverage.drafts[*reason] > 0), "\n{coverage}");
     assert!([0, 3, 6].iter().all(|reason| coverage.stretches[*reason] > 0), "\n{coverage}");
+    in_parts_were_met(&coverage);
+}
+
+/// Each layer in parts was accepted often, was bad and stood in a frame refused
+/// 17; bodies in parts never were accepted.
+fn in_parts_were_met(coverage: &Coverage) {
+    for (layer, [accepted, bad, twice, _]) in Layer::IN_PARTS.iter().zip(coverage.in_parts) {
+        assert_eq!(accepted >= 100, !layer.is_body(), "{layer:?}\n{coverage}");
+        assert!(accepted == 0 || !layer.is_body(), "{layer:?}\n{coverage}");
+        assert!(bad > 0 && twice > 0, "{layer:?}\n{coverage}");
+    }
 }
 
 #[test]

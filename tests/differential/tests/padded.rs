@@ -8,11 +8,11 @@ use differential::implementation::*;
 use differential::model::Model;
 use differential::under_test;
 
-/// What a good frame says, the same by itself, in a look, in an inspection
-/// and in a step.
-fn says<I: Implementation>(who: &I, frame: &[u8]) -> bool {
+/// What a frame that is good, or refused 17, says: the same by itself, in a
+/// look, in an inspection and in a step.
+fn says<I: Implementation>(who: &I, frame: &[u8], reason: u8) -> bool {
     let message = who.read(frame);
-    assert_eq!(message.reason, 0, "{frame:02x?}");
+    assert_eq!(message.reason, reason, "{frame:02x?}");
     let look = who.look(&who.fresh(), frame);
     let inspection = who.inspect(&who.fresh(), frame);
     let (_, answer) = who.step(who.fresh(), frame, NONE, &mut [0; SMALLEST_REPLY]);
@@ -21,9 +21,13 @@ fn says<I: Implementation>(who: &I, frame: &[u8]) -> bool {
     message.padded
 }
 
+fn check_refused(frame: &[u8], reason: u8, padded: bool) {
+    assert_eq!(says(&Model::reference(), frame, reason), padded, "model: {frame:02x?}");
+    assert_eq!(says(&under_test(), frame, reason), padded, "under test: {frame:02x?}");
+}
+
 fn check_frame(frame: &[u8], padded: bool) {
-    assert_eq!(says(&Model::reference(), frame), padded, "model: {frame:02x?}");
-    assert_eq!(says(&under_test(), frame), padded, "under test: {frame:02x?}");
+    check_refused(frame, 0, padded);
 }
 
 fn check(kind: u8, samples: &[(&str, bool)]) {
@@ -177,27 +181,56 @@ fn nothing_inside_a_prepare_body() {
     check(PREPARE, &samples);
 }
 
-/// What is skipped unread does not count, but its own tag and length do.
+/// All parts of a statement count. What is skipped unread does not, but its own
+/// tag and length do.
 #[test]
 fn earlier_and_unchosen_parts_of_a_statement() {
     let prepares = [
-        ("0801 1203 088100 1204 0800 1200", false),
-        ("0801 12 8100 FF 1204 0800 1200", true),
-        ("0801 1209 0800 1203 088100 1200", false),
-        ("0801 1207 0800 9200 00 1200", true),
+        ("0801 1202 0801 1204 0800 1200", false),
+        ("0801 1203 088100 1204 0800 1200", true),
+        ("0801 1204 0800 1200 1203 F80001", true),
+        ("0801 1204 0800 1200 1205 7B088100 7C", false),
+        ("0801 12 8000 1204 0800 1200", true),
+        ("0801 9200 00 1204 0800 1200", true),
         ("0801 1209 0800 1A03 088100 1200", false),
+        ("0801 1205 1A03 088100 1207 1A01 FF 0800 1200", false),
         ("0801 1208 0800 1A 8100 FF 1200", true),
+        ("0801 1204 1A 8100 FF 1204 0800 1200", true),
     ];
     check(PREPARE, &prepares);
     let opens = [
-        ("0801 2203 088100 2206 0800 1202 0801", false),
-        ("0801 22 8100 FF 2206 0800 1202 0801", true),
-        ("0801 220B 0800 1203 088100 1202 0801", false),
-        ("0801 220A 0800 12 8100 FF 1202 0801", true),
+        ("0801 2202 0801 2206 0800 1202 0801", false),
+        ("0801 2203 088100 2206 0800 1202 0801", true),
+        ("0801 2206 0800 1202 0801 2203 088100", true),
+        ("0801 22 8000 2206 0800 1202 0801", true),
         ("0801 2207 08 8000 1202 0801", true),
         ("0801 2209 0800 1205 0801 F80001", true),
     ];
     check(CURSOR_OPEN, &opens);
+}
+
+/// Of two bodies of a Prepare nothing inside counts, as of one; of two Executes
+/// of an Open all does.
+#[test]
+fn a_frame_refused_17_says_what_was_read() {
+    let samples = [
+        (PREPARE, "0801 1206 0800 1200 1200", false),
+        (PREPARE, "08 8100 1206 0800 1200 1200", true),
+        (PREPARE, "0801 1209 0800 1203 088100 1200", false),
+        (PREPARE, "0801 1207 0800 9200 00 1200", true),
+        (PREPARE, "0801 1204 0800 1200 1203 12 8000", true),
+        (PREPARE, "0801 1218 0805 3203 0A0153 320F 0A 8100 53 1209 08 8100 1202 0803 7801", false),
+        (CURSOR_OPEN, "0801 220A 0800 1202 0801 1202 0801", false),
+        (CURSOR_OPEN, "0801 220B 0800 1203 088100 1202 0801", true),
+        (CURSOR_OPEN, "0801 220B 0800 1202 0801 1203 088100", true),
+        (CURSOR_OPEN, "0801 2206 0800 1202 0801 2207 1205 1203 088200", true),
+        (CURSOR_OPEN, "0801 2206 0800 1202 0801 2208 1206 1204 0802 1200", false),
+        (CURSOR_OPEN, "0801 220E 0800 1206 1204 0802 1200 1202 0801", false),
+        (CURSOR_OPEN, "0801 220F 0800 1207 1205 0802 12 8000 1202 0801", true),
+    ];
+    for (kind, payload, padded) in samples {
+        check_refused(&frame(kind, payload), 17, padded);
+    }
 }
 
 #[test]
@@ -207,9 +240,12 @@ fn an_any() {
         ("08 8100 1202 0803", true),
         ("0801 12 8200 0803", true),
         ("0801 9200 02 0803", true),
-        ("0801 1203 088300 1202 0803", false),
-        ("0801 12 8100 FF 1202 0803", true),
+        ("0801 1202 0802 1202 0803", false),
+        ("0801 1203 088300 1202 0803", true),
+        ("0801 1202 0803 1203 18 8100", true),
+        ("0801 12 8000 1202 0803", true),
         ("0802 1203 088300", false),
+        ("0802 1203 088300 1201 FF", false),
         ("0802 12 8100 FF", true),
         ("0803 2203 088300", false),
         ("0803 22 8100 FF", true),
@@ -248,10 +284,13 @@ fn octets_and_strings() {
             (format!("08{kind} {tag}04 0A 8100 07"), true),
             (format!("08{kind} {tag}04 8A00 01 07"), true),
             (format!("08{kind} {tag}06 0A0107 10 8100"), true),
-            // Earlier ones, and the one that is not chosen.
-            (format!("08{kind} {tag}03 088100 {tag}03 0A0107"), false),
-            (format!("08{kind} {tag} 8100 FF {tag}03 0A0107"), true),
+            // Earlier and later parts, and the ones that are not chosen.
+            (format!("08{kind} {tag}02 0801 {tag}03 0A0107"), false),
+            (format!("08{kind} {tag}03 088100 {tag}03 0A0107"), true),
+            (format!("08{kind} {tag}03 0A0107 {tag}03 088100"), true),
+            (format!("08{kind} {tag} 8000 {tag}03 0A0107"), true),
             (format!("08{kind} {other}03 088100 {tag}03 0A0107"), false),
+            (format!("08{kind} {other}03 088100 {tag}03 0A0107 {other}01 FF"), false),
             (format!("08{kind} {tag}03 0A0107 {other} 8100 FF"), true),
             (format!("0803 {tag}03 088100"), false),
             (format!("0803 {padded_tag} 00"), true),

@@ -1,6 +1,9 @@
 //! Varints longer than they need be, and whether a frame is padded, asked in every way.
 
-use karramotx::{Args, ClientMessage, Message, Operation, Refusal, Report, Session, Work, MIN_REPLY};
+pub mod sessions;
+
+use karramotx::{ffi, ClientMessage, Refusal, Report, Session, MIN_REPLY};
+use sessions::{busy, stepped, suited};
 
 /// How many bytes the shortest form of a number has.
 pub fn shortest(number: u64) -> usize {
@@ -13,36 +16,6 @@ pub fn in_bytes(number: u64, len: usize) -> Vec<u8> {
     (0..len).map(|i| if i + 1 < len { group(i) | 0x80 } else { group(i) & 0x7f }).collect()
 }
 
-/// The report that the work wants; none where the frame is refused.
-fn suited(work: &Result<Work, Refusal>) -> Report {
-    match work {
-        Ok(Work::Prepare) => Report::Prepared { placeholders: 0 },
-        Ok(Work::Execute | Work::Open) => Report::Result { columns: 1, rows: 5 },
-        Ok(Work::Fetch(_)) => Report::Done,
-        Ok(Work::None) | Err(_) => Report::None,
-    }
-}
-
-/// The session after an accepted step, with the report that it wants.
-pub fn stepped(mut session: Session, message: ClientMessage) -> Session {
-    let frame = message.to_vec().expect("it is written");
-    let report = suited(&session.look(&frame).work);
-    session.step(&frame, report, &mut [0; MIN_REPLY]).outcome.expect("it is accepted");
-    session
-}
-
-/// Statement 1 without placeholders, and cursor 1 on it with five rows to send.
-pub fn busy() -> Session {
-    let args = Args::new();
-    let operation = Operation::Find;
-    let session = stepped(Session::new(), ClientMessage::Prepare { statement: 1, operation, body: &[] });
-    let (compact_metadata, fetch_rows) = (None, None);
-    stepped(
-        session,
-        ClientMessage::Open { cursor: 1, statement: 1, args: &args, compact_metadata, fetch_rows },
-    )
-}
-
 /// What a look, an inspection and a step say of a frame.
 fn said(session: &Session, frame: &[u8]) -> [bool; 3] {
     let look = session.look(frame);
@@ -50,13 +23,19 @@ fn said(session: &Session, frame: &[u8]) -> [bool; 3] {
     [look.padded, session.inspect(frame).padded, step_padded]
 }
 
-/// Whether a frame that is good by itself is padded. All must say the same of it, whether it is accepted or
-/// refused 7 or more; a closed session and a step whose reply buffer is too small must say no.
-pub fn is_padded(frame: &[u8]) -> bool {
-    let message = Message::read(frame).unwrap_or_else(|refusal| panic!("{frame:02x?}: {refusal}"));
-    let padded = message.is_padded();
+/// What reading the frame by itself says, where it is refused too.
+pub fn read_alone(frame: &[u8]) -> ffi::Message {
+    // SAFETY: the pointer and the length are those of a slice.
+    unsafe { ffi::karramotx_read(frame.as_ptr(), frame.len()) }
+}
+
+/// Whether a frame that is good by itself, or by itself refused 17, is padded. All must say the same of it,
+/// whether it is accepted or not; a closed session and a step whose reply buffer is too small must say no.
+pub fn is_padded(frame: &[u8], alone: Result<(), Refusal>) -> bool {
+    let read = read_alone(frame);
+    assert_eq!(read.reason, alone.map_or_else(Refusal::number, |()| 0), "{frame:02x?}");
     for mut session in [Session::new(), busy()] {
-        assert_eq!(said(&session, frame), [padded; 3], "{frame:02x?}");
+        assert_eq!(said(&session, frame), [read.padded; 3], "{frame:02x?}");
         let mut reply = [0; MIN_REPLY - 1];
         let short = session.step(frame, Report::None, &mut reply);
         assert_eq!((short.outcome, short.padded), (Err(Refusal::NoRoom), false), "{frame:02x?}");
@@ -64,6 +43,7 @@ pub fn is_padded(frame: &[u8]) -> bool {
     let closed = stepped(busy(), ClientMessage::SessionClose);
     assert_eq!(said(&closed, frame), [false; 3], "{frame:02x?}");
     assert_eq!(closed.look(frame).work, Err(Refusal::Closed));
-    assert_eq!(closed.inspect(frame).message.map(|m| m.is_padded()), Ok(padded), "{frame:02x?}");
-    padded
+    let told = closed.inspect(frame).message.map(|m| m.is_padded());
+    assert_eq!(told, alone.map(|()| read.padded), "{frame:02x?}");
+    read.padded
 }

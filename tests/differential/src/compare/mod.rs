@@ -2,10 +2,12 @@
 
 mod arrivals;
 mod divisions;
+mod joined;
 mod padded;
 mod pair;
 mod promises;
 mod reader;
+mod refused;
 mod shrink;
 mod touched;
 mod tree;

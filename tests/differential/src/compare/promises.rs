@@ -1,8 +1,10 @@
 //! What is promised of every implementation by itself, checked on each side:
 //! demand 1's refusals, demand 2's reading back, demand 3's tally.
 
+use super::joined::says_the_same;
 use super::padded::flags_agree;
 use super::pair::{broken, pattern, same, Difference, Outcome};
+use super::refused::holds_nothing;
 use super::touched::as_told;
 use crate::generate::{Step, StretchProbe, WriteProbe};
 use crate::implementation::*;
@@ -56,6 +58,11 @@ impl<'i, I: Implementation> Side<'i, I> {
         let Stepped { look, inspection, answer, buffer, tables } = stepped;
         look_binds(look, answer)?;
         flags_agree(message, look, inspection, answer)?;
+        holds_nothing(self.who, &step.frame, message, stepped)?;
+        if self.tables.closed && !matches!(look.reason, 1 | 2 | 4) {
+            return Err(format!("a closed session, but {look:?}"));
+        }
+        says_the_same(self.who, &step.frame, message)?;
         if answer.reason == 0 {
             as_told(&inspection.touched, message, &self.tables, tables)?;
         }

@@ -22,6 +22,12 @@ pub struct Noise {
     pub shuffle: usize,
     /// A message is spoiled.
     pub bad: usize,
+    /// An embedded message comes in several parts.
+    pub split: usize,
+    /// A message in parts is cut where it must not be, or one part is junk.
+    pub astray: usize,
+    /// A body comes more than once.
+    pub twice: usize,
 }
 
 pub struct Encoder<'r> {
@@ -94,12 +100,13 @@ impl<'r> Encoder<'r> {
         }
     }
 
-    /// An embedded message's earlier occurrence.
-    pub fn again_bytes(&mut self, number: u32, fields: &mut Vec<Vec<u8>>) {
-        self.again(fields, |e| {
-            let inside = e.unread();
-            e.bytes(number, &inside)
-        });
+    /// An embedded message that is skipped unread, anywhere among the others.
+    pub fn beside(&mut self, number: u32, fields: &mut Vec<Vec<u8>>) {
+        if self.random.permille(self.noise.again) {
+            let inside = self.unread();
+            let field = self.bytes(number, &inside);
+            fields.insert(self.random.below(fields.len() + 1), field);
+        }
     }
 
     /// What stands in a part that is skipped: often not even a field list, else
@@ -223,7 +230,12 @@ impl<'r> Encoder<'r> {
     }
 
     /// Joins fields to a message.
-    pub fn message(&mut self, mut fields: Vec<Vec<u8>>) -> Vec<u8> {
+    pub fn message(&mut self, fields: Vec<Vec<u8>>) -> Vec<u8> {
+        self.arranged(fields).concat()
+    }
+
+    /// The fields of a message in the order they come, with others among them.
+    pub(super) fn arranged(&mut self, mut fields: Vec<Vec<u8>>) -> Vec<Vec<u8>> {
         if self.random.permille(self.noise.shuffle) && fields.len() > 1 {
             let (a, b) = (self.random.below(fields.len()), self.random.below(fields.len()));
             fields.swap(a, b);
@@ -236,7 +248,7 @@ impl<'r> Encoder<'r> {
         if self.random.permille(self.noise.bad) {
             self.spoil(&mut fields);
         }
-        fields.concat()
+        fields
     }
 
     /// Leaves a field out, or puts a bad one in.

@@ -45,7 +45,10 @@ impl Encoder<'_> {
     fn payload(&mut self, intent: &Intent) -> Vec<u8> {
         match intent.kind {
             PREPARE => self.prepare(intent),
-            EXECUTE => self.execute(intent),
+            EXECUTE => {
+                let fields = self.execute(intent);
+                self.message(fields)
+            }
             CURSOR_OPEN => self.open(intent),
             DEALLOCATE => self.with_id(intent.stmt, Vec::new()),
             CURSOR_CLOSE => self.with_id(intent.cursor, Vec::new()),
@@ -67,11 +70,16 @@ impl Encoder<'_> {
     }
 
     /// A message of an id and other fields.
-    fn with_id(&mut self, id: u32, mut fields: Vec<Vec<u8>>) -> Vec<u8> {
-        let field = self.low32(1, id);
-        fields.insert(0, field);
+    fn with_id(&mut self, id: u32, fields: Vec<Vec<u8>>) -> Vec<u8> {
+        let mut all = self.id(id);
+        self.scatter(&mut all, fields);
+        self.message(all)
+    }
+
+    fn id(&mut self, id: u32) -> Vec<Vec<u8>> {
+        let mut fields = vec![self.low32(1, id)];
         self.again(&mut fields, |e| e.low32(1, 9));
-        self.message(fields)
+        fields
     }
 
     fn rows(&mut self, number: u32, rows: Option<u64>) -> Vec<Vec<u8>> {
@@ -88,22 +96,25 @@ impl Encoder<'_> {
         if self.noise.bad > 0 && self.random.permille(100) {
             operation = self.random.pick(&[3, 6, 7, u32::MAX]);
         }
-        let body = self.prepare_body(operation);
         let number = if operation < 3 { operation + 2 } else { operation.saturating_add(1) & 0xff };
-        let mut fields = vec![self.bytes(number, &body)];
-        self.again_bytes(number, &mut fields);
+        let mut fields = vec![self.low32(1, operation)];
+        let body = self.prepare_body(operation);
+        let bodies = self.body(number, body);
+        self.scatter(&mut fields, bodies);
         // Bodies the type does not choose are skipped unread.
-        self.again_bytes(if number == 3 { 4 } else { 3 }, &mut fields);
-        fields.insert(0, self.low32(1, operation));
-        self.enum_noise(&mut fields, &[3, 6, 1 << 40 | 3], &[0, 5]);
-        let stmt = self.message(fields);
-        let mut fields = vec![self.bytes(2, &stmt)];
-        self.again_bytes(2, &mut fields);
-        self.with_id(intent.stmt, fields)
+        for _ in 0..2 {
+            let other = self.random.pick(&[2, 3, 4, 5, 6]);
+            if other != number {
+                self.beside(other, &mut fields);
+            }
+        }
+        self.enum_noise(&mut fields, &[3, 6, 1 << 40 | 3], &[0, 1, 5]);
+        let parts = self.embedded(2, fields);
+        self.with_id(intent.stmt, parts)
     }
 
-    /// A body for a Prepare type.
-    pub fn prepare_body(&mut self, operation: u32) -> Vec<u8> {
+    /// The fields of a body for a Prepare type.
+    pub fn prepare_body(&mut self, operation: u32) -> Vec<Vec<u8>> {
         let mut fields = Vec::new();
         if operation == 5 {
             let len = self.random.below(20);
@@ -121,30 +132,32 @@ impl Encoder<'_> {
                 fields.push(self.unknown());
             }
         }
-        self.message(fields)
+        fields
     }
 
-    fn execute(&mut self, intent: &Intent) -> Vec<u8> {
+    /// The fields of an Execute.
+    fn execute(&mut self, intent: &Intent) -> Vec<Vec<u8>> {
         let mut fields = self.args(intent.args, intent.objects);
         if self.random.permille(250) {
             let value = if self.random.permille(200) { number(self.random) } else { 1 };
             fields.push(self.number(3, value));
             self.again(&mut fields, |e| e.number(3, 0));
         }
-        self.with_id(intent.stmt, fields)
+        let mut all = self.id(intent.stmt);
+        all.extend(fields);
+        all
     }
 
     fn open(&mut self, intent: &Intent) -> Vec<u8> {
-        let execute = self.execute(intent);
-        let mut fields = vec![self.bytes(2, &execute)];
-        self.again_bytes(2, &mut fields);
         let bad_type = self.noise.bad > 0 && self.random.permille(100);
-        fields.insert(0, self.low32(1, u32::from(bad_type)));
+        let mut fields = vec![self.low32(1, u32::from(bad_type))];
+        let execute = self.execute(intent);
+        let executes = self.body(2, execute);
+        self.scatter(&mut fields, executes);
         self.enum_noise(&mut fields, &[1, 5, 1 << 32 | 1], &[0, 1 << 32]);
-        let stmt = self.message(fields);
-        let mut fields = vec![self.bytes(4, &stmt)];
-        self.again_bytes(4, &mut fields);
-        fields.extend(self.rows(5, intent.rows));
-        self.with_id(intent.cursor, fields)
+        let mut parts = self.embedded(4, fields);
+        let rows = self.rows(5, intent.rows);
+        parts.extend(rows);
+        self.with_id(intent.cursor, parts)
     }
 }

@@ -5,10 +5,14 @@ mod damage;
 mod divisions;
 mod edges;
 mod encode;
+mod every_cut;
+mod every_order;
 mod every_varint;
 mod frames;
 mod intent;
+mod layers;
 mod padding;
+mod parts;
 mod probes;
 mod random;
 mod reports;
@@ -118,9 +122,13 @@ impl Guide {
         } else if random.permille(1) && random.permille(400) {
             frame = many_arguments(random, intent);
         }
-        if self.session.tables.closed && random.permille(200) {
-            // Which is told first, 4 or 5?
-            frame[4] = 46;
+        if self.session.tables.closed {
+            // Which is told first, 4 or 5, 4 or 17?
+            match random.below(10) {
+                0 | 1 => frame[4] = 46,
+                2 | 3 => frame = two_bodies(random),
+                _ => {}
+            }
         }
         if random.permille(spoilt) {
             frame = damage::damaged(random, frame);
@@ -146,10 +154,22 @@ fn encoded(random: &mut Random, intent: &Intent, spoilt: usize) -> Vec<u8> {
 fn noise(random: &mut Random, spoilt: usize) -> Noise {
     let bad = if random.permille(spoilt) { 350 } else { 0 };
     let often = Padding::Often;
+    let split = random.pick(&[0, 0, 150, 500]);
+    let astray = if random.permille(spoilt / 2) { 400 } else { 0 };
+    let plain = Noise { bad, split, astray, twice: random.pick(&[0, 0, 120]), ..Noise::default() };
     match random.below(3) {
-        0 => Noise { bad, ..Noise::default() },
-        1 => Noise { pad: often(30), wide: 60, extra: 60, again: 40, shuffle: 20, bad },
-        _ => Noise { pad: often(250), wide: 250, extra: 200, again: 120, shuffle: 60, bad },
+        0 => plain,
+        1 => Noise { pad: often(30), wide: 60, extra: 60, again: 40, shuffle: 20, ..plain },
+        _ => Noise { pad: often(250), wide: 250, extra: 200, again: 120, shuffle: 60, ..plain },
+    }
+}
+
+/// The shortest Prepare or Open that is refused 17.
+fn two_bodies(random: &mut Random) -> Vec<u8> {
+    if random.permille(500) {
+        framed(PREPARE, &[0x08, 1, 0x12, 6, 0x08, 0, 0x12, 0, 0x12, 0])
+    } else {
+        framed(CURSOR_OPEN, &[0x08, 1, 0x22, 8, 0x08, 0, 0x12, 2, 0x08, 1, 0x12, 0])
     }
 }
 

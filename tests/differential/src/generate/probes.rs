@@ -29,9 +29,13 @@ pub fn write_probe(random: &mut Random) -> WriteProbe {
     let draft = draft(random);
     let bad = if random.permille(150) { 400 } else { 0 };
     let often = if random.permille(300) { 100 } else { 0 };
-    let noise = Noise { bad, pad: Padding::Often(often), extra: 30, ..Noise::default() };
+    let split = random.pick(&[0, 0, 300]);
+    let astray = if random.permille(100) { 300 } else { 0 };
+    let noise =
+        Noise { bad, pad: Padding::Often(often), extra: 30, again: 30, split, astray, ..Noise::default() };
     let mut encoder = Encoder::new(random, noise);
-    let mut body = encoder.prepare_body(draft.operation);
+    let body = encoder.prepare_body(draft.operation);
+    let mut body = encoder.message(body);
     let count = encoder.random.below(4);
     let mut args = encoder.args(count, true).concat();
     if encoder.random.permille(bad) {

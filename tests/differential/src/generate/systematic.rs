@@ -1,11 +1,17 @@
 //! Sequences that leave nothing to chance: every cut and every bit of a good
 //! frame of each kind, every length of a varint, every varint padded alone,
-//! every depth of a group.
+//! every depth of a group, every cut of an embedded message and every order of
+//! its fields.
 
+use super::every_cut::every_cut;
+use super::every_order::every_order;
 use super::every_varint::every_varint;
 use super::frames::framed;
 use super::{Event, Step};
 use crate::implementation::*;
+
+/// Frames on one session.
+const TOGETHER: usize = 50;
 
 /// A Prepare of statement 1 and an Open of cursor 1 with rows left: every
 /// kind of frame then has something to do.
@@ -66,7 +72,15 @@ pub fn all() -> Vec<Vec<Event>> {
     }
     varints(&mut odd);
     odd.extend(every_varint());
-    odd.into_iter().map(around).collect()
+    odd.extend(every_cut());
+    let orders = every_order();
+    odd.into_iter().map(around).chain(orders.chunks(TOGETHER).map(behind_setup)).collect()
+}
+
+/// Many frames on one session: there are too many for a setup for each.
+fn behind_setup(frames: &[Vec<u8>]) -> Vec<Event> {
+    let steps = frames.iter().map(|frame| step(frame.clone()));
+    setup().into_iter().chain(steps).map(Event::Step).collect()
 }
 
 fn around(frame: Vec<u8>) -> Vec<Event> {

@@ -82,9 +82,9 @@ impl Encoder<'_> {
         let mut fields = Vec::new();
         let kind = self.random.range(1, 8) as u8;
         let scalar = self.scalar(kind);
-        fields.push(self.bytes(2, &scalar));
-        self.again_bytes(2, &mut fields);
-        fields.insert(0, self.low32(1, 1));
+        let parts = self.embedded(2, scalar);
+        fields.push(self.low32(1, 1));
+        self.scatter(&mut fields, parts);
         self.enum_noise(&mut fields, &[0, 4, 7, u64::MAX], &[2, 3]);
         self.message(fields)
     }
@@ -93,6 +93,7 @@ impl Encoder<'_> {
     fn object(&mut self) -> Vec<u8> {
         let kind = self.random.range(2, 3) as u32;
         let mut fields = vec![self.low32(1, kind)];
+        self.beside(2, &mut fields);
         if self.random.permille(500) {
             let inside = self.unread();
             let number = self.random.pick(&[2, 2, 3, 4]);
@@ -115,14 +116,15 @@ impl Encoder<'_> {
         });
     }
 
-    fn scalar(&mut self, kind: u8) -> Vec<u8> {
+    /// The fields of a Scalar.
+    fn scalar(&mut self, kind: u8) -> Vec<Vec<u8>> {
         let mut fields = Vec::new();
         self.scalar_value(kind, &mut fields);
         self.unchosen_values(kind, &mut fields);
         let type_field = self.low32(1, u32::from(kind));
         fields.insert(0, type_field);
         self.enum_noise(&mut fields, &[0, 9, 1 << 31], &[1, 3, 4, 8]);
-        self.message(fields)
+        fields
     }
 
     /// Values the type does not name: octets and strings are skipped unread,
@@ -134,7 +136,8 @@ impl Encoder<'_> {
             _ => &[5, 9],
         };
         let unread = self.random.pick(unread);
-        self.again_bytes(unread, fields);
+        self.beside(unread, fields);
+        self.beside(unread, fields);
         self.again(fields, |e| {
             let (plain, value) = (e.random.pick(&[2, 3, 8]), number(e.random));
             e.number(plain, value)
@@ -151,10 +154,13 @@ impl Encoder<'_> {
             }
             4 | 8 => {
                 let number = if kind == 4 { 5 } else { 9 };
-                let inner = vec![self.bytes(1, &bytes)];
-                let inner = self.message(inner);
-                fields.push(self.bytes(number, &inner));
-                self.again_bytes(number, fields);
+                let mut inner = vec![self.bytes(1, &bytes)];
+                self.again(&mut inner, |e| e.bytes(1, b"earlier"));
+                if self.random.permille(self.noise.astray / 4) {
+                    inner.clear();
+                }
+                let parts = self.embedded(number, inner);
+                fields.extend(parts);
             }
             5 => fields.push(self.fixed(6, 1, &bits.to_le_bytes())),
             6 => fields.push(self.fixed(7, 5, &(bits as u32).to_le_bytes())),

@@ -35,10 +35,6 @@ mistakes! {
     WideEnum,
     /// An id above 32 bits is bad instead of cut to 32.
     WideIdBad,
-    /// The first of several embedded messages counts.
-    FirstEmbedded,
-    /// Earlier embedded messages must be well-formed too.
-    EarlierEmbeddedRead,
     /// The first of several plain values counts.
     FirstValue,
     /// A known number with another wire type is bad.
@@ -71,6 +67,62 @@ mistakes! {
     PlaceInPayload,
     /// A pass over the arguments stops at an object.
     PassStopsAtObject,
+
+    // Reading messages in parts.
+    /// Of an embedded message the first part alone counts.
+    FirstPartAlone,
+    /// Of a statement the last part alone counts, as document 01 had it.
+    LastStatementPart,
+    /// Of an argument's scalar the last part alone counts.
+    LastScalarPart,
+    /// Of octets and strings the last part alone counts.
+    LastBytesPart,
+    /// Octets and strings are looked for in the last part of the scalar that has them.
+    BytesOfLastScalar,
+    /// What is required is asked of each part.
+    RequiredOfEachPart,
+    /// An earlier part may be bad.
+    BadEarlierPart,
+    /// The bytes of all parts are read as those of one, so that a group may span two.
+    PartsJoined,
+    /// The type in the first part that has one stands.
+    FirstPartsType,
+    /// Bodies that the type does not choose must be good field lists.
+    UnchosenBodyRead,
+    /// Octets and strings that the type does not choose must be good field lists.
+    UnchosenBytesRead,
+    /// Arguments are merged with each other.
+    ArgumentsMerged,
+
+    // Refusing two bodies.
+    /// Two bodies are accepted, the last one taken.
+    TwiceAccepted,
+    /// Two bodies are accepted and merged, as other messages are.
+    TwiceMerged,
+    /// 17 is told without a look into the bodies.
+    TwiceBeforeBad,
+    /// Of two bodies the last one alone must be good.
+    TwiceLastJudged,
+    /// What is required is asked of each of two bodies.
+    TwiceRequiredOfEach,
+    /// Bodies of all types are counted, not only of the chosen one.
+    TwiceOfAnyBody,
+    /// The chosen field counts with any wire type.
+    TwiceOfAnyWire,
+    /// Bodies are counted in the last part of the statement.
+    TwiceInLastPart,
+    /// Bodies are counted in each part of the statement by itself.
+    TwiceInOnePart,
+    /// Bodies without bytes are not counted.
+    TwiceWithBytes,
+    /// An argument of a frame refused 17 is refused 9.
+    TwiceArgumentNine,
+    /// The body of a frame refused 17 is the last one.
+    TwiceKeepsBody,
+    /// 17 is told before a closed session.
+    TwiceBeforeClosed,
+    /// 17 is told behind 7 to 14.
+    TwiceAfterAll,
 
     // Looking.
     /// An unknown type is told before a closed session.
@@ -149,8 +201,16 @@ mistakes! {
     UnchosenBodyCounted,
     /// The inside of a scalar, octets or string that is not chosen counts.
     UnchosenValueCounted,
-    /// The inside of an earlier embedded message counts.
-    EarlierInsideCounted,
+    /// Earlier parts of a message are forgotten.
+    EarlierPartNotCounted,
+    /// Of an Open's two Executes the last one alone counts.
+    FirstExecuteNotCounted,
+    /// The fields of a Prepare body count where there are two.
+    TwiceBodiesCounted,
+    /// A frame refused 17 says no.
+    TwiceSaysNo,
+    /// The message of a frame refused 17 says no, though a look says what was read.
+    TwiceMessageSaysNo,
     /// A closed session says what was read.
     ClosedSaysYes,
     /// A bad payload says whether its first field was padded.

@@ -1,4 +1,4 @@
-//! The model: document 01 and items 1 and 2 of document 02 once more, written
+//! The model: document 01 and items 1 to 3 of document 02 once more, written
 //! from the papers alone.
 //!
 //! It is written to be read beside the document, one file for each chapter,
@@ -8,6 +8,7 @@ mod arrivals;
 mod inspect;
 mod mistake;
 mod padded;
+mod parts;
 mod read;
 mod reply;
 mod rules;
@@ -19,6 +20,7 @@ mod write;
 
 pub use arrivals::Reader;
 pub use mistake::{Mistake, ALL as MISTAKES};
+pub use parts::Layer;
 pub use session::Session;
 pub use wire::shortest;
 
@@ -72,13 +74,13 @@ impl Implementation for Model {
     }
 
     fn read(&self, frame: &[u8]) -> Message {
-        self.read_frame(frame)
+        self.told(self.read_frame(frame))
     }
 
     fn argument(&self, frame: &[u8], index: u64) -> Argument {
         let message = self.read_values(frame);
         if message.reason != 0 {
-            return Err(message.reason);
+            return Err(self.argument_reason(message.reason));
         }
         let found = usize::try_from(index).ok().and_then(|i| message.args.get(i));
         found.map_or(Err(9), |value| alone(*value))
@@ -87,7 +89,7 @@ impl Implementation for Model {
     fn pass(&self, frame: &[u8]) -> Vec<Argument> {
         let message = self.read_values(frame);
         if message.reason != 0 {
-            return vec![Err(message.reason)];
+            return vec![Err(self.argument_reason(message.reason))];
         }
         let stops = self.makes(Mistake::PassStopsAtObject);
         let all = message.args.into_iter().map(alone);
@@ -95,7 +97,7 @@ impl Implementation for Model {
     }
 
     fn body<'f>(&self, frame: &'f [u8]) -> &'f [u8] {
-        self.read_values(frame).body.of(frame)
+        self.told(self.read_values(frame)).body.of(frame)
     }
 
     fn look(&self, session: &Session, frame: &[u8]) -> Look {

@@ -1,6 +1,7 @@
 //! Item 2 of document 02: which varints of a frame were padded, and who is told.
 
-use super::read::frame_length;
+use super::parts::Layer;
+use super::read::{frame_length, BODIES, STMT_EXECUTE, TWICE};
 use super::scalar::{BOOL, OCTETS, SINT, STRING, UINT};
 use super::wire::{writers_bytes, Field, Fields, BYTES, START, VARINT};
 use super::{Mistake, Model};
@@ -45,15 +46,28 @@ impl Model {
         };
         let payload = Place { start: 5, len: whole - 5 };
         match message.reason {
-            0 => {
-                let mut read = Read { model: *self, frame, padded: false };
+            TWICE if self.makes(Mistake::TwiceSaysNo) => false,
+            0 | TWICE => {
+                let mut read = Read::of(*self, frame);
                 // In a good frame each list that is read is good.
-                let _ = read.message(payload, message);
+                let _ = read.message(payload, message.kind);
                 read.padded
             }
             6 => self.makes(Mistake::BadPayloadSaysYes) && self.first_padded(frame, payload),
             _ => false,
         }
+    }
+
+    /// Which of `Layer::IN_PARTS` are in several parts, as far as the frame is
+    /// good, Prepare bodies included.
+    pub fn layers_in_parts(&self, frame: &[u8]) -> [bool; Layer::IN_PARTS.len()] {
+        let mut read = Read { into_bodies: true, ..Read::of(*self, frame) };
+        if let Ok(whole) = frame_length(frame) {
+            let payload = Place { start: 5, len: whole - 5 };
+            // A bad frame is gone through up to the first bad list.
+            let _ = read.message(payload, frame[4]);
+        }
+        read.in_parts
     }
 
     /// What a look or a step says: no where it refuses 1 to 6.
@@ -69,16 +83,19 @@ impl Model {
     }
 }
 
-impl Fields<'_> {
+impl Fields {
     /// Whether a field was padded.
-    fn padded(&self) -> bool {
-        self.list.iter().enumerate().any(|(at, field)| field.padded && self.counts(at))
+    fn padded(&self, layer: Layer) -> bool {
+        self.list.iter().enumerate().any(|(at, field)| field.padded && self.counts(layer, at))
     }
 
-    /// Every field counts, known or not, and each time that it occurs.
-    fn counts(&self, at: usize) -> bool {
-        let (number, wire) = (self.list[at].number, self.list[at].wire);
+    /// Every field counts, known or not, in every part, and each time that it
+    /// occurs.
+    fn counts(&self, layer: Layer, at: usize) -> bool {
+        let Field { number, wire, part, .. } = self.list[at];
+        let last = self.list.last().is_some_and(|f| f.part == part);
         match self.model.mistake {
+            Some(Mistake::EarlierPartNotCounted) if !layer.is_body() => last,
             // No layout has a number above 9.
             Some(Mistake::UnknownNotCounted) => number <= 9,
             // Field 2 may be a repeated one, arguments, of which none is earlier.
@@ -108,19 +125,31 @@ struct Read<'a> {
     model: Model,
     frame: &'a [u8],
     padded: bool,
+    /// Whether Prepare bodies are gone into, which count for nothing here.
+    into_bodies: bool,
+    in_parts: [bool; Layer::IN_PARTS.len()],
 }
 
-impl<'a> Read<'a> {
-    fn list(&mut self, part: Place) -> Option<Fields<'a>> {
-        let fields = self.model.fields(self.frame, part)?;
-        self.padded |= fields.padded();
+impl Read<'_> {
+    fn of(model: Model, frame: &[u8]) -> Read<'_> {
+        let in_parts = [false; Layer::IN_PARTS.len()];
+        Read { model, frame, padded: false, into_bodies: false, in_parts }
+    }
+
+    /// The fields of all parts of a message.
+    fn list(&mut self, layer: Layer, parts: &[Place]) -> Option<Fields> {
+        if let Some(at) = Layer::IN_PARTS.iter().position(|one| *one == layer) {
+            self.in_parts[at] |= parts.len() > 1;
+        }
+        let fields = self.model.merged(layer, self.frame, parts)?;
+        self.padded |= fields.padded(layer);
         Some(fields)
     }
 
     /// A list whose own fields the mistake forgets.
-    fn list_unless(&mut self, forgotten: Mistake, part: Place) -> Option<Fields<'a>> {
+    fn list_unless(&mut self, forgotten: Mistake, layer: Layer, parts: &[Place]) -> Option<Fields> {
         let before = self.padded;
-        let fields = self.list(part)?;
+        let fields = self.list(layer, parts)?;
         if self.model.makes(forgotten) {
             self.padded = before;
         }
@@ -129,30 +158,25 @@ impl<'a> Read<'a> {
 
     /// Parts whose inside does not count; the mistake counts it. They need not
     /// be field lists.
-    fn skipped(&mut self, counted: Mistake, parts: impl IntoIterator<Item = Place>) {
+    fn skipped(&mut self, counted: Mistake, parts: Vec<Place>) {
         if self.model.makes(counted) {
-            parts.into_iter().for_each(|part| drop(self.list(part)));
+            parts.into_iter().for_each(|part| drop(self.list(Layer::Whole, &[part])));
         }
     }
 
-    /// The embedded message that counts, earlier ones skipped unread.
-    fn embedded(&mut self, fields: &Fields, number: u32) -> Option<Place> {
-        let mut earlier = fields.repeated(number);
-        earlier.pop();
-        self.skipped(Mistake::EarlierInsideCounted, earlier);
-        fields.embedded(number)
-    }
-
-    fn message(&mut self, payload: Place, message: &Message) -> Option<()> {
-        let fields = self.list(payload)?;
-        match message.kind {
-            PREPARE => self.prepare(&fields, message),
+    fn message(&mut self, payload: Place, kind: u8) -> Option<()> {
+        let fields = self.list(Layer::Whole, &[payload])?;
+        match kind {
+            PREPARE => self.prepare(&fields),
             EXECUTE => self.arguments(&fields),
             CURSOR_OPEN => {
-                let part = self.embedded(&fields, 4)?;
-                let stmt = self.list_unless(Mistake::StatementNotCounted, part)?;
-                let part = self.embedded(&stmt, 2)?;
-                let execute = self.list_unless(Mistake::OpenExecuteNotCounted, part)?;
+                let parts = fields.parts(4)?;
+                let stmt = self.list_unless(Mistake::StatementNotCounted, Layer::OpenStmt, &parts)?;
+                let mut parts = stmt.parts(2)?;
+                if self.model.makes(Mistake::FirstExecuteNotCounted) {
+                    parts.drain(..parts.len() - 1);
+                }
+                let execute = self.list_unless(Mistake::OpenExecuteNotCounted, Layer::Execute, &parts)?;
                 self.arguments(&execute)
             }
             _ => Some(()),
@@ -160,18 +184,39 @@ impl<'a> Read<'a> {
     }
 
     /// The statement's fields, and nothing inside its bodies.
-    fn prepare(&mut self, fields: &Fields, message: &Message) -> Option<()> {
-        let part = self.embedded(fields, 2)?;
-        let stmt = self.list_unless(Mistake::StatementNotCounted, part)?;
-        for number in 2..=6 {
-            let body = self.embedded(&stmt, number);
-            let chosen = body == Some(message.body);
-            let counted = if chosen { Mistake::BodyInsideCounted } else { Mistake::UnchosenBodyCounted };
-            self.skipped(counted, body);
+    fn prepare(&mut self, fields: &Fields) -> Option<()> {
+        let parts = fields.parts(2)?;
+        let stmt = self.list_unless(Mistake::StatementNotCounted, Layer::PrepareStmt, &parts)?;
+        let operation = stmt.listed(1, &BODIES.map(|(operation, _)| operation))?;
+        for (chooses, number) in BODIES {
+            let bodies = stmt.repeated(number);
+            let counted = match bodies.len() {
+                _ if chooses != operation => Mistake::UnchosenBodyCounted,
+                2.. if self.model.makes(Mistake::TwiceBodiesCounted) => Mistake::TwiceBodiesCounted,
+                _ => Mistake::BodyInsideCounted,
+            };
+            if chooses == operation {
+                self.body(operation, &bodies);
+            }
+            self.skipped(counted, bodies);
         }
-        if self.model.makes(Mistake::BodyArgumentsCounted) {
-            self.arguments(&self.model.fields(self.frame, message.args_place)?)?;
+        Some(())
+    }
+
+    /// The chosen body, whose inside counts by mistake only.
+    fn body(&mut self, operation: u32, parts: &[Place]) -> Option<()> {
+        let counts = self.model.makes(Mistake::BodyArgumentsCounted);
+        let before = self.padded;
+        if self.into_bodies || counts {
+            let execute = operation == STMT_EXECUTE;
+            let layer = if execute { Layer::StmtExecute } else { Layer::OtherBody };
+            let list = self.list(layer, parts)?;
+            self.padded = before;
+            if execute {
+                self.arguments(&list)?;
+            }
         }
+        self.padded = before || self.padded && counts;
         Some(())
     }
 
@@ -183,28 +228,27 @@ impl<'a> Read<'a> {
     }
 
     fn any(&mut self, part: Place) -> Option<()> {
-        let any = self.list(part)?;
-        let scalar = self.embedded(&any, 2);
+        let any = self.list(Layer::Whole, &[part])?;
         if any.listed(1, &[1, 2, 3])? == 1 {
-            return self.scalar(scalar?);
+            return self.scalar(&any.parts(2)?);
         }
-        self.skipped(Mistake::UnchosenValueCounted, scalar);
+        self.skipped(Mistake::UnchosenValueCounted, any.repeated(2));
         Some(())
     }
 
-    fn scalar(&mut self, part: Place) -> Option<()> {
+    fn scalar(&mut self, parts: &[Place]) -> Option<()> {
         let before = self.padded;
-        let scalar = self.list_unless(Mistake::ScalarNotCounted, part)?;
+        let scalar = self.list_unless(Mistake::ScalarNotCounted, Layer::Scalar, parts)?;
         let kind = scalar.listed(1, &[1, 2, 3, 4, 5, 6, 7, 8])? as u8;
         if self.model.makes(Mistake::UnchosenNumberNotCounted) {
             self.padded = before || scalar.padded_and_chosen(kind);
         }
-        for (chooses, number) in [(OCTETS, 5), (STRING, 9)] {
-            let value = self.embedded(&scalar, number);
+        for (chooses, number, layer) in [(OCTETS, 5, Layer::Octets), (STRING, 9, Layer::Text)] {
             if kind == chooses {
-                self.list_unless(Mistake::OctetsNotCounted, value?)?;
+                let parts = scalar.parts_over_all(number)?;
+                self.list_unless(Mistake::OctetsNotCounted, layer, &parts)?;
             } else {
-                self.skipped(Mistake::UnchosenValueCounted, value);
+                self.skipped(Mistake::UnchosenValueCounted, scalar.repeated(number));
             }
         }
         Some(())

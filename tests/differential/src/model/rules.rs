@@ -1,5 +1,6 @@
-//! What a look decides: refusals 1, 2 and 4 to 14, and the work wanted.
+//! What a look decides: refusals 1, 2, 4 to 14 and 17, and the work wanted.
 
+use super::read::TWICE;
 use super::reply::{too_few, unsupported, Refused};
 use super::{Mistake, Model, Session};
 use crate::implementation::*;
@@ -45,11 +46,15 @@ impl Model {
     pub(super) fn judge(&self, session: &Session, message: &Message) -> Result<(), Refused> {
         let used = message.used;
         let told_first = if self.makes(Mistake::UnknownBeforeClosed) { 1..=5 } else { 1..=3 };
-        if told_first.contains(&message.reason) {
+        let twice_first = message.reason == TWICE && self.makes(Mistake::TwiceBeforeClosed);
+        if told_first.contains(&message.reason) || twice_first {
             return Err(Refused::plain(message.reason, used));
         }
         if session.tables.closed {
             return Err(Refused::plain(4, used));
+        }
+        if message.reason == TWICE && self.makes(Mistake::TwiceAfterAll) {
+            self.judge_message(session, message)?;
         }
         if message.reason != 0 {
             return Err(Refused::plain(message.reason, used));

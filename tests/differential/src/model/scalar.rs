@@ -1,5 +1,6 @@
 //! Arguments: Any, Scalar, octets and strings, read and written.
 
+use super::parts::Layer;
 use super::wire::{shortest, FIXED32, FIXED64, VARINT};
 use super::{Mistake, Model};
 use crate::implementation::{Place, Scalar, Value, Written};
@@ -15,39 +16,43 @@ pub const STRING: u8 = 8;
 
 impl Model {
     /// One Any.
-    pub(super) fn any(&self, bytes: &[u8], part: Place) -> Option<Value> {
-        let any = self.fields(bytes, part)?;
+    pub(super) fn any(&self, bytes: &[u8], parts: &[Place]) -> Option<Value> {
+        let any = self.merged(Layer::Whole, bytes, parts)?;
         let kind = any.listed(1, &[1, 2, 3])?;
         if self.makes(Mistake::UnchosenScalarRead) {
-            any.embedded(2).map_or(Some(Value::Null), |part| self.scalar(bytes, part))?;
+            any.parts(2).map_or(Some(Value::Null), |parts| self.scalar(bytes, &parts))?;
         }
         match kind {
-            1 => self.scalar(bytes, any.embedded(2)?),
+            1 => self.scalar(bytes, &any.parts(2)?),
             2 => Some(Value::Object),
             _ => Some(Value::Array),
         }
     }
 
-    fn scalar(&self, bytes: &[u8], part: Place) -> Option<Value> {
-        let scalar = self.fields(bytes, part)?;
+    fn scalar(&self, bytes: &[u8], parts: &[Place]) -> Option<Value> {
+        let scalar = self.merged(Layer::Scalar, bytes, parts)?;
         let kind = scalar.listed(1, &[1, 2, 3, 4, 5, 6, 7, 8])? as u8;
+        if self.makes(Mistake::UnchosenBytesRead) {
+            [5, 9].into_iter().try_for_each(|number| self.all_good(bytes, scalar.repeated(number)))?;
+        }
         match kind {
             SINT => scalar.number(2, VARINT).map(|v| Value::Sint(self.unzigzag(v))),
             UINT => scalar.number(3, VARINT).map(Value::Uint),
             NULL => Some(Value::Null),
-            OCTETS => self.held(bytes, scalar.embedded(5)?).map(Value::Octets),
+            OCTETS => self.held(Layer::Octets, bytes, &scalar.parts_over_all(5)?).map(Value::Octets),
             DOUBLE => scalar.number(6, FIXED64).map(Value::Double),
             FLOAT => scalar.number(7, FIXED32).map(|v| Value::Float(self.float(v as u32))),
             BOOL => scalar.boolean(8).map(Value::Bool),
-            _ => self.held(bytes, scalar.embedded(9)?).map(Value::Text),
+            _ => self.held(Layer::Text, bytes, &scalar.parts_over_all(9)?).map(Value::Text),
         }
     }
 
-    /// The required bytes an octets or string message holds in field 1.
-    fn held(&self, bytes: &[u8], part: Place) -> Option<Place> {
-        let mut place = self.fields(bytes, part)?.bytes(1);
+    /// The required bytes an octets or string message holds in field 1: the
+    /// last one over all parts.
+    fn held(&self, layer: Layer, bytes: &[u8], parts: &[Place]) -> Option<Place> {
+        let mut place = self.merged(layer, bytes, parts)?.bytes(1);
         if self.makes(Mistake::OctetsOptional) {
-            place = place.or(Some(Place { len: 0, ..part }));
+            place = place.or(parts.last().map(|part| Place { len: 0, ..*part }));
         }
         if self.makes(Mistake::PlaceInPayload) {
             place = place.map(|p| Place { start: p.start.saturating_sub(5), ..p });

@@ -1,5 +1,6 @@
 //! Payload rules: varints, tags, lengths and groups.
 
+use super::parts::Layer;
 use super::{Mistake, Model};
 use crate::implementation::Place;
 
@@ -24,24 +25,25 @@ pub struct Field {
     /// Whether its tag, its length or its number was padded; of a group its
     /// start tag alone.
     pub padded: bool,
+    /// Which part of its message it stands in, from 0.
+    pub part: usize,
 }
 
 /// A message split into its fields, in their order.
-pub struct Fields<'a> {
+pub struct Fields {
     pub(super) model: Model,
-    bytes: &'a [u8],
     pub(super) list: Vec<Field>,
 }
 
 impl Model {
     /// Splits a message; `None` if it is not a good field list.
-    pub(super) fn fields<'a>(&self, bytes: &'a [u8], part: Place) -> Option<Fields<'a>> {
+    pub(super) fn fields(&self, bytes: &[u8], part: Place) -> Option<Fields> {
         let mut scan = Scan { model: *self, bytes, at: part.start, end: part.end() };
         let mut list = Vec::new();
         while scan.at < scan.end {
             list.push(scan.field()?);
         }
-        Some(Fields { model: *self, bytes, list })
+        Some(Fields { model: *self, list })
     }
 
     /// Whether the first field of a message was padded, whatever follows it.
@@ -116,7 +118,7 @@ impl Scan<'_> {
     fn value(&mut self, tag: Tag, depth: u32) -> Option<Field> {
         let Tag { number, wire, padded } = tag;
         let padded = self.model.counts_tag(wire, padded);
-        let mut field = Field { number, wire, value: 0, place: Place::default(), padded };
+        let mut field = Field { number, wire, value: 0, place: Place::default(), padded, part: 0 };
         match wire {
             VARINT => {
                 let Varint { value, padded } = self.varint()?;
@@ -171,8 +173,13 @@ impl Scan<'_> {
     }
 }
 
-impl Fields<'_> {
-    fn of(&self, number: u32, wire: u8) -> impl DoubleEndedIterator<Item = &Field> {
+impl Fields {
+    /// Takes the fields of one more part behind those it has.
+    pub fn take_part(&mut self, part: usize, fields: Fields) {
+        self.list.extend(fields.list.into_iter().map(|field| Field { part, ..field }));
+    }
+
+    pub fn of(&self, number: u32, wire: u8) -> impl DoubleEndedIterator<Item = &Field> {
         self.list.iter().filter(move |f| f.number == number && f.wire == wire)
     }
 
@@ -212,8 +219,14 @@ impl Fields<'_> {
         if self.model.makes(Mistake::UnlistedOverwrites) {
             return self.number(number, VARINT).filter(|v| good(*v)).map(|v| v as u32);
         }
-        let mut found = self.of(number, VARINT).filter(|f| good(f.value));
-        found.next_back().map(|f| f.value as u32)
+        let mut found: Vec<&Field> = self.of(number, VARINT).filter(|f| good(f.value)).collect();
+        if self.model.makes(Mistake::FirstPartsType) {
+            found.retain({
+                let first = found.first().map(|f| f.part);
+                move |f| Some(f.part) == first
+            });
+        }
+        found.last().map(|f| f.value as u32)
     }
 
     /// The last occurrence of a bytes field.
@@ -226,17 +239,23 @@ impl Fields<'_> {
         self.of(number, BYTES).map(|f| f.place).collect()
     }
 
-    /// The embedded message that counts: the last, earlier ones unread.
-    pub fn embedded(&self, number: u32) -> Option<Place> {
-        if self.model.makes(Mistake::EarlierEmbeddedRead) {
-            for place in self.repeated(number) {
-                self.model.fields(self.bytes, place)?;
-            }
+    /// The parts of an embedded message, in their order, if there is one.
+    pub fn parts(&self, number: u32) -> Option<Vec<Place>> {
+        Some(self.repeated(number)).filter(|parts| !parts.is_empty())
+    }
+
+    /// The parts of a Scalar's octets or string, over all parts of the Scalar.
+    pub fn parts_over_all(&self, number: u32) -> Option<Vec<Place>> {
+        if self.model.makes(Mistake::BytesOfLastScalar) {
+            let last = self.of(number, BYTES).next_back()?.part;
+            return Some(self.of(number, BYTES).filter(|f| f.part == last).map(|f| f.place).collect());
         }
-        if self.model.makes(Mistake::FirstEmbedded) {
-            return self.of(number, BYTES).next().map(|f| f.place);
-        }
-        self.of(number, BYTES).next_back().map(|f| f.place)
+        self.parts(number)
+    }
+
+    /// Whether the required field 1 of a layer is there.
+    pub fn has_required(&self, layer: Layer) -> bool {
+        layer.required().is_none_or(|wire| self.of(1, wire).next().is_some())
     }
 
     /// Whether every field is this number with bytes.

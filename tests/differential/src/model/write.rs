@@ -68,7 +68,7 @@ impl Model {
             4 | 5 => u64::from(draft.operation) + 1,
             _ => return None,
         };
-        self.prepare_body(draft.operation, body, Place { start: 0, len: body.len() })?;
+        self.prepare_body(draft.operation, body, &[Place { start: 0, len: body.len() }])?;
         let mut stmt = Vec::new();
         plain(1, u64::from(draft.operation), &mut stmt);
         nested(number, body, &mut stmt);
@@ -92,7 +92,7 @@ impl Model {
         if !fields.only(2) && !self.makes(Mistake::LooseStretch) {
             return None;
         }
-        fields.repeated(2).into_iter().try_for_each(|part| self.any(args, part).map(|_| ()))
+        self.arguments(args, &fields).map(drop)
     }
 }
 

@@ -1,7 +1,7 @@
 -- By the laws on one field and on two a short way answers what the rows do; the rest goes the long way.
 use Rattle.prelude.proofs.Basics.{ℕ, _<_, arith, sym, ap, subst, _∙_, List, length, take-length, needs, or-none}
 use Rattle.prelude.proofs.Basics.{or-same, or-then}
-use Rattle.args.proofs.Names.{anyTypeOf, scalarPadded, argumentPadded}
+use Rattle.args.proofs.Names.{onePart, anyTypeOf, scalarPadded, argumentPadded}
 use Rattle.args.specs.private.Pair.{pairPadded}
 use Rattle.args.proofs.ScalarLaws.{Held, named-fits, object-read, array-read, scalar-read, long-argument-read}
 use Rattle.args.proofs.InsideLaws.{object-flag, array-flag, scalar-flag, any-again}
@@ -44,7 +44,7 @@ returns-3 c =
       c .scalar-type .ensures .0 ∙ ap anyTypeOf (scalar-read (held f) (t .if3 .taken)),
       λ h.
           or-then (a .padded .now) (pairPadded (a .s .now) (a .at) (a .n))
-          (scalarPadded (a .s .now) (g .1 .1 .1 .0) (g .1 .1 .0)) (r .read-pair .ensures .1)
+          (scalarPadded (a .s .now) (onePart (g .1 .1 .1 .0) (g .1 .1 .0))) (r .read-pair .ensures .1)
           (c .scalar-type .ensures .1 h) (scalar-flag (held f) (t .if3 .taken)),
     )
 
@@ -59,7 +59,7 @@ returns-4 c =
       λ h.
           or-then (a .padded .now) (pairPadded s (a .at) (a .n)) (argumentPadded s (a .at) (a .n))
           (r .read-pair .ensures .1)
-          (c .before .long-argument .ensures .1
+          (c .before .long-argument .ensures .1 (subst (λ (k : ℕ). 0 < k) (c .any-type .ensures) h)
           ∙ or-same (r .read-pair .last .1 .1 .1 .0)
           (ap (λ (l : List ℕ). argumentPadded l (a .at) (a .n)) (take-length s)))
           (any-again s (a .at) (a .n) (subst (λ (k : ℕ). 0 < k) is h)),

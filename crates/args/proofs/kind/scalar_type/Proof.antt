@@ -3,7 +3,7 @@ use Rattle.prelude.proofs.Basics.{ℕ, _<_, arith, Bool, _||_, _≡_, refl, sym
 use Rattle.prelude.proofs.Basics.{take-length, needs, or-none, or-same, or-then}
 use lib.Ieee.{binary32, binary64, ofBits, nanBits}
 use Rattle.scalar.specs.declared.argument.Argument.the-variants as Va
-use Rattle.args.proofs.Names.{low32, partPadded, anyTypeOf, scalarPadded}
+use Rattle.args.proofs.Names.{low32, onePart, partPadded, anyTypeOf, scalarPadded}
 use Rattle.args.specs.private.Pair.{pairPadded}
 use Rattle.args.proofs.ScalarLaws.{Held, named-fits, null-read, long-scalar-read, sint-read, uint-read}
 use Rattle.args.proofs.ScalarLaws.{octets-read, double-read, float-read, bool-read, string-read}
@@ -26,8 +26,9 @@ held f = record { is = sym (f .before .before .read-pair .ensures .0) ∙ f .fir
 -- a value with nothing inside: the flag of the pair is the Scalar's
 plain : (f : tie.After-first) →
     let a = start (f .before .before) .args in
-    pairPadded (a .s .now) (a .at) (a .n) ≡ scalarPadded (a .s .now) (a .at) (a .n) →
-    f .before .before .read-pair .last .1 .1 .1 .0 ≡ (a .padded .now || scalarPadded (a .s .now) (a .at) (a .n))
+    pairPadded (a .s .now) (a .at) (a .n) ≡ scalarPadded (a .s .now) (onePart (a .at) (a .n)) →
+    f .before .before .read-pair .last .1 .1 .1 .0
+    ≡ (a .padded .now || scalarPadded (a .s .now) (onePart (a .at) (a .n)))
 plain f e = f .before .before .read-pair .ensures .1 ∙ or-same (start (f .before .before) .args .padded .now) e
 
 -- one with a message of bytes inside, which is read in bytes that are lent anew
@@ -36,10 +37,10 @@ within : (f : tie.After-first) (now : Bool) →
     let a = start r .args in
     let g = f .first .given .0 in
     (pairPadded (a .s .now) (a .at) (a .n) || partPadded (a .s .now) (g .1 .1 .1 .0) (g .1 .1 .0))
-    ≡ scalarPadded (a .s .now) (a .at) (a .n) →
+    ≡ scalarPadded (a .s .now) (onePart (a .at) (a .n)) →
     now ≡ (r .read-pair .last .1 .1 .1 .0
     || partPadded (take (length (a .s .now)) (a .s .now)) (g .1 .1 .1 .0) (g .1 .1 .0)) →
-    now ≡ (a .padded .now || scalarPadded (a .s .now) (a .at) (a .n))
+    now ≡ (a .padded .now || scalarPadded (a .s .now) (onePart (a .at) (a .n)))
 within f now e q =
     let r = f .before .before in
     let a = start r .args in
@@ -104,11 +105,11 @@ returns-9 c =
     in (
       is,
       λ h.
-          or-then (a .padded .now) (pairPadded s (a .at) (a .n)) (scalarPadded s (a .at) (a .n))
+          or-then (a .padded .now) (pairPadded s (a .at) (a .n)) (scalarPadded s (onePart (a .at) (a .n)))
           (r .read-pair .ensures .1)
-          (c .before .long-scalar .ensures .1
+          (c .before .long-scalar .ensures .1 (subst (λ (k : ℕ). 0 < k) (c .any-type3 .ensures) h)
           ∙ or-same (r .read-pair .last .1 .1 .1 .0)
-          (ap (λ (l : List ℕ). scalarPadded l (a .at) (a .n)) (take-length s)))
+          (ap (λ (l : List ℕ). scalarPadded l (onePart (a .at) (a .n))) (take-length s)))
           (scalar-again s (a .at) (a .n) (subst (λ (k : ℕ). 0 < k) is h)),
     )
 

@@ -1,7 +1,8 @@
--- `args::value::long_bytes` meets its contract: the arrays hold the field, and its slot is the place and length of the
--- bytes. Assumes nothing.
-use Rattle.prelude.proofs.Basics.{_∙_, needs, not-false, not-true, yes, no as without}
+-- `args::value::long_bytes` meets its contract: the arrays hold the message. Assumes nothing.
+use Rattle.prelude.proofs.Basics.{_∙_, needs, not-false, not-true}
+use Rattle.args.proofs.Names.{bytes, rowsOf, onePart}
 use Rattle.args.proofs.ArrayLaws.{bytes-held, bytes-refused}
+use Rattle.args.proofs.PartedLaws.{held-one}
 use Rattle.args.proofs.value.long_bytes.Statement.{statement}
 use Rattle.args.proofs.value.long_bytes.Tie as tie
 
@@ -13,33 +14,27 @@ returns c =
     let f = c .before in
     let r = rows f in
     let a = r .before .before .args in (
-      bytes-refused (a .s .now) (a .at) (a .n) (a .octets)
-          (rw (r .bytes-rows .ensures) at (f .fill-part .ensures .0)) (not-true _ (c .if1 .taken)),
+      bytes-refused (a .s .now) (onePart (a .at) (a .n)) (a .octets)
+          (held-one (rowsOf bytes) (a .s .now) (a .at) (a .n)
+          (rw (r .bytes-rows .ensures) at (f .fill-part .ensures .0)))
+          (not-true _ (c .if1 .taken)),
       f .fill-part .ensures .1,
     )
 
 returns-2 : tie.Need-returns-2
 returns-2 c =
-    let f = c .before .before in
+    let e = c .before .before .before in
+    let f = e .before in
     let r = rows f in
     let a = r .before .before .args in (
-      yes _ _ (c .if2 .taken)
-          ∙ bytes-held (a .s .now) (a .at) (a .n) (a .octets)
-          (rw (r .bytes-rows .ensures) at (f .fill-part .ensures .0)) (not-false _ (c .before .if1 .left)),
-      f .fill-part .ensures .1,
-    )
-
-returns-3 : tie.Need-returns-3
-returns-3 c =
-    let f = c .before .before in
-    let r = rows f in
-    let a = r .before .before .args in (
-      without _ _ (c .if2 .left)
-          ∙ bytes-held (a .s .now) (a .at) (a .n) (a .octets)
-          (rw (r .bytes-rows .ensures) at (f .fill-part .ensures .0)) (not-false _ (c .before .if1 .left)),
+      c .bytes-of .ensures
+          ∙ bytes-held (a .s .now) (onePart (a .at) (a .n)) (a .octets)
+          (held-one (rowsOf bytes) (a .s .now) (a .at) (a .n)
+          (rw (r .bytes-rows .ensures) at (f .fill-part .ensures .0)))
+          (not-false _ (e .if1 .left)),
       f .fill-part .ensures .1,
     )
 
 pub long-bytes-spec : {M : Type 1} → statement M
 long-bytes-spec = tie.close (tie.spec (λ c κs. search needs) (λ c. search needs) (λ c κs. search needs) returns
-    (λ c. search needs) (λ c. search needs) returns-2 returns-3)
+    (λ c κs. search needs) returns-2)

@@ -1,9 +1,10 @@
 -- By the law on the field alone the short way answers what the rows do; the rest goes the long way.
-use Rattle.prelude.proofs.Basics.{ℕ, _||_, _≡_, refl, sym, ap, _∙_, List, length, take-length, needs, yes}
+use Rattle.prelude.proofs.Basics.{ℕ, _||_, cond, _≡_, sym, ap, _∙_, List, length, take-length, needs, yes}
 use Rattle.prelude.proofs.Basics.{no as without, or-same, or-then}
-use Rattle.args.proofs.Names.{bytes, rowsOf, rowFor, hasRequired, partPadded, bytesOf, bytesIn}
+use Rattle.scalar.specs.declared.argument.Argument.the-variants as Va
+use Rattle.args.proofs.Names.{onePart, partPadded, bytesIn}
 use Rattle.args.specs.private.Pair.{textPadded}
-use Rattle.args.proofs.TextLaws.{text-kept}
+use Rattle.args.proofs.TextLaws.{text-bytes}
 use Rattle.args.proofs.PaddedLaws.{text-part, text-absorbed}
 use Rattle.args.proofs.value.read_bytes.Statement.{statement}
 use Rattle.args.proofs.value.read_bytes.Tie as tie
@@ -22,36 +23,28 @@ told k =
     ∙ or-same (a .padded .now)
     (text-part (a .s .now) (a .at) (a .n) (sym (r .read-text .ensures .0) ∙ k .start .given .1))
 
+-- and so are the bytes
+alone : (k : tie.After-start) →
+    let a = start (k .before .before) .args in
+    cond (a .octets) (Va.Octets (k .start .given .0 .0) (k .start .given .0 .1 .0))
+    (Va.String (k .start .given .0 .0) (k .start .given .0 .1 .0))
+    ≡ bytesIn (a .octets) (a .s .now) (onePart (a .at) (a .n))
+alone k =
+    let a = start (k .before .before) .args in
+    text-bytes (a .s .now) (a .at) (a .n) (k .start .given .1) (k .before .before .read-text .ensures .0) (a .octets)
+
 returns : tie.Need-returns
-unfolding rowsOf rowFor hasRequired
-returns c =
-    let k = c .before .before in
-    let a = start (k .before .before) .args in (
-      yes _ _ (c .if1 .taken)
-          ∙ ap (bytesOf (a .octets))
-          (text-kept (a .s .now) (a .at) (a .n) (k .start .given .1) (k .before .before .read-text .ensures .0)
-          (rowsOf bytes) refl),
-      told k,
-    )
+returns c = let k = c .before .before in (yes _ _ (c .if1 .taken) ∙ alone k, told k)
 
 returns-2 : tie.Need-returns-2
-unfolding rowsOf rowFor hasRequired
-returns-2 c =
-    let k = c .before .before in
-    let a = start (k .before .before) .args in (
-      without _ _ (c .if1 .left)
-          ∙ ap (bytesOf (a .octets))
-          (text-kept (a .s .now) (a .at) (a .n) (k .start .given .1) (k .before .before .read-text .ensures .0)
-          (rowsOf bytes) refl),
-      told k,
-    )
+returns-2 c = let k = c .before .before in (without _ _ (c .if1 .left) ∙ alone k, told k)
 
 returns-3 : tie.Need-returns-3
 returns-3 c =
     let r = c .before .before .before .before .before in
     let a = start r .args in
     let s = a .s .now in (
-      c .long-bytes .ensures .0 ∙ ap (λ (l : List ℕ). bytesIn (a .octets) l (a .at) (a .n)) (take-length s),
+      c .long-bytes .ensures .0 ∙ ap (λ (l : List ℕ). bytesIn (a .octets) l (onePart (a .at) (a .n))) (take-length s),
       or-then (a .padded .now) (textPadded s (a .at) (a .n)) (partPadded s (a .at) (a .n)) (r .read-text .ensures .1)
           (c .long-bytes .ensures .1
           ∙ or-same (r .read-text .last .1 .1 .1 .0)

@@ -1,6 +1,6 @@
 -- `karramotx::inspection::inspect` meets its contract: each part is the frame's. Assumes nothing.
 use Rattle.prelude.proofs.Basics.{Bool, _≡_, ap, _∙_, needs}
-use Rattle.message.specs.Padded.{whereGood}
+use Rattle.message.specs.Padded.{whereRead}
 use Rattle.rules.specs.declared.Look.{Look}
 use Rattle.rules.specs.declared.Touches.{Touches}
 use Rattle.rules.specs.Step.{said, lookSays}
@@ -36,7 +36,7 @@ returns c =
     let says = p .said .ensures ∙ ap (λ y. said (y .reason) (a .padded)) read ∙ where-said (a .frame) (a .padded) in
     together _ _ (look-with (f .0) (d .said2 .ensures) says)
     (ap (λ (b : Bool). messageSays b (m .message-of .result)) says
-    ∙ ap (messageSays (whereGood (a .frame) (a .padded))) read)
+    ∙ ap (messageSays (whereRead (a .frame) (a .padded))) read)
     (f .1)
 
 pub inspect-spec : {M : Type 1} → statement M

@@ -2,7 +2,7 @@
 -- nothing.
 use Rattle.prelude.proofs.Basics.{_∙_, needs}
 use Rattle.keeper.proofs.Names.{sessionOf}
-use Rattle.keeper.proofs.LookLaws.{cut-look, length-look, unknown-look, payload-look, look-any}
+use Rattle.keeper.proofs.LookLaws.{cut-look, length-look, unknown-look, payload-look, twice-look, look-any}
 use Rattle.keeper.proofs.InspectLaws.{as-frame}
 use Rattle.keeper.proofs.inspect.inspect.Statement.{statement}
 use Rattle.keeper.proofs.inspect.inspect.Tie as tie
@@ -42,26 +42,18 @@ returns-5 c =
     let q = c .before .before in
     let a = q .before .before .args in
     let s = sessionOf (a .words .now) in
+    as-frame s (a .frame) (q .enum-told5 .given .1)
+    (c .refused5 .ensures .0 ∙ twice-look s _ _ (c .before .closed-or3 .ensures), c .refused5 .ensures .1)
+
+returns-6 : tie.Need-returns-6
+returns-6 c =
+    let q = c .before .before in
+    let a = q .before .before .args in
+    let s = sessionOf (a .words .now) in
     as-frame s (a .frame) (q .frame .given .1) (c .inspect-at .ensures .0 ∙ look-any s _ _, c .inspect-at .ensures .1)
 
 pub inspect-spec : {M : Type 1} → statement M
-inspect-spec =
-    tie.close
-    (tie.spec
-    (λ c. search needs)
-    (λ c κs. search needs)
-    (λ c. search needs)
-    (λ c κs. search needs)
-    (λ c. search needs)
-    (λ c κs. search needs)
-    (λ c κs. search needs)
-    (λ c. search needs)
-    (λ c κs. search needs)
-    (λ c κs. search needs)
-    (λ c. search needs)
-    (λ c κs. search needs)
-    returns
-    returns-2
-    returns-3
-    returns-4
-    returns-5)
+inspect-spec = tie.close (tie.spec (λ c. search needs) (λ c κs. search needs) (λ c. search needs) (λ c κs. search needs)
+    (λ c. search needs) (λ c κs. search needs) (λ c κs. search needs) (λ c. search needs) (λ c κs. search needs)
+    (λ c κs. search needs) (λ c. search needs) (λ c κs. search needs) (λ c κs. search needs) (λ c. search needs)
+    (λ c κs. search needs) returns returns-2 returns-3 returns-4 returns-5 returns-6)

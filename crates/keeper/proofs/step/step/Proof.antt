@@ -4,12 +4,12 @@ use Rattle.prelude.proofs.Basics.{ℕ, _≡_, refl, List, needs}
 use Rattle.keeper.proofs.Names.{frameOf, paddedOf, Frame, Session, sessionOf, stepOf, stepOn, Answer}
 use Rattle.keeper.specs.private.Does.{Does}
 use Rattle.keeper.proofs.FrameLaws.{short-step, cut-step, length-step, unknown-refuses, payload-refuses}
-use Rattle.keeper.proofs.FrameLaws.{readable, sym-answer, Clauses, clauses}
+use Rattle.keeper.proofs.FrameLaws.{twice-refuses, readable, sym-answer, Clauses, clauses}
 use Rattle.keeper.proofs.PaddedLaws.{Mute, does-told, does-unread}
 use Rattle.keeper.proofs.step.step.Statement.{statement}
 use Rattle.keeper.proofs.step.step.Tie as tie
 
--- there is room, where the frame was read; one that holds no request says nothing of padding
+-- there is room, where the frame was read; one that is not read to its end says nothing of padding
 abbrev start : tie.After-read-frame → tie.Start
 start f = f .before .before .before .before .before
 
@@ -59,12 +59,24 @@ returns-5 c =
 returns-6 : tie.Need-returns-6
 returns-6 c =
     let d = c .before .before .before in
+    let k = d .before .before in
+    let f = k .before .before .before .before .before in
+    let a = start f .args in
+    clauses (does-told (sessionOf (a .words .now)) (a .frame .now) (a .report) (a .reply .now)
+    (f .read-frame .ensures .0) _ (k .before .before .before .used3 .given .1) (λ _ _ h. h) (f .read-frame .ensures .1)
+    (twice-refuses (sessionOf (a .words .now)) _ (a .report) (a .reply .now) (f .before .before .if1 .left) _
+    (k .closed-or3 .ensures) (d .refuse3 .ensures))
+    (c .said .ensures))
+
+returns-7 : tie.Need-returns-7
+returns-7 c =
+    let d = c .before .before .before in
     let u = d .before .before .before .before in
     let f = u .before .before in
     let a = start f .args in
     clauses (does-told (sessionOf (a .words .now)) (a .frame .now) (a .report) (a .reply .now)
-    (f .read-frame .ensures .0) _ (u .used3 .given .1) (f .read-frame .ensures .1) (d .step-on .ensures)
-    (c .said .ensures))
+    (f .read-frame .ensures .0) _ (u .used4 .given .1) (λ _ _ h. h) (f .read-frame .ensures .1) (d .step-on .ensures)
+    (c .said2 .ensures))
 
 pub step-spec : {M : Type 1} → statement M
 step-spec = tie.close (tie.spec (λ c κs. search needs)
@@ -73,8 +85,9 @@ step-spec = tie.close (tie.spec (λ c κs. search needs)
     (paddedOf (a .frame .now)) (c .before .if1 .taken)))) (λ c κs. search needs) (λ c. search needs)
     (λ c κs. search needs) (λ c. search needs)
     (λ c κs. search needs) (λ c. search needs) (λ c κs. search needs) (λ c κs. search needs) (λ c. search needs)
-    (λ c κs. search needs) (λ c κs. search needs) (λ c. search needs)
+    (λ c κs. search needs) (λ c κs. search needs) (λ c. search needs) (λ c κs. search needs) (λ c κs. search needs)
+    (λ c κs. search needs) (λ c. search needs)
     (λ c κs. let u = c .before .before .before in let f = u .before .before in readable (start f .args .frame .now)
-    (start f .args .reply .now) (f .read-frame .ensures .0) (u .used3 .given .1) (f .before .before .if1 .left))
+    (start f .args .reply .now) (f .read-frame .ensures .0) (u .used4 .given .1) (f .before .before .if1 .left))
     (λ c κs. search needs) returns-2 returns-3 (λ c. search needs) returns-4 (λ c. search needs) returns-5
-    (λ c. search needs) returns-6)
+    (λ c. search needs) returns-6 (λ c. search needs) returns-7)

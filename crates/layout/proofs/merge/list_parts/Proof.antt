@@ -37,21 +37,21 @@ module _ (f : tie.After-start Inv-loop μ-loop) where
       (back .next-part .ensures)
 
 -- where a part was listed
-abbrev told-of : tie.After-list-fields Inv-loop μ-loop → tie.After-start Inv-loop μ-loop
+abbrev told-of : tie.After-long-list Inv-loop μ-loop → tie.After-start Inv-loop μ-loop
 told-of t = t .before .before .before .before .before .before .before
 
-abbrev begin : tie.After-list-fields Inv-loop μ-loop → tie.Start Inv-loop μ-loop
+abbrev begin : tie.After-long-list Inv-loop μ-loop → tie.Start Inv-loop μ-loop
 begin t = start (back (told-of t))
 
 -- its fields, behind what the arrays held
-listed : (t : tie.After-list-fields Inv-loop μ-loop) (b : Bool) → t .list-fields .result ≡ b →
+listed : (t : tie.After-long-list Inv-loop μ-loop) (b : Bool) → t .long-list .result ≡ b →
     Adds (partOnto (begin t .args .rows .now) (begin t .args .s .now) (part (told-of t)))
     (loop (back (told-of t)) .loop .times) (loop (back (told-of t)) .loop .values)
-    (loop (back (told-of t)) .loop .starts) b (t .list-fields .last .1 .1 .1 .0)
-    (t .list-fields .last .1 .1 .1 .1 .0) (t .list-fields .last .1 .1 .1 .1 .1 .0)
+    (loop (back (told-of t)) .loop .starts) b (t .long-list .last .1 .1 .1 .0)
+    (t .long-list .last .1 .1 .1 .1 .0) (t .long-list .last .1 .1 .1 .1 .1 .0)
 listed t b e =
     own-adds (begin t .args .rows .now) (begin t .args .s .now) (part (told-of t)) (found (told-of t) .inside)
-    (rw e at (t .list-fields .ensures .0))
+    (rw e at (t .long-list .ensures .0))
 
 returns : tie.Need-returns Inv-loop μ-loop
 returns c =
@@ -79,7 +79,7 @@ again c =
     let t = c .before in
     let f = told-of t in
     passes (loop (back f) .loop .inv) (found f) (listed t true (not-false _ (c .if1 .left)))
-    (t .list-fields .ensures .1
+    (t .long-list .ensures .1
     ∙ or-same (loop (back f) .loop .padded) (own-flag (begin t .args .s .now) (part f) (found f .inside)))
 
 pub list-parts-spec : {M : Type 1} → statement M

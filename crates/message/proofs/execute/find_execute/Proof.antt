@@ -1,18 +1,17 @@
 -- Two short fields are read by their bytes alone, to the slots that the rows give; anything else goes the long way.
-use Rattle.prelude.proofs.Basics.{ℕ, arith, true, _≡_, refl, sym, ap, subst, _∙_, List, length, take-length, needs}
+use Rattle.prelude.proofs.Basics.{ℕ, arith, _≡_, sym, ap, subst, _∙_, List, length, take-length, needs, not-false}
 use Rattle.prelude.proofs.Basics.{or-same}
-use Rattle.message.proofs.Names.{openStmt, rowsOf, rowFor, hasRequired, embedded, Slots, executePadded}
-use Rattle.message.proofs.Names.{pair-bytes, Held, named-fits, held-short, pair-part, openInside}
-use Rattle.message.proofs.Names.{openExecutePadded, Inner, Optional}
-use Rattle.message.specs.Execute.{openChosen}
-use Rattle.message.specs.private.Parts.{ofInner, Runs}
+use Rattle.message.proofs.Names.{onePart, Part, Held, named-fits, held-short, pair-part, one-flag, openParts}
+use Rattle.message.proofs.Names.{Inner}
+use Rattle.message.specs.private.Parts.{Runs}
 use Rattle.message.specs.private.Marks.{TellsInner}
-use Rattle.message.proofs.PaddedLaws.{inner-again, inner-flag}
+use Rattle.message.proofs.PaddedLaws.{inner-again}
+use Rattle.message.proofs.PairedLaws.{open-paired, open-good, execute-one}
 use Rattle.message.proofs.execute.find_execute.Statement.{statement}
 use Rattle.message.proofs.execute.find_execute.Tie as tie
 
 abbrev start : tie.After-read-pair → tie.Start
-start r = r .before .before .before
+start r = r .before .before .before .before
 
 -- where a pair is read, the bytes hold it
 held : (f : tie.After-first) →
@@ -21,75 +20,60 @@ held : (f : tie.After-first) →
     (f .first .given .0 .1 .1 .1 .0)
 held f = record { is = sym (f .before .before .read-pair .ensures .0) ∙ f .first .given .1 }
 
--- the slots that the rows give
-abbrev slots : tie.Then1 → Slots
-slots c = let a = start (c .before .before .before .before) .args in
-    embedded (rowsOf openStmt) (a .s .now) (a .at) (a .n)
-
-module _ (c : tie.Then1) where
-  abbrev f : tie.After-first
-  f = c .before .before
-
-  abbrev r : tie.After-read-pair
-  r = f .before .before
-
-  answer : (id : ℕ) (rows : Optional) →
-      ofInner (start r .args .s .now) id rows (Inner.At (f .first .given .0 .1 .1 .1 .0) (f .first .given .0 .1 .1 .0))
-      ≡ openInside (start r .args .s .now) id rows (start r .args .at) (start r .args .n)
-  unfolding rowsOf rowFor hasRequired
-  answer id rows =
-      let a = start r .args in
-      ap (openChosen (a .s .now) id rows)
-      (pair-bytes (a .s .now) (a .at) (a .n) (f .first .given .1) (r .read-pair .ensures .0) (rowsOf openStmt) 0 18
-      (c .if1 .taken) (omega arith) refl refl refl)
-
-  good : slots c .good ≡ true
-  unfolding rowsOf rowFor hasRequired
-  good =
-      let a = start r .args in
-      sym (ap (λ (x : Slots). x .good)
-      (pair-bytes (a .s .now) (a .at) (a .n) (f .first .given .1) (r .read-pair .ensures .0) (rowsOf openStmt) 0 18
-      (c .if1 .taken) (omega arith) refl refl refl))
-
-  run : executePadded (start r .args .s .now) (f .first .given .0 .1 .1 .1 .0) (f .first .given .0 .1 .1 .0)
-      ≡ openExecutePadded (start r .args .s .now) (slots c)
-  unfolding rowsOf rowFor hasRequired
-  run =
-      let a = start r .args in
-      ap (openExecutePadded (a .s .now))
-      (pair-bytes (a .s .now) (a .at) (a .n) (f .first .given .1) (r .read-pair .ensures .0) (rowsOf openStmt) 0 18
-      (c .if1 .taken) (omega arith) refl refl refl)
+-- the statement is whole, and stands here
+whole : (r : tie.After-read-pair) →
+    let a = start r .args in
+    openParts (a .s .now) ≡ onePart (a .at) (a .n)
+whole r = start r .pre (not-false _ (r .before .before .if1 .left))
 
 returns : tie.Need-returns
 returns c =
-    let a = start (r c) .args in (
-      answer c,
-      (
-        inner-flag (a .s .now) (a .at) (a .n) (a .padded .now)
-            (r c .read-pair .ensures .1
-            ∙ or-same (a .padded .now)
-            (pair-part (held (f c)) (omega (arith, held-short (held (f c)), c .if1 .taken))))
-            (run c),
-        good c,
-      ),
-    )
+    let a = c .before .before .before .before .before .args in
+    let all = take-length (a .s .now) in
+    (rw all at (c .parted-inner .ensures .0), rw all at (c .parted-inner .ensures .1))
 
 returns-2 : tie.Need-returns-2
 returns-2 c =
+    let f = c .before .before in
+    let r = f .before .before in
+    let a = start r .args in
+    let s = a .s .now in
+    let g = f .first .given .0 in
+    let found = Inner.At (g .1 .1 .1 .0) (g .1 .1 .0) in
+    let flag = r .read-pair .last .1 .1 .1 .0 in (
+      subst (λ (ps : List Part). Runs s ps found) (sym (whole r)) (open-paired (held f) (c .if2 .taken)),
+      subst (λ (ps : List Part). TellsInner s ps found (a .padded .now) flag) (sym (whole r)) (
+        (
+          r .read-pair .ensures .1
+              ∙ or-same (a .padded .now)
+              (pair-part (held f) (omega (arith, held-short (held f), c .if2 .taken)) ∙ one-flag s (a .at) (a .n)),
+          open-good (held f) (c .if2 .taken),
+        ),
+        execute-one (held f) (c .if2 .taken),
+      ),
+    )
+
+returns-3 : tie.Need-returns-3
+returns-3 c =
     let r = c .before .before .before .before in
     let a = start r .args in
-    let whole = take-length (a .s .now) in
+    let s = a .s .now in
+    let all = take-length s in
+    let answer = c .long-inner .result in
     let mid = r .read-pair .last .1 .1 .1 .0 in
     let flag = c .long-inner .last .1 .1 .1 .0 in (
-      subst (λ (l : List ℕ). Runs l (a .at) (a .n) (c .long-inner .result)) whole (c .long-inner .ensures .0),
-      inner-again (a .s .now) (a .at) (a .n) (c .long-inner .result) (a .padded .now) mid flag
-          (r .read-pair .ensures .1)
-          (subst (λ (l : List ℕ). TellsInner l (a .at) (a .n) (c .long-inner .result) mid flag) whole
-          (c .long-inner .ensures .1)),
+      subst (λ (ps : List Part). Runs s ps answer) (sym (whole r))
+          (subst (λ (l : List ℕ). Runs l (onePart (a .at) (a .n)) answer) all (c .long-inner .ensures .0)),
+      subst (λ (ps : List Part). TellsInner s ps answer (a .padded .now) flag) (sym (whole r))
+          (inner-again s (a .at) (a .n) answer (a .padded .now) mid flag (r .read-pair .ensures .1)
+          (subst (λ (l : List ℕ). TellsInner l (onePart (a .at) (a .n)) answer mid flag) all
+          (c .long-inner .ensures .1))),
     )
 
 pub find-execute-spec : {M : Type 1} → statement M
-find-execute-spec = tie.close (tie.spec (λ c κs. search needs) (λ c. search needs)
-    (λ c. omega (arith, named-fits (held (c .before)))) (λ c. omega (arith, named-fits (held (c .before)))) returns
+find-execute-spec = tie.close (tie.spec
+    (λ c. sym (ap length (take-length (c .before .before .before .args .s .now)))) (λ c κs. search needs) returns
+    (λ c κs. search needs) (λ c. search needs)
+    (λ c. omega (arith, named-fits (held (c .before)))) (λ c. omega (arith, named-fits (held (c .before)))) returns-2
     (λ c. search needs) (λ c. sym (ap length (take-length (start (c .before .before) .args .s .now))))
-    (λ c κs. search needs) returns-2)
+    (λ c κs. search needs) returns-3)

@@ -4,7 +4,6 @@ use Rattle.message.specs.private.Outer.{Says}
 use Rattle.message.specs.private.Marks.{TellsOuter}
 use Rattle.message.specs.declared.outer.Outer.{Outer}
 use Rattle.message.proofs.OuterLaws.{open-paired}
-use Rattle.message.proofs.PaddedLaws.{outer-flag}
 use Rattle.message.proofs.execute.find_opening.Statement.{statement}
 use Rattle.message.proofs.execute.find_opening.Tie as tie
 
@@ -17,10 +16,9 @@ returns c =
     let o = i .before .before in
     let s = start o .args .s .now in
     let opens = subst (Says s) (i .id .given .1) (o .read-outer .ensures .0) in (
-      open-paired s opens,
-      outer-flag s opens
-          (subst (λ (r : Outer). TellsOuter s r false (o .read-outer .last .1 .0)) (i .id .given .1)
-          (o .read-outer .ensures .1)),
+      (open-paired s (opens .0), λ _. opens .1),
+      subst (λ (r : Outer). TellsOuter s r false (o .read-outer .last .1 .0)) (i .id .given .1)
+          (o .read-outer .ensures .1),
     )
 
 pub find-opening-spec : {M : Type 1} → statement M

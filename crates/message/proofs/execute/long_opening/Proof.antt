@@ -1,8 +1,7 @@
 -- The arrays hold the message's fields; the statement stands in field 4.
 use Rattle.prelude.proofs.Basics.{Bool, _||_, ap, _∙_, needs, not-false, not-true}
 use Rattle.message.proofs.Names.{ownPadded}
-use Rattle.message.proofs.ArrayLaws.{open-refused, open-whole}
-use Rattle.message.proofs.PaddedLaws.{opening-held}
+use Rattle.message.proofs.ArrayLaws.{open-refused, open-whole, open-once}
 use Rattle.message.proofs.execute.long_opening.Statement.{statement}
 use Rattle.message.proofs.execute.long_opening.Tie as tie
 
@@ -22,11 +21,13 @@ returns-2 c =
     let f = c .before in
     let st = rows f .before .before in
     let s = st .args .s .now in
+    let good = not-false _ (c .if1 .left) in
     let held = rw (rows f .open-rows .ensures) at (f .fill-payload .ensures .0) in (
-      open-whole s held (not-false _ (c .if1 .left)),
-      opening-held s held (f .fill-payload .ensures .1 ∙ ap (λ (b : Bool). b || ownPadded s) (st .pre)),
+      (open-whole s held good, open-once s held good),
+      f .fill-payload .ensures .1 ∙ ap (λ (b : Bool). b || ownPadded s) (st .pre),
     )
 
 pub long-opening-spec : {M : Type 1} → statement M
 long-opening-spec = tie.close (tie.spec (λ c κs. search needs) (λ c. search needs) (λ c κs. search needs) returns
-    (λ c. search needs) (λ c. search needs) (λ c. search needs) (λ c. search needs) (λ c. search needs) returns-2)
+    (λ c. search needs) (λ c. search needs) (λ c. search needs) (λ c. search needs) (λ c. search needs)
+    (λ c. search needs) returns-2)

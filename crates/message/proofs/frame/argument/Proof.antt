@@ -17,8 +17,8 @@ slice-aggregate-nth-argument c =
     (length-take-le (a .result .end) s
     (omega (arith, ap (λ (y : Arguments). y .end) (a .ensures), w .0, w .1 .args)))
 
-returns-5 : tie.Need-returns-5
-returns-5 c =
+returns-6 : tie.Need-returns-6
+returns-6 c =
     let a = c .before .before .before .before .before .before .before .before .before .args in
     c .nth-argument .ensures
     ∙ ap (argumentAt (a .s .now) (a .index)) (c .before .before .args-of .ensures)
@@ -28,7 +28,8 @@ returns-5 c =
 
 pub argument-spec : {M : Type 1} → statement M
 argument-spec = tie.close (tie.spec (λ c κs. search needs) (λ c. search needs) (λ c. search needs) (λ c. search needs)
-    (λ c. search needs) (λ c. search needs) (λ c κs. search needs) slice-aggregate-nth-argument (λ c κs. search needs)
+    (λ c. search needs) (λ c. search needs) (λ c. search needs) (λ c κs. search needs) slice-aggregate-nth-argument
+    (λ c κs. search needs)
     (λ c. let a = c .before .before .before .before .before .args in ap (argumentIn (a .s .now) (a .index))
     (sym (c .enum-told .given .1) ∙ c .before .before .read-frame .ensures .0))
     (λ c. let a = c .before .before .before .before .before .args in ap (argumentIn (a .s .now) (a .index))
@@ -36,4 +37,6 @@ argument-spec = tie.close (tie.spec (λ c κs. search needs) (λ c. search needs
     (λ c. let a = c .before .before .before .before .before .args in ap (argumentIn (a .s .now) (a .index))
     (sym (c .enum-told3 .given .1) ∙ c .before .before .read-frame .ensures .0))
     (λ c. let a = c .before .before .before .before .before .args in ap (argumentIn (a .s .now) (a .index))
-    (sym (c .enum-told4 .given .1) ∙ c .before .before .read-frame .ensures .0)) returns-5)
+    (sym (c .enum-told4 .given .1) ∙ c .before .before .read-frame .ensures .0))
+    (λ c. let a = c .before .before .before .before .before .args in ap (argumentIn (a .s .now) (a .index))
+    (sym (c .enum-told5 .given .1) ∙ c .before .before .read-frame .ensures .0)) returns-6)

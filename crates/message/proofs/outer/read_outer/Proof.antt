@@ -3,7 +3,7 @@ use Rattle.prelude.proofs.Basics.{ℕ, arith, sym, ap, subst, _∙_, List, leng
 use Rattle.message.proofs.Names.{First}
 use Rattle.message.specs.private.First.{Begins, Starts}
 use Rattle.message.specs.private.Marks.{TellsFirst}
-use Rattle.message.proofs.OuterLaws.{opens-two, opens-three}
+use Rattle.message.proofs.OuterLaws.{opens-two, opens-three, parts-two, parts-three}
 use Rattle.message.proofs.PaddedLaws.{outer-two, outer-three}
 use Rattle.message.proofs.outer.read_outer.Statement.{statement}
 use Rattle.message.proofs.outer.read_outer.Tie as tie
@@ -32,7 +32,8 @@ returns-3 c =
     let i = v .before .before .before in
     let a = start (i .before .before) .args in
     let stmt = sym (v .length-value .ensures .0) ∙ k .start .given .1 in (
-      rw (c .fields .ensures) (opens-two (begun i) stmt (c .before .if1 .taken)),
+      rw (c .fields .ensures)
+          (opens-two (begun i) stmt (c .before .if1 .taken), parts-two (begun i) stmt (c .before .if1 .taken)),
       rw (c .fields .ensures)
           (outer-two (begun i) stmt (a .padded .now) (begun-flag i) (v .length-value .ensures .1)
           (c .before .if1 .taken)),
@@ -55,8 +56,10 @@ returns-7 c =
     let s = bytes two in
     let stmt = sym (v .length-value .ensures .0) ∙ k .start .given .1 in
     let rows = sym (rw (take-length s) at (r .read-varint .ensures .0)) ∙ n .rows .given .1 in (
-      rw (c .fields2 .ensures)
-          (opens-three (begun i) stmt (more .if1 .left) (two .if2 .left) rows (omega (arith, c .before .if3 .left))),
+      rw (c .fields2 .ensures) (
+        opens-three (begun i) stmt (more .if1 .left) (two .if2 .left) rows (omega (arith, c .before .if3 .left)),
+        parts-three (begun i) stmt (more .if1 .left) (two .if2 .left) rows (omega (arith, c .before .if3 .left)),
+      ),
       rw (c .fields2 .ensures)
           (outer-three (begun i) stmt (a .padded .now) (begun-flag i) (v .length-value .ensures .1) (more .if1 .left)
           (two .if2 .left) rows (omega (arith, c .before .if3 .left))

@@ -1,9 +1,9 @@
 -- Two fields are read by their bytes alone, to the slots that the rows give; anything else goes the long way.
-use Rattle.prelude.proofs.Basics.{arith, false, sym, ap, subst, _∙_, length, take-length, needs}
+use Rattle.prelude.proofs.Basics.{_≤_, arith, false, sym, ap, subst, _∙_, length, take-length, needs}
 use Rattle.message.proofs.Names.{First}
 use Rattle.message.specs.private.First.{Begins}
 use Rattle.message.specs.private.Marks.{TellsFirst}
-use Rattle.message.proofs.FirstLaws.{prepare-found}
+use Rattle.message.proofs.FirstLaws.{prepare-found, stmt-found}
 use Rattle.message.proofs.PaddedLaws.{prepare-flag}
 use Rattle.message.proofs.prepare.find_stmt.Statement.{statement}
 use Rattle.message.proofs.prepare.find_stmt.Tie as tie
@@ -19,9 +19,10 @@ returns c =
     let f = i .before .before in
     let s = start f .args .s .now in
     let begins = subst (Begins s 18) (i .id .given .1) (f .read-first .ensures .0) in
-    let stmt = sym (v .length-value .ensures .0) ∙ k .start .given .1 in (
-      prepare-found (omega (arith, c .if1 .taken)) begins stmt,
-      prepare-flag (omega (arith, c .if1 .taken)) begins stmt
+    let stmt = sym (v .length-value .ensures .0) ∙ k .start .given .1 in
+    let past : length s ≤ k .start .given .0 .1 .1 .1 .0 = omega (arith, c .if1 .taken) in (
+      (prepare-found past begins stmt, λ _. stmt-found past begins stmt),
+      prepare-flag past begins stmt
           (subst (λ (r : First). TellsFirst s r false (f .read-first .last .1 .1 .0)) (i .id .given .1)
           (f .read-first .ensures .1)) (v .length-value .ensures .1),
     )
