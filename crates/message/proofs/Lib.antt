@@ -4,6 +4,7 @@ pub mod MessageLaws
 pub mod WithinLaws
 pub mod ArrayLaws
 pub mod UsedLaws
+pub mod TwiceWhenLaws
 pub mod FirstLaws
 pub mod BoundLaws
 pub mod BehindLaws

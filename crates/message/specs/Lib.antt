@@ -11,4 +11,5 @@ pub mod PaddedSamples
 pub mod WithinRules
 pub mod UnreadRules
 pub mod TwiceRules
+pub mod TwiceSamples
 pub mod private
