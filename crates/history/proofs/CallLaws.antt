@@ -1,14 +1,18 @@
 -- Calls that are related by the contract are a run, so that what holds of runs holds of them. Assumes nothing.
 use Rattle.prelude.proofs.Basics.{ℕ, _≡_, refl, sym, ap, subst, _∙_, List, [], _∷_, take}
 use Rattle.session.specs.Session.{Session}
-use Rattle.session.specs.Tables.{fresh}
+use Rattle.session.specs.Sound.{Sound}
 use Rattle.session.specs.Words.{sessionOf}
+use Rattle.session.proofs.TableLaws.{fresh-sound}
 use Rattle.rules.specs.declared.Answer.{Answer}
 use Rattle.rules.specs.Step.{Step, stepOf}
+use Rattle.history.specs.Start.{startOf}
 use Rattle.history.specs.Run.{Input, run, leaves, Told, told}
 use Rattle.history.specs.History.{Kept}
-use Rattle.history.specs.Calls.{Call, Contract, Called, wordsAfter, toldBy, Demand3Exported}
-use Rattle.history.proofs.HistoryLaws.{demand-3}
+use Rattle.history.specs.Calls.{Call, Contract, Called, wordsAfter, toldBy, stateAfter, Demand3ExportedFrom}
+use Rattle.history.specs.Calls.{Demand3Exported}
+use Rattle.history.proofs.StartLaws.{starts-empty}
+use Rattle.history.proofs.HistoryLaws.{demand-3-from}
 
 abbrev input : Call → Input
 input c = record { frame = c .frame; report = c .report; buffer = c .buffer }
@@ -43,9 +47,15 @@ runs words (c ∷ cs) s e h =
           ∙ ap (λ ys. toldAs c (ran s c .answer) (ran s c .buffer) ∷ ys) (more .same);
     }
 
+pub demand-3-exported-from : Demand3ExportedFrom
+demand-3-exported-from words sound calls h =
+    let s = sessionOf words in
+    let r = runs words calls s refl h in
+    subst (λ y. Kept (record { start = startOf s; session = y; told = toldBy calls })) (sym (r .last))
+    (subst (λ t. Kept (record { start = startOf s; session = leaves s (run s (inputs calls)); told = t }))
+    (sym (r .same)) (demand-3-from s sound (inputs calls)))
+
 pub demand-3-exported : Demand3Exported
 demand-3-exported words e calls h =
-    let r = runs words calls fresh e h in
-    subst (λ y. Kept (record { session = y; told = toldBy calls })) (sym (r .last))
-    (subst (λ t. Kept (record { session = leaves fresh (run fresh (inputs calls)); told = t })) (sym (r .same))
-    (demand-3 (inputs calls)))
+    subst (λ t. Kept (stateAfter t words calls)) (ap startOf e ∙ starts-empty)
+    (demand-3-exported-from words (subst Sound (sym e) fresh-sound) calls h)

@@ -20,10 +20,10 @@ use Rattle.session.specs.declared.Place.{Place}
 use Rattle.session.specs.Session.{Session}
 use Rattle.session.specs.Lists.{sumBy, howMany, All, change, changed, entryAt}
 use Rattle.session.specs.Entry.{noCursor, newCursor, isLiveCursor, isCursor, raise}
-use Rattle.session.specs.Tables.{maxCursors, fresh, cursorAt, cursorPlace, liveCursor, ends}
+use Rattle.session.specs.Tables.{fresh, cursorAt, cursorPlace, liveCursor, ends}
 use Rattle.session.specs.Sound.{Sound}
 use Rattle.session.proofs.PlaceLaws.{Passes, found}
-use Rattle.session.proofs.SumLaws.{one, sum-same, sum-map, sum-replicate, counted}
+use Rattle.session.proofs.SumLaws.{one, sum-same, sum-map, counted}
 use Rattle.session.proofs.TableLaws.{fresh-sound, fetched-as}
 use Rattle.encode.specs.Put.{written}
 use Rattle.reply.specs.declared.Reply.{Reply}
@@ -46,25 +46,19 @@ use Rattle.rules.proofs.ReadLaws.{frames-are-read}
 use Rattle.rules.proofs.RefusalLaws.{Looked, Took}
 use Rattle.rules.proofs.StepLaws.{refusedStep, step-has, reply-front}
 use Rattle.rules.proofs.SoundLaws.{after-sound}
-use Rattle.history.specs.Tally.{Segment, Opening, Tally, empty, sent, kept, endings, isOf, longer, adds, fedOn}
-use Rattle.history.specs.Tally.{fed}
+use Rattle.history.specs.Tally.{Segment, Opening, Tally, sent, kept, endings, isOf, longer, adds, fedOn, fed}
+use Rattle.history.specs.Start.{startOf}
 use Rattle.history.specs.Run.{Input, run, leaves, toldBy, told, fedBy, tallied}
-use Rattle.history.specs.History.{tallyOf, reached, Proper, allSent, TellsDone, TellDone, Demand3, ReachesSound}
+use Rattle.history.specs.History.{tallyOf, stateBy, reachedFrom, Proper, allSent, TellsDone, TellDone, Kept}
+use Rattle.history.specs.History.{Demand3From, Demand3, SoundFrom, ReachesSound}
 use Rattle.history.proofs.ListLaws.{sum-kept, sum-all, sum-only, all-kept, kept-pass, all-append, all-map}
 use Rattle.history.proofs.ListLaws.{all-imp, all-both, all-zero}
 use Rattle.history.proofs.OpeningLaws.{sent-longer, goes-on, begins, sent-or-not}
 use Rattle.history.proofs.TableLaws.{Weight, weigh, table, off, plus, unless-own, ends-weigh, open-weigh}
-use Rattle.history.proofs.TableLaws.{fetch-weigh}
+use Rattle.history.proofs.TableLaws.{fetch-weigh, asCursor, openings}
+use Rattle.history.proofs.StartLaws.{starts-empty, start-weighs, start-proper}
 
 -- ---- the invariant
-
--- an opening as the cursor that it is in the table
-abbrev asCursor : Opening → Cursor
-asCursor o = newCursor (o .cursor) (o .stmt) (o .first + o .rows) (o .first + sent o)
-
--- what the openings weigh
-abbrev openings : Weight → List Opening → ℕ
-openings w os = sumBy (λ o. w (asCursor o)) os
 
 record Inv (s : Session) (t : Tally) : Type 0 where
   sound : Sound s
@@ -73,13 +67,13 @@ record Inv (s : Session) (t : Tally) : Type 0 where
   ended : All Proper (t .ended)
   none : t .strays ≡ 0
 
-starts : Inv fresh empty
-unfolding All sumBy
-starts =
+starts : (s : Session) → Sound s → Inv s (startOf s)
+unfolding All
+starts s h =
     record {
-      sound = fresh-sound;
-      same = λ w. sym (sum-replicate (weigh w) maxCursors noCursor refl);
-      live = tt;
+      sound = h;
+      same = start-weighs s h;
+      live = start-proper s h;
       ended = tt;
       none = refl;
     }
@@ -536,18 +530,19 @@ run-tells [] s t h = tt
 run-tells (i ∷ is) s t h =
     (goes-tells i s t h, run-tells is (stepped s i .session) (fedBy (toldBy i (stepped s i)) t) (goes-fed i s t h))
 
-holds : (steps : List Input) → Inv (reached steps .session) (tallyOf (reached steps))
-holds steps = run-keeps steps fresh empty starts
+holds : (s : Session) → Sound s → (steps : List Input) → Inv (reachedFrom s steps .session)
+    (tallyOf (reachedFrom s steps))
+holds s sound steps = run-keeps steps s (startOf s) (starts s sound)
 
-pub demand-3 : Demand3
-demand-3 steps =
-    let h = holds steps in
-    let t = tallyOf (reached steps) in
+pub demand-3-from : Demand3From
+demand-3-from s sound steps =
+    let h = holds s sound steps in
+    let t = tallyOf (reachedFrom s steps) in
     record {
       live = h .live;
       ended = h .ended;
       ofOne = h .none;
-      tells = run-tells steps fresh empty starts;
+      tells = run-tells steps s (startOf s) (starts s sound);
       total =
           omega (
             arith,
@@ -558,5 +553,11 @@ demand-3 steps =
           );
     }
 
+pub demand-3 : Demand3
+demand-3 steps = subst (λ t. Kept (stateBy t fresh steps)) starts-empty (demand-3-from fresh fresh-sound steps)
+
+pub sound-from : SoundFrom
+sound-from s sound steps = holds s sound steps .sound
+
 pub reaches-sound : ReachesSound
-reaches-sound steps = holds steps .sound
+reaches-sound steps = sound-from fresh fresh-sound steps

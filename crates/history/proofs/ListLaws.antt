@@ -48,7 +48,8 @@ module _ {A : Type 0} where
   all-append P [] ys h g = g
   all-append P (x ∷ xs) ys h g = (h .0, all-append P xs ys (h .1) g)
 
-  pub all-map : (P Q : A → Type 0) (f : A → A) → ((x : A) → P x → Q (f x)) → (xs : List A) → All P xs → All Q (map f xs)
+  pub all-map : {B : Type 0} (P : A → Type 0) (Q : B → Type 0) (f : A → B) → ((x : A) → P x → Q (f x)) →
+      (xs : List A) → All P xs → All Q (map f xs)
   unfolding All
   all-map P Q f h [] l = tt
   all-map P Q f h (x ∷ xs) l = (h x (l .0), all-map P Q f h xs (l .1))

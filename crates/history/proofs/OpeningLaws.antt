@@ -1,9 +1,9 @@
 -- An opening goes on properly. Assumes nothing.
-use Rattle.prelude.proofs.Basics.{ℕ, zero, suc, _+_, _≤_, arith, _≡_, refl, sym, ap, _∙_, List, [], _∷_, _++_}
+use Rattle.prelude.proofs.Basics.{ℕ, zero, suc, _+_, _≤_, _<_, arith, _≡_, refl, sym, ap, _∙_, List, [], _∷_, _++_}
 use Rattle.prelude.proofs.Basics.{append-nil, append-assoc}
 use Rattle.session.specs.Lists.{All, sumBy}
 use Rattle.history.specs.Tally.{Segment, Opening, sent, unsent, longer}
-use Rattle.history.specs.History.{numbers, rowNumbers, Proper}
+use Rattle.history.specs.History.{numbers, rowNumbers, Proper, NumbersWithin}
 use Rattle.history.proofs.ListLaws.{sum-append}
 
 -- numbers from n on, then from where they end on
@@ -45,22 +45,35 @@ goes-on g o h f w =
       within = omega (arith, sent-longer g o);
     }
 
-abbrev unopened : ℕ → ℕ → ℕ → Opening
-unopened cursor stmt rows = record { cursor = cursor; stmt = stmt; first = 0; rows = rows; segments = [] }
+abbrev unopened : ℕ → ℕ → ℕ → ℕ → Opening
+unopened cursor stmt first rows = record { cursor = cursor; stmt = stmt; first = first; rows = rows; segments = [] }
 
-nothing-sent : (cursor stmt rows : ℕ) → Proper (unopened cursor stmt rows)
+pub nothing-sent : (cursor stmt first rows : ℕ) → Proper (unopened cursor stmt first rows)
 unfolding rowNumbers numbers sumBy
-nothing-sent cursor stmt rows = record { numbered = refl; within = omega arith }
+nothing-sent cursor stmt first rows = record { numbered = refl; within = omega arith }
 
 -- the rows of an Open start at 0
 pub begins : (cursor stmt rows : ℕ) (g : Segment) → g .first ≡ 0 → g .count ≤ rows →
-    Proper (longer g (unopened cursor stmt rows))
+    Proper (longer g (unopened cursor stmt 0 rows))
 unfolding sumBy
 begins cursor stmt rows g f w =
-    goes-on g (unopened cursor stmt rows) (nothing-sent cursor stmt rows) (f ∙ start) (omega arith)
+    goes-on g (unopened cursor stmt 0 rows) (nothing-sent cursor stmt 0 rows) (f ∙ start) (omega arith)
   where
-    start : 0 ≡ 0 + sent (unopened cursor stmt rows)
+    start : 0 ≡ 0 + sent (unopened cursor stmt 0 rows)
     start = omega arith
+
+-- numbers from n on, as many as there are up to an end
+numbers-within : (least end n count : ℕ) → least ≤ n → n + count ≤ end →
+    All (λ k. (least ≤ k) × (k < end)) (numbers n count)
+unfolding All numbers
+numbers-within least end n zero h g = tt
+numbers-within least end n (suc count) h g =
+    ((h, omega arith), numbers-within least end (suc n) count (omega arith) (omega arith))
+
+pub numbers-proper : NumbersWithin
+numbers-proper o h =
+    rw (h .numbered) (numbers-within (o .first) (o .first + o .rows) (o .first) (sent o) (omega arith)
+    (omega (arith, h .within)))
 
 -- reported rows are sent, or unsent
 pub sent-or-not : (os : List Opening) → All Proper os → sumBy (λ o. o .rows) os ≡ sumBy sent os + sumBy unsent os

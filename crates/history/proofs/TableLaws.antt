@@ -1,4 +1,4 @@
--- What the cursor table weighs after an accepted message, under every weight. Assumes nothing.
+-- What the cursor table weighs after an accepted message, under every weight, and what openings weigh. Assumes nothing.
 use Rattle.prelude.proofs.Basics.{ℕ, _+_, _≤_, arith, Bool, true, false, not, _&&_, cond, true≢false, _≡_, refl, sym}
 use Rattle.prelude.proofs.Basics.{_∙_, List, getD, set, eqb, not-true, both}
 use Rattle.session.specs.declared.Cursor.{Cursor}
@@ -10,6 +10,7 @@ use Rattle.session.proofs.PlaceLaws.{Taken, taken}
 use Rattle.session.proofs.PlaceLaws.Taken.{own, new}
 use Rattle.session.proofs.SumLaws.{sum-same, sum-map, sum-add, sum-set, and-true}
 use Rattle.rules.specs.Refusal.{noPlace}
+use Rattle.history.specs.Tally.{Opening, sent}
 use Rattle.history.proofs.ListLaws.{sum-absent, sum-only}
 
 -- a weight of an entry
@@ -22,6 +23,13 @@ weigh w c = cond (isLiveCursor c) (w c) 0
 
 abbrev pub table : Weight → List Cursor → ℕ
 table w cs = sumBy (weigh w) cs
+
+-- an opening as the cursor that it is in the table, and what openings weigh
+abbrev pub asCursor : Opening → Cursor
+asCursor o = newCursor (o .cursor) (o .stmt) (o .first + o .rows) (o .first + sent o)
+
+abbrev pub openings : Weight → List Opening → ℕ
+openings w os = sumBy (λ o. w (asCursor o)) os
 
 -- nothing where a test of the ids passes; nothing where it does not
 abbrev pub off : (ℕ → ℕ → Bool) → Weight → Weight

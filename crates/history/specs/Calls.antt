@@ -1,16 +1,20 @@
 -- Demand 3 down to the exported step: of every list of its calls, each on the words that the one before left, from
--- words that hold a fresh session. What is known of a call is its contract and nothing else.
+-- words that hold a fresh session, or any other that keeps the rules of the tables. What is known of a call is its
+-- contract and nothing else.
 use Prim.Native.Nat.{ℕ}
 use mathlib.Core.Path.{_≡_}
 use mathlib.Core.List.{List, [], _∷_}
 use lib.ListN.{take}
+use Rattle.session.specs.Sound.{Sound}
 use Rattle.session.specs.Tables.{fresh}
 use Rattle.session.specs.Words.{sessionOf}
 use Rattle.rules.specs.declared.Report.{Report}
 use Rattle.rules.specs.declared.Answer.{Answer}
 use Rattle.rules.specs.Step.{stepOf}
+use Rattle.history.specs.Tally.{Tally, empty}
+use Rattle.history.specs.Start.{startOf}
 use Rattle.history.specs.Run.{Told}
-use Rattle.history.specs.History.{Kept}
+use Rattle.history.specs.History.{State, Kept}
 
 -- what goes into a call: a frame, a report and a reply buffer; and what it leaves: the answer, the session's words, the
 -- buffer
@@ -50,7 +54,18 @@ unfoldable pub toldBy : List Call → List Told
 toldBy [] = []
 toldBy (c ∷ cs) = toldOf c ∷ toldBy cs
 
+-- what the tally starts from, the session that the calls leave, and what they told
+abbrev pub stateAfter : Tally → List ℕ → List Call → State
+stateAfter start words calls =
+    record { start = start; session = sessionOf (wordsAfter words calls); told = toldBy calls }
+
+-- from any session that keeps the rules of the tables (I8), and so from a fresh one (D3)
+abbrev pub Demand3ExportedFrom : Type 0
+Demand3ExportedFrom =
+    (words : List ℕ) → Sound (sessionOf words) → (calls : List Call) → Called words calls →
+    Kept (stateAfter (startOf (sessionOf words)) words calls)
+
 abbrev pub Demand3Exported : Type 0
 Demand3Exported =
     (words : List ℕ) → sessionOf words ≡ fresh → (calls : List Call) → Called words calls →
-    Kept (record { session = sessionOf (wordsAfter words calls); told = toldBy calls })
+    Kept (stateAfter empty words calls)

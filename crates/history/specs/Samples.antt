@@ -15,6 +15,7 @@ use Rattle.reply.specs.ReplyRules.{minBuffer}
 use Rattle.rules.specs.declared.Report.{Report}
 use Rattle.rules.specs.Report.{prepared, result, done}
 use Rattle.rules.specs.Step.{Step, replyOf, stepOf}
+use Rattle.history.specs.Tally.{empty}
 use Rattle.history.specs.Run.{Input, Told}
 use Rattle.history.specs.History.{reached, Kept}
 
@@ -116,4 +117,4 @@ servedOn =
 
 -- whatever its tables: demand 3 does not hold of it
 abbrev pub ServedOnRefused : Type 0
-ServedOnRefused = (s : Session) → Kept (record { session = s; told = servedOn }) → ⊥
+ServedOnRefused = (s : Session) → Kept (record { start = empty; session = s; told = servedOn }) → ⊥

@@ -8,6 +8,8 @@ ghost use Rattle.args_writer.specs.Append.{appendedOf, leftBy};
 ghost use Rattle.streams.specs.Reader.{nextOf, pushOf, startOver, storeSize};
 ghost use Rattle.message.specs.Frame.{argumentOf, frameOf, partOf};
 ghost use Rattle.history.specs.Calls.{Contract, call};
+ghost use Rattle.history.specs.Handover.{Restores};
+ghost use Rattle.image_rules.specs.Image.{bufferWith, writtenOf};
 ghost use Rattle.rules.specs.Step.{lookAt};
 ghost use Rattle.session.specs.Tables.{fresh};
 ghost use Rattle.session.specs.Words.{sessionOf};
@@ -18,6 +20,7 @@ ghost use Rattle.karramotx.specs.Inspection.{inspectionOf};
 ghost use Rattle.karramotx.specs.Message.{messageAt};
 ghost use Rattle.karramotx.specs.Value.{nextValueOf, valueOf};
 use given::Scalar;
+use image_rules::Written;
 use inspection::Inspection;
 use layout::part::Part;
 use protocol::reason;
@@ -107,6 +110,23 @@ pub extern "C" fn karramotx_step(
         ⌝ }
 {
     keeper::step::step(session, frame, report, reply)
+}
+
+// The image of the host's own session, at the front of `buf`, by which another server takes it over.
+#[no_mangle]
+pub extern "C" fn karramotx_image(session: &[u32; WORDS], buf: &mut [u8]) -> Written
+    ensures answer { λ r. ⌜ r ≡ writtenOf (sessionOf (now (session .entry))) (now (buf .entry)) ⌝ }
+    ensures buffer { λ r. ⌜ now (buf .exit) ≡ bufferWith (sessionOf (now (session .entry))) (now (buf .entry)) ⌝ }
+{
+    image::write_image(session, buf)
+}
+
+// The session of an image in the place of the host's own one, which stays as it was where the image is not acceptable.
+#[no_mangle]
+pub extern "C" fn karramotx_restore(session: &mut [u32; WORDS], image: &[u8]) -> u64
+    ensures { λ r. ⌜ Restores (now (session .entry)) (now (image .entry)) r (now (session .exit)) ⌝ }
+{
+    image::restore(session, image)
 }
 
 // A reader of arrivals that holds nothing.

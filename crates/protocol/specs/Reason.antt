@@ -68,3 +68,7 @@ engineFailed = 16
 -- the chosen body, or an Open's Execute, occurs more than once; told behind 6 and before 7
 abbrev pub bodyTwice : ℕ
 bodyTwice = 17
+
+-- an image of a session is not acceptable; no frame is refused so
+abbrev pub badImage : ℕ
+badImage = 18

@@ -34,3 +34,5 @@ pub const BAD_REPORT: u64 = 15;
 pub const ENGINE_FAILED: u64 = 16;
 
 pub const BODY_TWICE: u64 = 17;
+
+pub const BAD_IMAGE: u64 = 18;

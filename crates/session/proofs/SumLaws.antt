@@ -51,7 +51,7 @@ module _ {A : Type 0} where
   sum-add u v [] = omega arith
   sum-add u v (x ∷ xs) = omega (arith, sum-add u v xs)
 
-  pub sum-map : (w : A → ℕ) (f : A → A) (xs : List A) → sumBy w (map f xs) ≡ sumBy (λ x. w (f x)) xs
+  pub sum-map : {B : Type 0} (w : B → ℕ) (f : A → B) (xs : List A) → sumBy w (map f xs) ≡ sumBy (λ x. w (f x)) xs
   unfolding sumBy
   sum-map w f [] = refl
   sum-map w f (x ∷ xs) = ap (λ (m : ℕ). w (f x) + m) (sum-map w f xs)

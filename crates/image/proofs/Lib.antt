@@ -1,0 +1,4 @@
+pub mod NumberLaws
+pub mod TakeLaws
+pub mod WholeLaws
+pub mod WriteLaws

@@ -1,0 +1,126 @@
+// Writing the image of a session: into a buffer that any fits, and from there into the one that is lent.
+ghost use mathlib.Core.Path.{_≡_};
+ghost use mathlib.Core.Bool.{cond};
+ghost use Prim.Native.Nat.{_*_, _<_, _≤_};
+ghost use lib.ListN.{length};
+ghost use Rattle.session.specs.Session.{isClosed};
+ghost use Rattle.session.specs.Tables.{maxCursors, maxStmts};
+ghost use Rattle.session.specs.Words.{sessionOf};
+ghost use Rattle.encode.specs.Put.{written};
+ghost use Rattle.encode.specs.Puts.{Puts};
+ghost use Rattle.image_rules.specs.Image.{imageOf, maxImage};
+ghost use Rattle.image_rules.specs.private.Parts.{cursorBytes, cursorBytesAt, mostCursor, mostStmt, stmtBytes, stmtBytesAt};
+ghost use Rattle.image.specs.private.Handed.{handed};
+use encode::number::put_varint;
+use encode::put::Put;
+use encode::put::write_bytes;
+use image_rules::Written;
+use protocol::reason;
+use session::Cursor;
+use session::MAX_CURSORS;
+use session::MAX_STMTS;
+use session::Place;
+use session::Stmt;
+use session::WORDS;
+use session::count;
+use session::words;
+
+const FORM: u64 = 1;
+
+// The whole image, from the front of the buffer on.
+pub(crate) fn put_image(buf: &mut [u8], words: &[u32; WORDS]) -> usize
+    ensures put { λ r. ⌜ Puts (now (buf .entry)) 0 (imageOf (sessionOf (now (words .entry)))) r (now (buf .exit)) ⌝ }
+    ensures short { λ r. ⌜ length (imageOf (sessionOf (now (words .entry)))) ≤ maxImage ⌝ }
+{
+    let at = put_varint(buf, 0, FORM);
+    let at = put_varint(buf, at, closed(words));
+    let at = put_varint(buf, at, count::stmt_count(words));
+    let at = put_stmts(buf, at, words);
+    let at = put_varint(buf, at, count::cursor_count(words));
+    put_cursors(buf, at, words)
+}
+
+fn closed(words: &[u32; WORDS]) -> u64
+    ensures { λ r. ⌜ r ≡ cond (isClosed (sessionOf (now (words .entry)))) 1 0 ⌝ }
+{
+    if words::is_closed(words) { 1 } else { 0 }
+}
+
+// The live statements, in place order.
+fn put_stmts(buf: &mut [u8], at: usize, words: &[u32; WORDS]) -> usize
+    ensures put { λ r. ⌜
+        Puts (now (buf .entry)) at (stmtBytes (sessionOf (now (words .entry)))) r (now (buf .exit))
+        ⌝ }
+    ensures short { λ r. ⌜ length (stmtBytes (sessionOf (now (words .entry)))) ≤ maxStmts * mostStmt ⌝ }
+{
+    let mut p = at;
+    let mut i = 0;
+    while i < MAX_STMTS {
+        p = put_stmt(buf, p, i, words::stmt_at(words, Place::At(i)));
+        i += 1;
+    }
+    p
+}
+
+// The statement at a place, where it is live.
+fn put_stmt(buf: &mut [u8], at: usize, place: usize, t: Stmt) -> usize
+    requires { ⌜ place < maxStmts ⌝ }
+    ensures put { λ r. ⌜ Puts (now (buf .entry)) at (stmtBytesAt place t) r (now (buf .exit)) ⌝ }
+    ensures short { λ r. ⌜ length (stmtBytesAt place t) ≤ mostStmt ⌝ }
+{
+    if t.live == 0 {
+        return at;
+    }
+    let at = put_varint(buf, at, place as u64);
+    let at = put_varint(buf, at, t.id as u64);
+    put_varint(buf, at, t.placeholders as u64)
+}
+
+// The live cursors, in place order.
+fn put_cursors(buf: &mut [u8], at: usize, words: &[u32; WORDS]) -> usize
+    ensures put { λ r. ⌜
+        Puts (now (buf .entry)) at (cursorBytes (sessionOf (now (words .entry)))) r (now (buf .exit))
+        ⌝ }
+    ensures short { λ r. ⌜ length (cursorBytes (sessionOf (now (words .entry)))) ≤ maxCursors * mostCursor ⌝ }
+{
+    let mut p = at;
+    let mut i = 0;
+    while i < MAX_CURSORS {
+        p = put_cursor(buf, p, i, words::cursor_at(words, Place::At(i)));
+        i += 1;
+    }
+    p
+}
+
+// The cursor at a place, where it is live.
+fn put_cursor(buf: &mut [u8], at: usize, place: usize, c: Cursor) -> usize
+    requires { ⌜ place < maxCursors ⌝ }
+    ensures put { λ r. ⌜ Puts (now (buf .entry)) at (cursorBytesAt place c) r (now (buf .exit)) ⌝ }
+    ensures short { λ r. ⌜ length (cursorBytesAt place c) ≤ mostCursor ⌝ }
+{
+    if c.live == 0 {
+        return at;
+    }
+    let at = put_varint(buf, at, place as u64);
+    let at = put_varint(buf, at, c.id as u64);
+    let at = put_varint(buf, at, c.stmt as u64);
+    let at = put_varint(buf, at, c.rows as u64);
+    put_varint(buf, at, c.sent as u64)
+}
+
+// An image at the front of `buf`, where it fits.
+pub(crate) fn hand_over(image: &[u8], buf: &mut [u8]) -> Written
+    ensures answer { λ r. ⌜ r ≡ handed (now (image .entry)) (now (buf .entry)) ⌝ }
+    ensures buffer { λ r. ⌜ now (buf .exit) ≡ written (now (buf .entry)) 0 (now (image .entry)) ⌝ }
+{
+    match write_bytes(buf, 0, image) {
+        Put::Next(n) => Written {
+            reason: reason::ACCEPTED,
+            len: n,
+        },
+        Put::Full => Written {
+            reason: reason::NO_ROOM,
+            len: 0,
+        },
+    }
+}
