@@ -22,8 +22,8 @@
  *
  * A session is memory of yours, which a step changes in place. Every bit pattern is a session: no function
  * trusts what it finds there. But what FetchDone stands for, and that the cursors which an inspection tells as
- * ended are gone after the step, is promised only of a session that came from karramotx_fresh and was changed by
- * karramotx_step alone.
+ * ended are gone after the step, is promised only of a session that came from karramotx_fresh or, accepted, from
+ * karramotx_restore, and was changed by karramotx_step alone.
  *
  * Sizes are those of x86-64.
  */
@@ -52,7 +52,8 @@ enum {
     KARRAMOTX_MAX_CURSORS = 16,    /* cursors of a session */
     KARRAMOTX_MIN_REPLY = 128,     /* the shortest reply buffer that a step takes; every reply fits it */
     KARRAMOTX_MAX_FRAME = 65536,   /* the longest frame, its four bytes of length included */
-    KARRAMOTX_STORE = 65536        /* bytes of a reader's store; the longest frame fills it */
+    KARRAMOTX_STORE = 65536,       /* bytes of a reader's store; the longest frame fills it */
+    KARRAMOTX_MAX_IMAGE = 1044     /* bytes that the image of any session fits */
 };
 
 /* ---- Message types ---- */
@@ -109,8 +110,9 @@ enum karramotx_reason {
     KARRAMOTX_CURSORS_FULL = 14,   /* 16 cursors are live, the id not among them */
     KARRAMOTX_BAD_REPORT = 15,     /* the report is of the wrong kind or outside its limits */
     KARRAMOTX_ENGINE_FAILED = 16,
-    KARRAMOTX_BODY_TWICE = 17      /* the body that a Prepare's type chooses, or an Open's Execute, comes more than
+    KARRAMOTX_BODY_TWICE = 17,     /* the body that a Prepare's type chooses, or an Open's Execute, comes more than
                                       once; judged after 6 and before 7 */
+    KARRAMOTX_BAD_IMAGE = 18       /* an image is not acceptable; no frame is refused so, and no Error frame says it */
 };
 
 /* ---- The session ---- */
@@ -548,7 +550,7 @@ KARRAMOTX_FIELD(karramotx_draft, operation, 40);
 
 struct karramotx_sent {
     uint64_t reason;               /* 0, or 6, 2, 3: then nothing is written */
-    size_t len;                    /* bytes of the frame or of the stretch; 0 where it is refused */
+    size_t len;                    /* bytes of the frame, the stretch or the image; 0 where it is refused */
 };
 KARRAMOTX_SIZE(karramotx_sent, 16);
 KARRAMOTX_FIELD(karramotx_sent, reason, 0);
@@ -577,6 +579,64 @@ KARRAMOTX_FIELD(karramotx_scalar, value, 8);
  */
 struct karramotx_sent karramotx_append(struct karramotx_scalar scalar, const uint8_t *bytes, size_t bytes_len,
                                        uint8_t *buf, size_t buf_len, size_t at);
+
+/* ---- Handing a session over ---- */
+
+/*
+ * A session goes on in another server, as a standby, from its image: some bytes that say all it holds. Where it leaves,
+ * between two steps:
+ *
+ *     uint8_t image[KARRAMOTX_MAX_IMAGE];
+ *     size_t len = karramotx_image(&session, image, sizeof image).len;
+ *     send or store the first len bytes of image
+ *
+ * and where it goes on:
+ *
+ *     struct karramotx_session session = karramotx_fresh();
+ *     if (karramotx_restore(&session, image, len) != KARRAMOTX_ACCEPTED)
+ *         give up: this is no image, or a damaged one
+ *
+ * A session restored from an image goes on exactly as the one that it was written from: it is that very session, so the
+ * same frames and reports get the same answers and replies. What FetchDone stands for is promised of it too: a cursor
+ * then counts as an opening of the rows that it had still to send, numbered on from those that were sent.
+ *
+ * The image holds the session and nothing else. Yours to hand over beside it:
+ *
+ *     bytes that arrived and were not stepped on: those that the reader holds, store[reader.start] to
+ *     store[reader.end - 1]. Push them to the new reader ahead of what arrives there.
+ *     replies that were not sent yet, and the columns and rows ahead of them
+ *     what your engine keeps for statements and cursors, as plans and results: make it anew, at the same places. A live
+ *     cursor's result must have session.cursors[i].rows rows again; those from session.cursors[i].sent on will be asked
+ *     for.
+ *
+ * A struct karramotx_session must not be written by others, but an image may come from disk or from the network: it is
+ * judged, byte for byte. It is numbers, each as a varint in its shortest form:
+ *
+ *     1, the number of this form
+ *     1 where the session is closed, else 0
+ *     how many statements are live; of each its place, from 0, its id and its placeholders
+ *     how many cursors are live; of each its place, its id, its statement's id, the rows reported and the rows sent
+ *
+ * It is accepted exactly if it has this form with nothing behind it, the places of a table rise and are below
+ * KARRAMOTX_MAX_STMTS or KARRAMOTX_MAX_CURSORS, no id stands twice in a table, ids and rows are below 2^32 and
+ * placeholders at most 65,535, each cursor is on a statement that is listed and no two are on one, no cursor has sent
+ * more rows than were reported, and a closed session has no statement and no cursor.
+ *
+ * Every session has one image, and that of a session which came from karramotx_fresh or karramotx_restore and was
+ * changed by karramotx_step alone is accepted. That of one with other words in it need not be.
+ */
+
+/*
+ * The image of a session at the front of `buf`; bytes behind it stay as they were. Refused 3 exactly where the buffer
+ * is too small: then nothing is written.
+ */
+struct karramotx_sent karramotx_image(const struct karramotx_session *session, uint8_t *buf, size_t buf_len);
+
+/*
+ * The session of an image in the place of `*session`, whatever stood there: it has the image's entries and no others.
+ * Answers 0, or 18 where the image is not acceptable: the session is then as it was.
+ */
+uint64_t karramotx_restore(struct karramotx_session *session, const uint8_t *image, size_t image_len);
 
 #ifdef __cplusplus
 }
