@@ -37,7 +37,8 @@ pub const MAX_CURSORS: usize = 16;
 /// A session: 273 words without gaps. A free place is not live and all 0.
 ///
 /// Every bit pattern is a session; the library trusts none of it. But what FetchDone stands for is promised
-/// only of one that came from [`karramotx_fresh`] and was changed by [`karramotx_step`] alone.
+/// only of one that came from [`karramotx_fresh`] or, accepted, from [`karramotx_restore`], and was changed by
+/// [`karramotx_step`] alone.
 #[repr(C)]
 #[derive(Debug, Clone, Copy, PartialEq, Eq)]
 pub struct Session {
@@ -243,7 +244,7 @@ pub struct Draft {
 pub struct Sent {
     /// 0, or why nothing is written.
     pub reason: u64,
-    /// Bytes of the frame or of the stretch.
+    /// Bytes of the frame, the stretch or the image.
     pub len: usize,
 }
 
@@ -259,6 +260,8 @@ pub struct Scalar {
 
 /// The bytes of a reader's store.
 pub const STORE: usize = 65_536;
+/// Bytes that the image of any session fits.
+pub const MAX_IMAGE: usize = 1_044;
 
 /// A reader of arrivals: the bytes held are those of its store from `start` up to `end`.
 #[repr(C)]
@@ -343,6 +346,10 @@ extern "C" {
         buf_len: usize,
         at: usize,
     ) -> Sent;
+    /// The image of a session at the front of a buffer.
+    pub fn karramotx_image(session: *const Session, buf: *mut u8, buf_len: usize) -> Sent;
+    /// The session of an image in the place of another. Answers 0, or 18 where the image is not acceptable.
+    pub fn karramotx_restore(session: *mut Session, image: *const u8, image_len: usize) -> u64;
     /// A reader that holds nothing.
     pub fn karramotx_start_over() -> Reader;
     /// Bytes that arrived, taken as far as there is room. `store` has `STORE` bytes.

@@ -88,6 +88,40 @@
 //! step is refused as [`Refusal::NoRoom`]. A [`Message`] knows of no session: in a closed one the look
 //! of an inspection says no, and its message what was read. Of a frame refused as [`Refusal::BodyTwice`]
 //! there is no [`Message`]; its look and its step say what was read.
+//!
+//! # Handing a session over
+//!
+//! A session goes on in another server, as a standby, from its image: some bytes that say all it holds.
+//!
+//! ```
+//! use karramotx::{Frames, Refusal, Session};
+//!
+//! fn hand_over(session: &Session, frames: &Frames) -> (Vec<u8>, Vec<u8>) {
+//!     (session.image(), frames.held().to_vec())
+//! }
+//!
+//! fn take_over(image: &[u8], held: &[u8]) -> Result<(Session, Frames), Refusal> {
+//!     let (mut session, mut frames) = (Session::new(), Frames::new());
+//!     session.restore(image)?;
+//!     assert_eq!(frames.push(held), held.len()); // what another reader held has room
+//!     // let the engine make plans and results anew here, each at the place of its entry
+//!     Ok((session, frames))
+//! }
+//!
+//! let (image, held) = hand_over(&Session::new(), &Frames::new());
+//! let (session, _frames) = take_over(&image, &held)?;
+//! assert_eq!(session, Session::new());
+//! # Ok::<(), Refusal>(())
+//! ```
+//!
+//! The session that is restored is the one that the image was written from, so it goes on exactly as that
+//! would have, and what FetchDone stands for holds of it too. The image holds nothing else. Yours to hand over
+//! beside it are the bytes that arrived and were not stepped on, which [`Frames::held`] has; the replies that
+//! were not sent yet; and what the engine keeps: [`Session::statements`] and [`Session::cursors`] say for which
+//! entries, and at which places. The result of a cursor must have as many rows as before.
+//!
+//! An image may come from disk or from the network: it is judged, byte for byte, and refused as
+//! [`Refusal::BadImage`] where it is not acceptable. `include/karramotx.h` lays it out.
 #![deny(missing_docs)]
 
 mod argument;
@@ -103,7 +137,7 @@ pub use frames::{BadLength, Frame, Frames};
 pub use message::{Kind, Message, Operation};
 pub use refusal::Refusal;
 pub use session::{
-    Cursor, Ends, Inspection, Look, Report, Rows, Session, Statement, Step, Work, MAX_CURSORS,
+    Cursor, Ends, Inspection, Look, Report, Rows, Session, Statement, Step, Work, MAX_CURSORS, MAX_IMAGE,
     MAX_STATEMENTS, MIN_REPLY,
 };
 pub use writer::{sql_body, ClientMessage, MAX_FRAME};

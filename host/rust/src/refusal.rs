@@ -3,7 +3,7 @@
 use std::error::Error;
 use std::fmt;
 
-/// Why a frame, a report, an argument or a draft is refused. The numbers are those of the wire's
+/// Why a frame, a report, an argument, a draft or an image is refused. The numbers are those of the wire's
 /// `Refused (N).` texts.
 #[derive(Debug, Clone, Copy, PartialEq, Eq, Hash, PartialOrd, Ord)]
 pub enum Refusal {
@@ -43,11 +43,13 @@ pub enum Refusal {
     /// [more than once](crate#messages-in-parts). It stands behind [`Refusal::BadPayload`] and ahead of
     /// [`Refusal::NoStatement`] in the order of the refusals.
     BodyTwice = 17,
+    /// An [image](crate#handing-a-session-over) is not acceptable. No frame is refused so.
+    BadImage = 18,
 }
 
 use Refusal::*;
 
-const ALL: [Refusal; 17] = [
+const ALL: [Refusal; 18] = [
     NotAllThere,
     BadLength,
     NoRoom,
@@ -65,10 +67,11 @@ const ALL: [Refusal; 17] = [
     BadReport,
     EngineFailed,
     BodyTwice,
+    BadImage,
 ];
 
 impl Refusal {
-    /// The reason's number, 1 to 17.
+    /// The reason's number, 1 to 18.
     pub fn number(self) -> u64 {
         self as u64
     }
@@ -99,6 +102,7 @@ impl fmt::Display for Refusal {
             BadReport => "the report is of the wrong kind or outside its limits",
             EngineFailed => "the engine failed",
             BodyTwice => "the chosen body comes more than once",
+            BadImage => "the image is not acceptable",
         })
     }
 }
@@ -110,5 +114,5 @@ pub(crate) fn accepted(reason: u64) -> Result<(), Refusal> {
     if reason == 0 {
         return Ok(());
     }
-    Err(Refusal::from_number(reason).expect("the library's reasons are 0 to 17"))
+    Err(Refusal::from_number(reason).expect("the library's reasons are 0 to 18"))
 }

@@ -1,4 +1,4 @@
-//! A session: look, step, and what its tables hold.
+//! A session: look, step, what its tables hold, and its image.
 
 use crate::ffi;
 use crate::message::Message;
@@ -11,6 +11,8 @@ pub const MIN_REPLY: usize = 128;
 pub const MAX_STATEMENTS: usize = ffi::MAX_STMTS;
 /// The places of the cursor table.
 pub const MAX_CURSORS: usize = ffi::MAX_CURSORS;
+/// Bytes that the [image](Session::image) of any session fits.
+pub const MAX_IMAGE: usize = ffi::MAX_IMAGE;
 
 /// The work that a frame wants of the engine.
 #[derive(Debug, Clone, PartialEq, Eq)]
@@ -159,6 +161,8 @@ pub struct Step<'r> {
 /// A live statement.
 #[derive(Debug, Clone, Copy, PartialEq, Eq)]
 pub struct Statement {
+    /// Its place in the table.
+    pub place: usize,
     /// Its id.
     pub id: u32,
     /// Its placeholders.
@@ -168,6 +172,8 @@ pub struct Statement {
 /// A live cursor.
 #[derive(Debug, Clone, Copy, PartialEq, Eq)]
 pub struct Cursor {
+    /// Its place in the table.
+    pub place: usize,
     /// Its id.
     pub id: u32,
     /// The id of its statement.
@@ -257,24 +263,51 @@ impl Session {
 
     /// The live statements, in place order.
     pub fn statements(&self) -> impl Iterator<Item = Statement> + '_ {
-        let places = self.0.stmt_ids.iter().zip(&self.0.stmts).filter(|(_, s)| s.live != 0);
-        places.map(|(id, s)| Statement { id: *id, placeholders: s.placeholders })
+        let places = self.0.stmt_ids.iter().zip(&self.0.stmts).enumerate();
+        let live = places.filter(|(_, (_, s))| s.live != 0);
+        live.map(|(place, (id, s))| Statement { place, id: *id, placeholders: s.placeholders })
     }
 
     /// The live cursors, in place order.
     pub fn cursors(&self) -> impl Iterator<Item = Cursor> + '_ {
-        self.0.cursors.iter().filter(|c| c.live != 0).map(|c| Cursor {
-            id: c.id,
-            statement: c.stmt,
-            rows: c.rows,
-            sent: c.sent,
-        })
+        let live = self.0.cursors.iter().enumerate().filter(|(_, c)| c.live != 0);
+        live.map(|(place, c)| Cursor { place, id: c.id, statement: c.stmt, rows: c.rows, sent: c.sent })
     }
 
     /// How many rows the cursors have still to send.
     pub fn owed(&self) -> u64 {
         // SAFETY: the pointer is that of a session, which is only read.
         unsafe { ffi::karramotx_counts(&self.0) }.owed
+    }
+
+    /// The session's image: what [`restore`](Session::restore) takes, here or in another server. It has at most
+    /// [`MAX_IMAGE`] bytes.
+    ///
+    /// ```
+    /// assert_eq!(karramotx::Session::new().image(), [1, 0, 0, 0]); // form 1, open, no statement, no cursor
+    /// ```
+    pub fn image(&self) -> Vec<u8> {
+        let mut image = vec![0; MAX_IMAGE];
+        // SAFETY: the pointers and the length are those of a session, which is only read, and of a buffer.
+        let sent = unsafe { ffi::karramotx_image(&self.0, image.as_mut_ptr(), image.len()) };
+        accepted(sent.reason).expect("the image of any session fits");
+        image.truncate(sent.len);
+        image
+    }
+
+    /// Puts the session of an image in the place of this one, of which nothing is kept. An image that is not
+    /// acceptable is refused as [`Refusal::BadImage`], and the session is then as it was.
+    ///
+    /// ```
+    /// use karramotx::{Refusal, Session};
+    ///
+    /// let mut standby = Session::new();
+    /// let damaged = [1, 2, 0, 0]; // closed is 0 or 1
+    /// assert_eq!(standby.restore(&damaged), Err(Refusal::BadImage));
+    /// ```
+    pub fn restore(&mut self, image: &[u8]) -> Result<(), Refusal> {
+        // SAFETY: the pointer and the length are those of a slice, and the session is borrowed uniquely.
+        accepted(unsafe { ffi::karramotx_restore(&mut self.0, image.as_ptr(), image.len()) })
     }
 
     /// The session as the library has it.

@@ -4,6 +4,8 @@
 use karramotx::ffi::*;
 use std::mem::{align_of, offset_of, size_of};
 
+const PATH: &str = concat!(env!("CARGO_MANIFEST_DIR"), "/../../include/karramotx.h");
+
 /// What the header's KARRAMOTX_SIZE and KARRAMOTX_FIELD lines state.
 #[derive(Debug, Clone, Default, PartialEq)]
 struct Header {
@@ -13,8 +15,7 @@ struct Header {
 
 impl Header {
     fn read() -> Header {
-        let path = concat!(env!("CARGO_MANIFEST_DIR"), "/../../include/karramotx.h");
-        let text = std::fs::read_to_string(path).expect("the header is there");
+        let text = std::fs::read_to_string(PATH).expect("the header is there");
         let mut header = Header::default();
         for line in text.lines() {
             let Some(inside) = line.strip_suffix(");").and_then(|l| l.strip_prefix("KARRAMOTX_")) else {
@@ -92,6 +93,28 @@ fn sorted(header: &Header) -> Header {
 #[test]
 fn the_header_and_this_crate_agree() {
     assert_eq!(sorted(&Header::read()), sorted(&of_this_crate()));
+}
+
+/// What a limit or a reason is in the header.
+fn header_number(name: &str) -> usize {
+    let text = std::fs::read_to_string(PATH).expect("the header is there");
+    let start = format!("    KARRAMOTX_{name} = ");
+    let line = text.lines().find_map(|l| l.strip_prefix(&start)).unwrap_or_else(|| panic!("no {name}"));
+    number(line.split(|c: char| !c.is_ascii_digit()).next().expect("a number stands first"))
+}
+
+#[test]
+fn limits_and_the_newest_reason_are_the_headers() {
+    let limits = [
+        ("MAX_STMTS", MAX_STMTS),
+        ("MAX_CURSORS", MAX_CURSORS),
+        ("MIN_REPLY", karramotx::MIN_REPLY),
+        ("MAX_FRAME", karramotx::MAX_FRAME),
+        ("STORE", STORE),
+        ("MAX_IMAGE", MAX_IMAGE),
+        ("BAD_IMAGE", karramotx::Refusal::BadImage as usize),
+    ];
+    limits.into_iter().for_each(|(name, here)| assert_eq!(header_number(name), here, "{name}"));
 }
 
 #[test]
@@ -379,6 +402,23 @@ impl Probe<'_> {
         }
     }
 
+    /// The image of a session with a statement, worked out by hand, and the session of it.
+    fn image(&mut self) {
+        let image = [0x01, 0x00, 0x01, 0x00, 0xbc, 0x05, 0x07, 0x00];
+        let mut s = unsafe { karramotx_fresh() };
+        step(&mut s, &prepare(700), self.report(1, &[("placeholders", 7)]));
+        let mut buf = [0; MAX_IMAGE];
+        let sent = unsafe { karramotx_image(&s, buf.as_mut_ptr(), buf.len()) };
+        self.expect(&sent, 0, "karramotx_sent", &[("reason", 8, 0), ("len", 8, image.len() as u64)]);
+        let short = unsafe { karramotx_image(&s, buf.as_mut_ptr(), image.len() - 1) };
+        self.expect(&short, 0, "karramotx_sent", &[("reason", 8, 3), ("len", 8, 0)]);
+        let mut again = unsafe { karramotx_fresh() };
+        let reason = unsafe { karramotx_restore(&mut again, image.as_ptr(), image.len()) };
+        if buf[..image.len()] != image || reason != 0 || again != s {
+            self.wrong.push("another image is written or read".to_string());
+        }
+    }
+
     /// A reader of these numbers, put where the header says.
     fn held(&self, start: u64, end: u64) -> Reader {
         let mut reader = Reader::default();
@@ -426,6 +466,7 @@ fn archive_agrees(header: &Header) -> Result<(), Vec<String>> {
     probe.value();
     probe.written();
     probe.appended();
+    probe.image();
     probe.reader();
     if probe.wrong.is_empty() {
         return Ok(());

@@ -163,13 +163,13 @@ fn a_draft_that_is_refused_writes_nothing() {
 
 #[test]
 fn every_refusal_has_its_number_and_a_text() {
-    for number in 1..=17 {
-        let refusal = Refusal::from_number(number).expect("numbers 1 to 17 are refusals");
+    for number in 1..=18 {
+        let refusal = Refusal::from_number(number).expect("numbers 1 to 18 are refusals");
         assert_eq!(refusal.number(), number);
         assert!(!refusal.to_string().is_empty());
     }
     assert_eq!(Refusal::from_number(0), None);
-    assert_eq!(Refusal::from_number(18), None);
+    assert_eq!(Refusal::from_number(19), None);
 }
 
 /// The places of `ends` of a frame that is then accepted, and those of its statement and cursor.
