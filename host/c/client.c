@@ -97,7 +97,7 @@ size_t client_conversation(uint8_t *buf, size_t len)
     fetch_all(&o, 1);                               /* refused: the cursor is gone */
     open_cursor(&o, 1, 1, 2);
     fetch_padded(&o, 1, 1);                         /* one more, the cursor id in five bytes */
-    fetch_all(&o, 1);                               /* FetchDone */
+    fetch_all(&o, 1);                               /* FetchDone, from the standby */
     fetch_all(&o, 1);                               /* refused: all rows are sent */
     prepare(&o, 2, "oops");                         /* the engine fails */
     put_plain(&o, KARRAMOTX_CURSOR_CLOSE, 1);

@@ -25,12 +25,20 @@ static struct karramotx_report prepare(struct karramotx_part body, const uint8_t
     return (struct karramotx_report){.kind = KARRAMOTX_REPORT_PREPARED, .placeholders = placeholders};
 }
 
+/* NULL where there is no memory for it. */
+static struct engine_result *new_result(void)
+{
+    struct engine_result *result = malloc(sizeof *result);
+    if (result != NULL)
+        *result = (struct engine_result){.columns = ENGINE_COLUMNS, .rows = ENGINE_ROWS};
+    return result;
+}
+
 static struct karramotx_report run(struct engine *e)
 {
-    e->made = malloc(sizeof *e->made);
+    e->made = new_result();
     if (e->made == NULL)
         return (struct karramotx_report){.kind = KARRAMOTX_REPORT_FAILED, .code = 1037};
-    *e->made = (struct engine_result){.columns = ENGINE_COLUMNS, .rows = ENGINE_ROWS};
     return (struct karramotx_report){
         .kind = KARRAMOTX_REPORT_RESULT, .columns = e->made->columns, .rows = e->made->rows};
 }
@@ -48,6 +56,18 @@ struct karramotx_report engine_work(struct engine *e, const struct karramotx_ins
     default:
         return (struct karramotx_report){.kind = KARRAMOTX_REPORT_NONE};
     }
+}
+
+bool engine_take_over(struct engine *e, const struct karramotx_session *session)
+{
+    for (size_t i = 0; i < KARRAMOTX_MAX_CURSORS; i++) {
+        if (!session->cursors[i].live)
+            continue;
+        e->results[i] = new_result();
+        if (e->results[i] == NULL)
+            return false;
+    }
+    return true;
 }
 
 void engine_send(const struct engine *e, const struct karramotx_inspection *told, struct karramotx_answer answer,

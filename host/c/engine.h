@@ -27,6 +27,12 @@ struct engine {
  */
 struct karramotx_report engine_work(struct engine *e, const struct karramotx_inspection *told, const uint8_t *frame);
 
+/*
+ * After a hand-over: the results of the session's cursors, made anew at the same places. A real engine runs the
+ * statements again, so that each has the rows that it had. Answers false where there is no memory.
+ */
+bool engine_take_over(struct engine *e, const struct karramotx_session *session);
+
 /* Sends columns and rows, here as text. */
 void engine_send(const struct engine *e, const struct karramotx_inspection *told, struct karramotx_answer answer,
                  FILE *out);

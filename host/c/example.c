@@ -5,7 +5,8 @@
  *     example [--pieces N] -    serves the bytes on standard input
  *     example --write           writes the client's frames to standard output
  *
- * Bytes arrive in pieces of odd sizes, as from a network, or of N bytes each; what is served is the same.
+ * Bytes arrive in pieces of odd sizes, as from a network, or of N bytes each; what is served is the same. Behind the
+ * seventh frame, in the middle of a load, the session is handed over to a standby, which serves what follows.
  * It ends with 0, with 1 where the input breaks off or has a bad length, and with 2 on its own errors.
  */
 #include "client.h"
@@ -15,8 +16,8 @@
 #include <stdlib.h>
 #include <string.h>
 
-/* The longest piece: an arrival may be longer than the store. */
-enum { MAX_PIECE = 2 * KARRAMOTX_STORE };
+/* The longest piece: an arrival may be longer than the store. And how many frames the first server serves. */
+enum { MAX_PIECE = 2 * KARRAMOTX_STORE, HAND_OVER_AFTER = 7 };
 
 /* The size of the next arrival: as chosen, or where that is 0 the next of some odd sizes. */
 static size_t next_size(size_t chosen, size_t *turn)
@@ -25,24 +26,43 @@ static size_t next_size(size_t chosen, size_t *turn)
     return chosen != 0 ? chosen : odd[(*turn)++ % (sizeof odd / sizeof odd[0])];
 }
 
+/* Serves every whole frame of an arrival; what is left of it is held for the next. Answers false at a bad length. `*c`
+ * is the connection that serves: the standby's, once the session is handed over. */
+static bool serve_arrival(struct connection **c, const uint8_t *bytes, size_t len, FILE *out)
+{
+    static struct connection standby;
+    for (size_t at = 0; at < len;) {
+        uint64_t reason;
+        at += connection_take(*c, bytes + at, len - at);
+        while ((reason = connection_serve(*c, out)) == KARRAMOTX_ACCEPTED) {
+            if ((*c)->served == HAND_OVER_AFTER && connection_hand_over(*c, &standby, out))
+                *c = &standby;
+        }
+        if (reason == KARRAMOTX_BAD_LENGTH)
+            return false;
+    }
+    return true;
+}
+
 static int serve_stream(FILE *in, size_t pieces, FILE *out)
 {
-    static struct connection c;
+    static struct connection first;
     static uint8_t arrival[MAX_PIECE];
+    struct connection *c = &first;
     size_t turn = 0;
     bool good = true;
     size_t got;
-    connection_begin(&c);
+    connection_begin(c);
     while (good && (got = fread(arrival, 1, next_size(pieces, &turn), in)) > 0)
-        good = connection_serve(&c, arrival, got, out);
+        good = serve_arrival(&c, arrival, got, out);
 
-    bool cut = connection_held(&c) > 0;
-    struct karramotx_counts counts = karramotx_counts(&c.session);
+    bool cut = connection_held(c) > 0;
+    struct karramotx_counts counts = karramotx_counts(&c->session);
     fprintf(out, "%s: %" PRIu64 " statements, %" PRIu64 " cursors, %" PRIu64 " rows owed%s\n",
             !good ? "bad length" : cut ? "cut" : "end", counts.stmts, counts.cursors, counts.owed,
-            c.session.closed ? ", closed" : "");
-    bool sound = connection_is_sound(&c);
-    connection_end(&c);
+            c->session.closed ? ", closed" : "");
+    bool sound = connection_is_sound(c);
+    connection_end(c);
     if (!sound)
         return 2;
     return !good || cut;

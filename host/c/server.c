@@ -94,6 +94,7 @@ static void serve_frame(struct connection *c, const uint8_t *frame, size_t len, 
     print_bytes(reply, answer.reply, out);
     fprintf(out, "\n");
     note_padding(c, answer, out);
+    c->served++;
 }
 
 void connection_begin(struct connection *c)
@@ -102,6 +103,7 @@ void connection_begin(struct connection *c)
     c->reader = karramotx_start_over();
     c->engine = (struct engine){0};
     c->pads = false;
+    c->served = 0;
 }
 
 void connection_end(struct connection *c)
@@ -109,27 +111,51 @@ void connection_end(struct connection *c)
     engine_end(&c->engine);
 }
 
-bool connection_serve(struct connection *c, const uint8_t *bytes, size_t len, FILE *out)
+size_t connection_take(struct connection *c, const uint8_t *bytes, size_t len)
 {
-    for (size_t at = 0; at < len;) {
-        struct karramotx_pushed pushed = karramotx_push(c->reader, bytes + at, len - at, c->store);
-        struct karramotx_next_frame next;
-        c->reader = pushed.reader;
-        at += pushed.count;
-        while ((next = karramotx_next_frame(c->reader, c->store)).reason == KARRAMOTX_ACCEPTED) {
-            c->reader = next.reader;
-            serve_frame(c, c->store + next.start, next.len, next.kind, out);
-        }
-        c->reader = next.reader;
-        if (next.reason == KARRAMOTX_BAD_LENGTH)
-            return false;
-    }
-    return true;
+    struct karramotx_pushed pushed = karramotx_push(c->reader, bytes, len, c->store);
+    c->reader = pushed.reader;
+    return pushed.count;
+}
+
+uint64_t connection_serve(struct connection *c, FILE *out)
+{
+    struct karramotx_next_frame next = karramotx_next_frame(c->reader, c->store);
+    c->reader = next.reader;
+    if (next.reason == KARRAMOTX_ACCEPTED)
+        serve_frame(c, c->store + next.start, next.len, next.kind, out);
+    return next.reason;
 }
 
 size_t connection_held(const struct connection *c)
 {
     return c->reader.end - c->reader.start;
+}
+
+/* The standby's part. Image and held bytes may have come over a network. */
+static bool take_over(struct connection *c, const uint8_t *image, size_t image_len, const uint8_t *held,
+                      size_t held_len)
+{
+    connection_begin(c);
+    return karramotx_restore(&c->session, image, image_len) == KARRAMOTX_ACCEPTED &&
+           connection_take(c, held, held_len) == held_len && engine_take_over(&c->engine, &c->session);
+}
+
+bool connection_hand_over(struct connection *c, struct connection *standby, FILE *out)
+{
+    uint8_t image[KARRAMOTX_MAX_IMAGE];
+    struct karramotx_sent sent = karramotx_image(&c->session, image, sizeof image);
+    if (!take_over(standby, image, sent.len, c->store + c->reader.start, connection_held(c))) {
+        connection_end(standby);
+        return false;
+    }
+    standby->pads = c->pads;
+    standby->served = c->served;
+    connection_end(c);
+    fprintf(out, "Handed over to the standby\n    image ");
+    print_bytes(image, sent.len, out);
+    fprintf(out, "\n");
+    return true;
 }
 
 static bool stmts_are_sound(const struct karramotx_session *s)

@@ -14,6 +14,8 @@ struct connection {
     struct engine engine;
     /* whether the client has sent a padded number */
     bool pads;
+    /* frames served, in this server and in the one that handed the session over */
+    uint64_t served;
     uint8_t store[KARRAMOTX_STORE];
 };
 
@@ -21,11 +23,20 @@ struct connection {
 void connection_begin(struct connection *c);
 void connection_end(struct connection *c);
 
+/* Takes an arrival as far as there is room beside the bytes held, and answers how far. */
+size_t connection_take(struct connection *c, const uint8_t *bytes, size_t len);
+
 /*
- * Takes an arrival and serves every whole frame; what is left of it is held for the next. Answers false once a
- * bad length stands first: the frames ahead of it are served, and nothing behind it can be read.
+ * Serves the frame that stands first, and answers 0; 1, KARRAMOTX_NOT_ALL_THERE, where its rest has not arrived; and 2,
+ * KARRAMOTX_BAD_LENGTH, where nothing that follows can be read.
  */
-bool connection_serve(struct connection *c, const uint8_t *bytes, size_t len, FILE *out);
+uint64_t connection_serve(struct connection *c, FILE *out);
+
+/*
+ * Hands the session over, between two frames: `standby` goes on with it and with the bytes held, and `c` has ended.
+ * Answers false where that can't be done: `c` is then as it was.
+ */
+bool connection_hand_over(struct connection *c, struct connection *standby, FILE *out);
 
 /* How many bytes are held: the beginning of a frame whose rest has not arrived, or the four of a bad length. */
 size_t connection_held(const struct connection *c);

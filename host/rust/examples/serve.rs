@@ -1,5 +1,6 @@
 //! A complete small server, and a client to try it with: the twin of `host/c/example.c`. It serves the
-//! client's conversation, which arrives cut at odd places, and prints what it does.
+//! client's conversation, which arrives cut at odd places, and prints what it does. In the middle of a load
+//! the session is handed over to a standby, which serves what follows.
 //!
 //!     cargo run --example serve
 
@@ -13,10 +14,19 @@ use std::ops::Range;
 const COLUMNS: u64 = 2;
 const ROWS: u64 = 5;
 
+/// How many frames the first server serves.
+const HAND_OVER_AFTER: u64 = 7;
+
 /// A result, which the rows of a cursor are sent from.
 struct QueryResult {
     columns: u64,
     rows: Range<u64>,
+}
+
+impl QueryResult {
+    fn new() -> QueryResult {
+        QueryResult { columns: COLUMNS, rows: 0..ROWS }
+    }
 }
 
 /// The made-up engine: the result of each cursor, at that cursor's place, and one just made.
@@ -27,6 +37,14 @@ struct Engine {
 }
 
 impl Engine {
+    /// After a hand-over: the results of the session's cursors, made anew at the same places. A real engine
+    /// runs the statements again, so that each has the rows that it had.
+    fn take_over(session: &Session) -> Engine {
+        let mut engine = Engine::default();
+        session.cursors().for_each(|cursor| engine.results[cursor.place] = Some(QueryResult::new()));
+        engine
+    }
+
     /// Does the work that a frame wants. A statement has a placeholder for each question mark in it; one whose
     /// text holds "oops" can't be prepared.
     fn work(&mut self, told: &Inspection) -> Report {
@@ -39,7 +57,7 @@ impl Engine {
                 Report::Prepared { placeholders: body.iter().filter(|b| **b == b'?').count() as u64 }
             }
             (Ok(Work::Execute | Work::Open), _) => {
-                self.made = Some(QueryResult { columns: COLUMNS, rows: 0..ROWS });
+                self.made = Some(QueryResult::new());
                 Report::Result { columns: COLUMNS, rows: ROWS }
             }
             (Ok(Work::Fetch(_)), _) => Report::Done,
@@ -122,6 +140,8 @@ struct Connection {
     engine: Engine,
     /// Whether its client has sent a padded number.
     pads: bool,
+    /// Frames served, in this server and in the one that handed the session over.
+    served: u64,
 }
 
 impl Connection {
@@ -134,6 +154,7 @@ impl Connection {
         print(frame, &told, &step, self.engine.result(&told));
         self.engine.settle(&told, &step);
         self.note_padding(step.padded);
+        self.served += 1;
     }
 
     /// Notes a client at its first padded frame, and not again.
@@ -144,6 +165,18 @@ impl Connection {
         self.pads |= padded;
     }
 
+    /// Hands the session over, between two frames: the standby goes on with it and with the bytes held.
+    fn hand_over(&self, frames: &Frames) -> Result<(Connection, Frames), Refusal> {
+        let image = self.session.image();
+        println!("Handed over to the standby\n    image {}", hex(&image));
+        // the standby's part: image and held bytes may have come over a network
+        let (mut session, mut reader) = (Session::new(), Frames::new());
+        session.restore(&image)?;
+        assert_eq!(reader.push(frames.held()), frames.held().len()); // a store has room for what another holds
+        let engine = Engine::take_over(&session);
+        Ok((Connection { session, engine, ..*self }, reader))
+    }
+
     /// Takes an arrival and serves every whole frame; what is left of it is held for the next.
     fn serve(&mut self, frames: &mut Frames, mut arrival: &[u8]) -> Result<(), Refusal> {
         while !arrival.is_empty() {
@@ -151,6 +184,9 @@ impl Connection {
             arrival = &arrival[taken..];
             while let Some(frame) = frames.next_frame()? {
                 self.serve_frame(frame);
+                if self.served == HAND_OVER_AFTER {
+                    (*self, *frames) = self.hand_over(frames)?;
+                }
             }
         }
         Ok(())
@@ -188,7 +224,7 @@ fn conversation() -> Result<Vec<u8>, Refusal> {
         fetch(None)?,                                                          // refused: the cursor is gone
         open(2)?,
         fetch_padded(),       // one more, the cursor id in five bytes
-        fetch(None)?,         // FetchDone
+        fetch(None)?,         // FetchDone, from the standby
         fetch(None)?,         // refused: all rows are sent
         prepare(2, b"oops")?, // the engine fails
         ClientMessage::Close { cursor: 1 }.to_vec()?,

@@ -103,7 +103,7 @@
 //! fn take_over(image: &[u8], held: &[u8]) -> Result<(Session, Frames), Refusal> {
 //!     let (mut session, mut frames) = (Session::new(), Frames::new());
 //!     session.restore(image)?;
-//!     assert_eq!(frames.push(held), held.len()); // what another reader held has room
+//!     assert_eq!(frames.push(held), held.len()); // a store has room for what another holds
 //!     // let the engine make plans and results anew here, each at the place of its entry
 //!     Ok((session, frames))
 //! }
