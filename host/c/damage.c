@@ -17,6 +17,15 @@ uint64_t below(uint64_t n)
     return (state * 0x2545f4914f6cdd1du >> 32) % n;
 }
 
+bool untouched(const uint8_t *bytes, size_t len)
+{
+    for (size_t i = 0; i < len; i++) {
+        if (bytes[i] != UNTOUCHED)
+            return false;
+    }
+    return true;
+}
+
 uint8_t *guarded_end(size_t room)
 {
     uint8_t *start = mmap(NULL, room + PAGE, PROT_READ | PROT_WRITE, MAP_PRIVATE | MAP_ANONYMOUS, -1, 0);

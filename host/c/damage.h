@@ -4,7 +4,9 @@
 
 #include "karramotx.h"
 
-enum { PAGE = 4096 };
+/* Bytes on either side of what may be written have a value that shows whether they were. */
+enum { PAGE = 4096, GUARD = 64, UNTOUCHED = 0xa5 };
+bool untouched(const uint8_t *bytes, size_t len);
 
 /* Numbers below n, at most 2^32; the same in every run. */
 uint64_t below(uint64_t n);

@@ -2,14 +2,16 @@
  * Feeds a session damaged frames, wrong reports and reply buffers of every length, and asks after each step
  * whether the session is still sound and nothing else was touched, whether the cursors that live are those whose
  * results a host has kept and not freed, and whether look and step say the same of padded numbers. Frame and reply end
- * at a page that no one may read or write, so that a byte too far ends the program. Then as many steps on sessions of
- * any bits, and as many operations of a reader on streams cut at random (cuts.c).
+ * at a page that no one may read or write, so that a byte too far ends the program. Now and then the session is written
+ * to an image and read back, and damaged images are read (images.c). Then as many steps on sessions of any bits, and as
+ * many operations of a reader on streams cut at random (cuts.c).
  *
  *     survive [STEPS]
  */
 #include "client.h"
 #include "cuts.h"
 #include "damage.h"
+#include "images.h"
 #include "inspections.h"
 #include "server.h"
 
@@ -17,8 +19,8 @@
 #include <stdlib.h>
 #include <string.h>
 
-/* SPARE bytes take what a part, padding and damage add to a frame. */
-enum { ROOM = 8192, GUARD = 64, MAX_REPLY = 200, SPARE = 16 };
+/* SPARE bytes take what a part, padding and damage add to a frame; one step in IMAGE_EVERY is followed by images. */
+enum { ROOM = 8192, MAX_REPLY = 200, SPARE = 16, IMAGE_EVERY = 16 };
 
 /* A frame of the client's conversation. */
 static size_t spoken_frame(const uint8_t *talk, size_t talk_len, uint8_t *frame)
@@ -70,15 +72,6 @@ static struct {
     uint8_t after[GUARD];
 } host;
 
-static bool untouched(const uint8_t *bytes, size_t len)
-{
-    for (size_t i = 0; i < len; i++) {
-        if (bytes[i] != 0xa5)
-            return false;
-    }
-    return true;
-}
-
 /* Frame and reply end here; the client's frames; how often each reason was met; and how many steps said padded. */
 static uint8_t *frame_end, *reply_end;
 static uint8_t talk[ROOM / 2];
@@ -119,7 +112,7 @@ static bool survives(const uint8_t *bytes, size_t len)
     uint8_t *frame = frame_end - len;
     uint8_t *reply = reply_end - room;
     memcpy(frame, bytes, len);
-    memset(reply - GUARD, 0xa5, room + GUARD);
+    memset(reply - GUARD, UNTOUCHED, room + GUARD);
     struct karramotx_session before = host.session;
     struct karramotx_inspection told = karramotx_inspect(&host.session, frame, len);
     bool looked = inspection_agrees(&told, &host.session, frame, len) &&
@@ -176,6 +169,7 @@ static bool steps_survive(uint64_t steps, bool wild)
         size_t len = some_frame(talk, talk_len, bytes, sizeof bytes - SPARE);
         bool good = survives(bytes, len) && counts_agree(&host.session);
         bool sound = session_is_sound(&host.session) && kept_results == live_cursors(&host.session);
+        good = good && (n % IMAGE_EVERY != 0 || images_survive(&host.session, !wild));
         if (!good || (!wild && !sound)) {
             fprintf(stderr, "survive: step %" PRIu64 " left something behind\n", n);
             return false;
@@ -185,6 +179,7 @@ static bool steps_survive(uint64_t steps, bool wild)
     for (size_t i = 0; i < sizeof met / sizeof met[0]; i++)
         printf(" %zu:%" PRIu64, i, met[i]);
     printf("; padded: %" PRIu64 "\n", met_padded);
+    images_print();
     return true;
 }
 
@@ -194,6 +189,6 @@ int main(int argc, char **argv)
     talk_len = client_conversation(talk, sizeof talk);
     frame_end = guarded_end(ROOM);
     reply_end = guarded_end(ROOM);
-    memset(&host, 0xa5, sizeof host);
+    memset(&host, UNTOUCHED, sizeof host);
     return steps_survive(steps, false) && steps_survive(steps, true) && cuts_survive(steps) ? 0 : 1;
 }
