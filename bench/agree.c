@@ -1,6 +1,7 @@
 /* The plain C side against the library on random steps: what a frame holds, its arguments, the look, the answer, the
- * reply and the session after it; each says also whether a varint was padded. Ends at the first difference. Arguments:
- * how many steps, and a seed. */
+ * reply and the session after it; each says also whether a varint was padded. Between them images are written and read,
+ * of the sessions met and of any, whole and damaged. Ends at the first difference. Arguments: how many steps, and a
+ * seed. */
 #include <stdio.h>
 #include <stdlib.h>
 #include <string.h>
@@ -9,11 +10,17 @@
 #include "frames.h"
 #include "random.h"
 #include "random_frames.h"
+#include "random_images.h"
+
+/* Steps for one that images follow. */
+enum { IMAGES = 8 };
 
 static Session plain;
 static LibrarySession library;
 /* How often each reason was met, and how often with a padded frame. */
 static uint64_t seed, steps, met[REASONS], padded[REASONS];
+/* Images written, and read: accepted and refused. */
+static uint64_t images, restored, refused;
 
 static void fail(const char *what, const uint8_t *frame, size_t len, const Report *r, size_t reply_len)
 {
@@ -91,6 +98,72 @@ static void random_step(void)
     step_both(&f, len, &report, reply_len);
 }
 
+/* ---- images */
+
+static void fail_image(const char *what, const uint8_t *image, size_t len)
+{
+    printf("seed %lu, step %lu: the plain C side and the library differ in %s\n", seed, steps, what);
+    printf("an image of %zu bytes:", len);
+    for (size_t i = 0; i < len; i++)
+        printf(" %02x", image[i]);
+    printf("\n");
+    exit(1);
+}
+
+/* In a buffer that any fits, one that it just fits, one byte less, and any. */
+static size_t write_both(const Session *p, const LibrarySession *l, uint8_t *image)
+{
+    size_t len = plain_image(p, image, MAX_IMAGE);
+    const size_t rooms[] = {MAX_IMAGE, len, len - 1, pick(MAX_IMAGE)};
+    for (size_t i = 0; i < sizeof rooms / sizeof *rooms; i++) {
+        const char *what = differ_writing(p, l, rooms[i]);
+        if (what)
+            fail_image(what, image, len);
+    }
+    images++;
+    return len;
+}
+
+/* The image goes into memory of its own length, so that a tool sees a read behind it. */
+static uint32_t restore_both(Session *p, LibrarySession *l, const uint8_t *bytes, size_t len)
+{
+    uint8_t *image = malloc(len + !len);
+    uint32_t reason;
+    if (!image)
+        exit(1);
+    memcpy(image, bytes, len);
+    const char *what = differ_restoring(p, l, image, len, &reason);
+    if (what)
+        fail_image(what, image, len);
+    free(image);
+    restored += reason == ACCEPTED;
+    refused += reason != ACCEPTED;
+    return reason;
+}
+
+/* Of the session met, of any session, and of none; damaged more than once. Each is read over the session met. */
+static void random_images(void)
+{
+    static uint8_t image[IMAGE_ROOM];
+    Session p, any;
+    LibrarySession l, any_library;
+    size_t len = write_both(&plain, &library, image);
+    if (restore_both(&plain, &library, image, len) != ACCEPTED)
+        fail_image("nothing, but refuse the image of a session", image, len);
+    random_session(&any);
+    library_of(&any_library, &any);
+    if (one_in(4))
+        len = write_both(&any, &any_library, image);
+    else if (one_in(4))
+        len = random_image(image);
+    for (uint32_t times = 4; times > 0; times--) {
+        p = plain;
+        l = library;
+        restore_both(&p, &l, image, len);
+        len = damage_image(image, len);
+    }
+}
+
 /* All that can be answered was. */
 static bool all_met(void)
 {
@@ -104,6 +177,10 @@ static bool all_met(void)
             return false;
         }
     }
+    if (restored == 0 || refused == 0) {
+        printf("but images were never accepted or never refused\n");
+        return false;
+    }
     return true;
 }
 
@@ -115,6 +192,8 @@ int main(int argc, char **argv)
     begin_session();
     while (steps < wanted) {
         random_step();
+        if (one_in(IMAGES))
+            random_images();
         if (one_in(500) || (plain.closed && one_in(4)))
             begin_session();
     }
@@ -124,6 +203,6 @@ int main(int argc, char **argv)
     printf("; of them padded:");
     for (int i = 0; i < REASONS; i++)
         printf(" %lu", padded[i]);
-    printf("\n");
+    printf("\nand on %lu images written, %lu read and %lu refused\n", images, restored, refused);
     return all_met() ? 0 : 1;
 }

@@ -11,6 +11,7 @@
 #include "lines.h"
 #include "measure.h"
 #include "others.h"
+#include "plain_image.h"
 
 /* ---- agreement */
 
@@ -22,6 +23,23 @@ static void stop(const Line *line, const char *what)
     exit(1);
 }
 
+/* The session's image is the line's, and is read over another session. */
+static const char *differ_in_image(const Line *line)
+{
+    const Frame *f = &line->event.frame;
+    Session plain = line_at(0)->plain_session;
+    LibrarySession library = line_at(0)->library_session;
+    uint32_t reason;
+    const char *what = differ_restoring(&plain, &library, f->bytes, f->len, &reason);
+    if (!what && reason != ACCEPTED)
+        what = "nothing, but refuse the image";
+    if (!what)
+        what = differ_writing(&line->plain_session, &line->library_session, MAX_IMAGE);
+    uint8_t image[MAX_IMAGE];
+    size_t len = plain_image(&line->plain_session, image, sizeof image);
+    return what || (len == f->len && !memcmp(image, f->bytes, len)) ? what : "the image from the line's own";
+}
+
 static void compare(Line *line)
 {
     const Frame *f = &line->event.frame;
@@ -30,6 +48,8 @@ static void compare(Line *line)
     Answer a;
     stop(line, differ_reading(f->bytes, f->len));
     stop(line, differ_stepping(&plain, &library, f->bytes, f->len, &line->event.report, MIN_REPLY, &a));
+    if (line->image)
+        stop(line, differ_in_image(line));
     if (line->stream && !stream_agrees(line->stream))
         stop(line, "the frames handed out");
     if (line->plain == plain_night)

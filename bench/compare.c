@@ -2,6 +2,11 @@
 
 #include <string.h>
 
+#include "plain_image.h"
+
+/* What is left alone must show. */
+enum { BEFORE = 0xa5 };
+
 static bool same_part(Part a, Part b)
 {
     return a.start == b.start && a.len == b.len;
@@ -68,8 +73,6 @@ const char *differ_reading(const uint8_t *frame, size_t len)
 const char *differ_stepping(Session *plain, LibrarySession *library, const uint8_t *frame, size_t len,
                             const Report *report, size_t reply_len, Answer *answer)
 {
-    /* what a step leaves alone must show */
-    enum { BEFORE = 0xa5 };
     uint8_t x[MIN_REPLY + 1], y[MIN_REPLY + 1];
     LibraryReport library_form = library_report(report);
     Inspection a, b;
@@ -89,5 +92,29 @@ const char *differ_stepping(Session *plain, LibrarySession *library, const uint8
         return "the reply";
     if (!library_holds(library, plain))
         return "the session";
+    return NULL;
+}
+
+const char *differ_writing(const Session *plain, const LibrarySession *library, size_t buf_len)
+{
+    uint8_t x[MAX_IMAGE], y[MAX_IMAGE];
+    memset(x, BEFORE, sizeof x);
+    memset(y, BEFORE, sizeof y);
+    if (plain_image(plain, x, buf_len) != library_image(library, y, buf_len))
+        return "the length of the image";
+    return memcmp(x, y, sizeof x) ? "the image" : NULL;
+}
+
+const char *differ_restoring(Session *plain, LibrarySession *library, const uint8_t *image, size_t len,
+                             uint32_t *reason)
+{
+    LibrarySession expected = *library;
+    *reason = plain_restore(plain, image, len);
+    if (library_restore(library, image, len) != *reason)
+        return "whether the image is accepted";
+    if (*reason == ACCEPTED)
+        library_of(&expected, plain);
+    if (memcmp(library, &expected, sizeof expected) || !library_holds(library, plain))
+        return "the session restored";
     return NULL;
 }

@@ -12,4 +12,11 @@ const char *differ_reading(const uint8_t *frame, size_t len);
 const char *differ_stepping(Session *plain, LibrarySession *library, const uint8_t *frame, size_t len,
                             const Report *report, size_t reply_len, Answer *answer);
 
+/* The image of both sessions, in a buffer of so many bytes. */
+const char *differ_writing(const Session *plain, const LibrarySession *library, size_t buf_len);
+
+/* An image that is read, and changes both sessions where it is accepted. */
+const char *differ_restoring(Session *plain, LibrarySession *library, const uint8_t *image, size_t len,
+                             uint32_t *reason);
+
 #endif

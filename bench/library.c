@@ -57,6 +57,23 @@ bool library_holds(const LibrarySession *session, const Session *plain)
     return true;
 }
 
+void library_of(LibrarySession *session, const Session *plain)
+{
+    *session = (LibrarySession){.closed = plain->closed};
+    for (int i = 0; i < MAX_STMTS; i++)
+        if (is_live(plain->live_stmts, MAX_STMTS, i)) {
+            session->stmt_ids[i] = plain->stmt_ids[i];
+            session->stmts[i] = (struct karramotx_stmt){.placeholders = plain->placeholders[i], .live = 1};
+        }
+    for (int i = 0; i < MAX_CURSORS; i++)
+        if (is_live(plain->live_cursors, MAX_CURSORS, i))
+            session->cursors[i] = (struct karramotx_cursor){.id = plain->cursor_ids[i],
+                                                            .stmt = plain->cursor_stmts[i],
+                                                            .rows = plain->rows[i],
+                                                            .sent = plain->sent[i],
+                                                            .live = 1};
+}
+
 /* ---- answers */
 
 static Message message_of(struct karramotx_message k)
@@ -115,6 +132,18 @@ Answer library_step(LibrarySession *session, const uint8_t *frame, size_t len, c
     struct karramotx_answer k = karramotx_step(session, frame, len, *report, reply, reply_len);
     return (Answer){narrow(k.reason), narrow(k.used),  narrow(k.reply), k.columns,
                     k.padded,         narrow(k.first), narrow(k.count)};
+}
+
+/* A refusal that is not the one expected has no length like it. */
+size_t library_image(const LibrarySession *session, uint8_t *buf, size_t buf_len)
+{
+    struct karramotx_sent k = karramotx_image(session, buf, buf_len);
+    return k.reason == KARRAMOTX_ACCEPTED || (k.reason == KARRAMOTX_NO_ROOM && k.len == 0) ? k.len : SIZE_MAX;
+}
+
+uint32_t library_restore(LibrarySession *session, const uint8_t *image, size_t len)
+{
+    return narrow(karramotx_restore(session, image, len));
 }
 
 void library_start_over(LibraryReader *r)
@@ -189,6 +218,18 @@ static inline uint64_t step(LibrarySession *session, const Event *e)
 uint64_t library_steps(Line *line)
 {
     return step(&line->library_session, &line->event);
+}
+
+uint64_t library_writes_image(Line *line)
+{
+    uint8_t image[KARRAMOTX_MAX_IMAGE];
+    struct karramotx_sent sent = karramotx_image(&line->library_session, image, sizeof image);
+    return sent.reason + sent.len;
+}
+
+uint64_t library_reads_image(Line *line)
+{
+    return karramotx_restore(&line->library_session, line->event.frame.bytes, line->event.frame.len);
 }
 
 uint64_t library_plays(const Event *const *events, size_t count)

@@ -21,6 +21,8 @@ LibraryReport library_report(const Report *report);
 
 void library_fresh(LibrarySession *session);
 bool library_holds(const LibrarySession *session, const Session *plain);
+/* The session with the plain one's entries and zeros in every free place. */
+void library_of(LibrarySession *session, const Session *plain);
 void library_read(const uint8_t *frame, size_t len, Message *m);
 /* Whether the frame has no body and its arguments are refused for this reason. */
 bool library_refuses(const uint8_t *frame, size_t len, uint32_t reason);
@@ -29,6 +31,9 @@ Look library_look(const LibrarySession *session, const uint8_t *frame, size_t le
 void library_inspect(const LibrarySession *session, const uint8_t *frame, size_t len, Inspection *told);
 Answer library_step(LibrarySession *session, const uint8_t *frame, size_t len, const LibraryReport *report,
                     uint8_t *reply, size_t reply_len);
+/* As plain_image and plain_restore answer. */
+size_t library_image(const LibrarySession *session, uint8_t *buf, size_t buf_len);
+uint32_t library_restore(LibrarySession *session, const uint8_t *image, size_t len);
 void library_start_over(LibraryReader *r);
 PlainPushed library_push(LibraryReader *r, const uint8_t *bytes, size_t len);
 PlainFrame library_next_frame(LibraryReader *r);

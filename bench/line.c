@@ -1,5 +1,7 @@
 #include "line.h"
 
+#include "plain_image.h"
+
 void set_report(Event *event, Report report)
 {
     event->report = report;
@@ -53,6 +55,17 @@ static inline uint64_t step(Session *session, const Event *e)
 uint64_t plain_steps(Line *line)
 {
     return step(&line->plain_session, &line->event);
+}
+
+uint64_t plain_writes_image(Line *line)
+{
+    uint8_t image[MAX_IMAGE];
+    return plain_image(&line->plain_session, image, sizeof image);
+}
+
+uint64_t plain_reads_image(Line *line)
+{
+    return plain_restore(&line->plain_session, line->event.frame.bytes, line->event.frame.len);
 }
 
 uint64_t plain_plays(const Event *const *events, size_t count)

@@ -1,4 +1,4 @@
-/* One line of the benchmark: a frame, and what each side does with it once. */
+/* One line of the benchmark: a frame or an image, and what each side does with it once. */
 #ifndef LINE_H
 #define LINE_H
 
@@ -26,6 +26,7 @@ struct Line {
     Session plain_session;
     LibrarySession library_session;
     bool others;      /* whether other libraries read the frame too, arguments and all */
+    bool image;       /* whether the frame is none but the image of the session */
     Stream *stream;   /* where frames arrive; the figures are then of one of its frames */
 };
 
@@ -37,6 +38,8 @@ uint64_t plain_args(Line *line);
 uint64_t plain_looks(Line *line);
 uint64_t plain_inspects(Line *line);
 uint64_t plain_steps(Line *line);
+uint64_t plain_writes_image(Line *line);
+uint64_t plain_reads_image(Line *line);
 uint64_t plain_night(Line *line);
 uint64_t plain_arrives(Line *line);
 uint64_t library_reads(Line *line);
@@ -44,6 +47,8 @@ uint64_t library_args(Line *line);
 uint64_t library_looks(Line *line);
 uint64_t library_inspects(Line *line);
 uint64_t library_steps(Line *line);
+uint64_t library_writes_image(Line *line);
+uint64_t library_reads_image(Line *line);
 uint64_t library_night(Line *line);
 uint64_t library_arrives(Line *line);
 

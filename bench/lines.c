@@ -5,8 +5,9 @@
 #include <string.h>
 
 #include "odd_frames.h"
+#include "plain_image.h"
 
-/* The session of every line: all places are taken, and what a line asks for stands in the middle of its table. Its
+/* The session of every line but the images: all places are taken, and what a line asks for stands in the middle. Its
  * ids do not depend on the limits, so that the frames are the same at any; all other ids count from OTHERS on. An id
  * is one byte long in a frame, or as many as the number at the end of its name says. */
 enum { CURSOR = 8, OPENED = 32, EXECUTED, REPLACED, NOT_LIVE = 99, OTHERS = 1000 };
@@ -57,6 +58,12 @@ static Frame *inspecting(const char *name)
 static Frame *stepping(const char *name, Report report)
 {
     return &add(name, plain_steps, library_steps, report)->event.frame;
+}
+
+static void no_session(const Line *line)
+{
+    printf("%s: its session cannot be made\n", line->name);
+    exit(1);
 }
 
 /* ---- the list */
@@ -181,6 +188,65 @@ static void long_frames(Line *line)
     stream_finish(&stream);
 }
 
+/* ---- images */
+
+/* A table's places from 0 on; of each the numbers behind its place. */
+typedef struct {
+    uint32_t stmts, cursors;
+    uint32_t (*id)(uint32_t place);
+    uint32_t placeholders, rows, sent;
+} Shape;
+
+static uint32_t counted_up(uint32_t place)
+{
+    return 1 + place;
+}
+
+/* Ids of five bytes that neither rise nor fall. */
+static uint32_t scattered(uint32_t place)
+{
+    return 1u << 31 | place * 0x85ebca6bu;
+}
+
+/* The line's frame is the image, and its session, which both sides read from it, is of its own. */
+static void image_line(const char *name, Side plain, Side library, const Shape *shape)
+{
+    Line *l = add(name, plain, library, none);
+    Frame *f = &l->event.frame;
+    l->image = true;
+    put_number(f, 1);
+    put_number(f, 0);
+    put_number(f, shape->stmts);
+    for (uint32_t place = 0; place < shape->stmts; place++) {
+        put_number(f, place);
+        put_number(f, shape->id(place));
+        put_number(f, shape->placeholders);
+    }
+    put_number(f, shape->cursors);
+    for (uint32_t place = 0; place < shape->cursors; place++) {
+        put_number(f, place);
+        put_number(f, shape->id(place));
+        put_number(f, shape->id(place * (shape->stmts / shape->cursors)));
+        put_number(f, shape->rows);
+        put_number(f, shape->sent);
+    }
+    plain_fresh(&l->plain_session);
+    library_fresh(&l->library_session);
+    if (plain_restore(&l->plain_session, f->bytes, f->len) != ACCEPTED ||
+        library_restore(&l->library_session, f->bytes, f->len) != ACCEPTED)
+        no_session(l);
+}
+
+static void add_images(void)
+{
+    static const Shape full = {MAX_STMTS, MAX_CURSORS, scattered, MAX_PLACEHOLDERS, UINT32_MAX, UINT32_MAX / 2};
+    static const Shape usual = {6, 2, counted_up, 2, 60000, 900};
+    image_line("image write, full", plain_writes_image, library_writes_image, &full);
+    image_line("image write, usual", plain_writes_image, library_writes_image, &usual);
+    image_line("image read, full", plain_reads_image, library_reads_image, &full);
+    image_line("image read, usual", plain_reads_image, library_reads_image, &usual);
+}
+
 /* ---- their session */
 
 static void fill_step(Line *line, const Frame *f, Report report)
@@ -190,10 +256,8 @@ static void fill_step(Line *line, const Frame *f, Report report)
     Answer a;
     plain_step(&line->plain_session, f->bytes, f->len, &report, reply, sizeof reply, &a);
     Answer b = library_step(&line->library_session, f->bytes, f->len, &form, reply, sizeof reply);
-    if (a.reason != ACCEPTED || b.reason != ACCEPTED) {
-        printf("%s: its session cannot be made\n", line->name);
-        exit(1);
-    }
+    if (a.reason != ACCEPTED || b.reason != ACCEPTED)
+        no_session(line);
 }
 
 static unsigned stmt_id(unsigned place)
@@ -243,6 +307,7 @@ void make_lines(void)
         lines[i].plain_session = lines[0].plain_session;
         lines[i].library_session = lines[0].library_session;
     }
+    add_images();
 }
 
 /* ---- for others */

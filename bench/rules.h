@@ -26,6 +26,9 @@ enum {
     REASONS
 };
 
+/* Why an image is refused; no frame is. */
+enum { BAD_IMAGE = 18 };
+
 /* The work that a look wants, and what an engine reports. */
 enum { WORK_NONE, WORK_PREPARE, WORK_EXECUTE, WORK_OPEN, WORK_FETCH };
 enum { REPORT_NONE, REPORT_PREPARED, REPORT_RESULT, REPORT_DONE, REPORT_FAILED };
