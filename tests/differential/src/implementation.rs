@@ -3,6 +3,8 @@
 //! Numbers are those of the rules: a `kind` is a client message type, a
 //! `reason` a refusal number with 0 for none.
 
+use crate::tally::Tally;
+
 pub const SESS_RESET: u8 = 6;
 pub const SESS_CLOSE: u8 = 7;
 pub const PREPARE: u8 = 40;
@@ -26,6 +28,13 @@ pub const HEAD: usize = 4;
 pub const SMALLEST_REPLY: usize = 128;
 /// The bytes of a reader's store.
 pub const STORE: usize = 65_536;
+/// The bytes of the longest image that any session has.
+pub const MAX_IMAGE: usize = 1_044;
+
+/// A buffer that is too small to be written to.
+pub const TOO_SMALL: u8 = 3;
+/// An image that is not acceptable.
+pub const BAD_IMAGE: u8 = 18;
 
 /// What stands first in a reader's store, by the number it is told with.
 pub const WHOLE_FRAME: u8 = 0;
@@ -221,6 +230,16 @@ pub struct Tables {
     pub cursors: [Cursor; CURSORS],
 }
 
+/// A session as a host may make one: any words. Of a flag any number but 0 is yes.
+#[derive(Clone, Debug, PartialEq, Eq)]
+pub struct Words {
+    pub closed: u32,
+    /// Whether it is live, id, placeholders.
+    pub statements: [[u32; 3]; STATEMENTS],
+    /// Whether it is live, id, statement id, rows, rows sent.
+    pub cursors: [[u32; 5]; CURSORS],
+}
+
 /// A message to write. What its kind has no field for is not consulted.
 #[derive(Clone, Copy, Debug, Default, PartialEq, Eq)]
 pub struct Draft {
@@ -269,7 +288,8 @@ pub struct NextFrame {
 
 /// Everything the comparison asks of an implementation.
 pub trait Implementation {
-    type Session: Clone;
+    /// Two sessions are equal if they are so word for word.
+    type Session: Clone + PartialEq;
     /// A reader of arrivals with its store.
     type Reader;
 
@@ -294,6 +314,17 @@ pub trait Implementation {
         report: Report,
         reply: &mut [u8],
     ) -> (Self::Session, Answer);
+
+    /// A session that no step made.
+    fn made(&self, words: &Words) -> Self::Session;
+    /// Writes the session's image at the front of a buffer.
+    fn image(&self, session: &Self::Session, out: &mut [u8]) -> Written;
+    /// Reads an image into a session; gives that, and the reason.
+    fn restore(&self, session: Self::Session, image: &[u8]) -> (Self::Session, u8);
+    /// The tally that starts at an accepted image. Only a mistake keeps another one.
+    fn tally_from(&self, image: &[u8]) -> Result<Tally, String> {
+        Tally::from_image(image)
+    }
 
     fn write(&self, draft: &Draft, body: &[u8], args: &[u8], out: &mut [u8]) -> Written;
     /// Writes `scalar` as an args field behind the first `at` bytes.

@@ -8,6 +8,7 @@ pub use reader::Reader;
 use crate::implementation::*;
 use karramotx::ffi;
 
+#[derive(Clone, Copy, Debug)]
 pub struct Library;
 
 fn narrow<T: TryFrom<u64>>(number: u64) -> T {
@@ -222,6 +223,35 @@ impl Implementation for Library {
             count: answer.count,
         };
         (session, answer)
+    }
+
+    fn made(&self, words: &Words) -> ffi::Session {
+        ffi::Session {
+            stmt_ids: words.statements.map(|[_, id, _]| id),
+            stmts: words.statements.map(|[live, _, placeholders]| ffi::Stmt { placeholders, live }),
+            cursors: words.cursors.map(|[live, id, stmt, rows, sent]| ffi::Cursor {
+                id,
+                stmt,
+                rows,
+                sent,
+                live,
+            }),
+            closed: words.closed,
+        }
+    }
+
+    fn image(&self, session: &ffi::Session, out: &mut [u8]) -> Written {
+        // Where the length is 0 the pointer may be null.
+        let buffer = if out.is_empty() { std::ptr::null_mut() } else { out.as_mut_ptr() };
+        // SAFETY: pointers and length are those of a session and a slice, and the buffer is borrowed uniquely.
+        written(unsafe { ffi::karramotx_image(session, buffer, out.len()) })
+    }
+
+    fn restore(&self, mut session: ffi::Session, image: &[u8]) -> (ffi::Session, u8) {
+        let bytes = if image.is_empty() { std::ptr::null() } else { image.as_ptr() };
+        // SAFETY: pointers and length are those of a session, which is borrowed uniquely, and a slice.
+        let reason = unsafe { ffi::karramotx_restore(&mut session, bytes, image.len()) };
+        (session, narrow(reason))
     }
 
     fn write(&self, draft: &Draft, body: &[u8], args: &[u8], out: &mut [u8]) -> Written {

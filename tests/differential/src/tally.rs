@@ -2,9 +2,10 @@
 //!
 //! It knows openings and three totals and nothing of the session; only the
 //! last term, the rows owed, is read from the cursor table it is checked with.
+//! After a restore it starts at the image, which the reference reads for it.
 
 use crate::implementation::*;
-use crate::model::Model;
+use crate::model::{Model, Session};
 
 const FETCH_DONE: u8 = 14;
 
@@ -12,6 +13,8 @@ const FETCH_DONE: u8 = 14;
 struct Opening {
     cursor: u32,
     stmt: u32,
+    /// The number of its first row: 0, or the rows that were sent before it was restored.
+    base: u64,
     reported: u64,
     sent: u64,
 }
@@ -26,6 +29,26 @@ pub struct Tally {
 }
 
 impl Tally {
+    /// A history that starts at an image: each cursor of it counts as an
+    /// opening of the rows then left, numbered from its rows sent on.
+    pub fn from_image(image: &[u8]) -> Result<Tally, String> {
+        Tally::starting(image, |cursor| (cursor.sent, cursor.rows - cursor.sent))
+    }
+
+    /// The same, where `counts` says the first row of a cursor and how many it counts with.
+    pub fn starting(image: &[u8], counts: impl Fn(&Cursor) -> (u64, u64)) -> Result<Tally, String> {
+        let (session, reason) = Model::reference().restore(Session::fresh(), image);
+        if reason != 0 {
+            return Err(format!("accepted an image that is refused {reason}"));
+        }
+        let mut tally = Tally::default();
+        for cursor in session.tables.cursors.iter().filter(|c| c.live) {
+            let (base, reported) = counts(cursor);
+            tally.add(Opening { cursor: cursor.id, stmt: cursor.stmt, base, reported, sent: 0 });
+        }
+        Ok(tally)
+    }
+
     /// Feeds one step; `reply` is the written part of the reply buffer.
     /// Says what broke demand 3, if anything did.
     pub fn feed(
@@ -45,7 +68,10 @@ impl Tally {
         }
         self.end(&message);
         match message.kind {
-            CURSOR_OPEN => self.open(&message, report),
+            CURSOR_OPEN => {
+                let (cursor, stmt) = (message.cursor, message.stmt);
+                self.add(Opening { cursor, stmt, base: 0, reported: report.rows, sent: 0 });
+            }
             CURSOR_FETCH => {}
             // No other step sends rows of an opening.
             _ => return Ok(()),
@@ -67,10 +93,9 @@ impl Tally {
         self.openings.retain(|o| !ends(o));
     }
 
-    fn open(&mut self, message: &Message, report: Report) {
-        let (cursor, stmt) = (message.cursor, message.stmt);
-        self.openings.push(Opening { cursor, stmt, reported: report.rows, sent: 0 });
-        self.reported += u128::from(report.rows);
+    fn add(&mut self, opening: Opening) {
+        self.reported += u128::from(opening.reported);
+        self.openings.push(opening);
     }
 
     /// Adds the rows an Open or a Fetch sends, and checks their numbers and
@@ -78,8 +103,9 @@ impl Tally {
     fn send(&mut self, cursor: u32, answer: &Answer, done: bool) -> Result<(), String> {
         let opening = self.openings.iter_mut().find(|o| o.cursor == cursor);
         let opening = opening.ok_or("rows sent for no opening")?;
-        if answer.first != opening.sent {
-            return Err(format!("row {} sent where {} is next", answer.first, opening.sent));
+        let next = opening.base + opening.sent;
+        if answer.first != next {
+            return Err(format!("row {} sent where {next} is next", answer.first));
         }
         if answer.count > opening.reported - opening.sent {
             return Err(format!("{} rows sent past the end", answer.count));

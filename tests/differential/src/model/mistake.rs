@@ -286,6 +286,108 @@ mistakes! {
     /// An argument that just fills the buffer is refused 3.
     FullStretchRefused,
 
+    // Writing images.
+    /// As much of an image as there is room for is written before 3.
+    WrittenInPart,
+    /// A buffer that the image just fills is refused 3.
+    FullBufferRefused,
+    /// A buffer that the longest image would not fit is refused 3.
+    RoomForLongest,
+    /// The bytes past the image are cleared.
+    RestCleared,
+    /// A session of a host's own that breaks a rule is refused 18.
+    UnrulyNotWritten,
+    /// In a session of a host's own a flag is yes only if it is 1.
+    OnlyOneIsYes,
+    /// The image of a closed session says open.
+    ClosedNotWritten,
+    /// Cursors with all rows sent are left out.
+    DoneLeftOut,
+    /// Places are counted from 1.
+    PlacesFromOne,
+    /// Entries are numbered through, free places forgotten.
+    PlacesCloseUp,
+    /// Rows sent stand before reported rows.
+    SentBeforeReported,
+    /// A cursor's statement id stands before its own.
+    StatementIdFirst,
+
+    // Reading images.
+    /// An image that ends early gives what it has until there.
+    CutTaken,
+    /// The image of no bytes gives a fresh session.
+    NoImageIsFresh,
+    /// Padded numbers are accepted.
+    PaddedTaken,
+    /// Bits past 64 are dropped as in a payload.
+    DroppedBitsTaken,
+    /// Bytes behind an image are not looked at.
+    BehindTaken,
+    /// The form is not looked at.
+    AnyForm,
+    /// A closed flag of 2 is yes.
+    AnyFlag,
+    /// A closed session may have entries.
+    ClosedWithEntriesTaken,
+    /// A place may stand twice, and the later entry stays.
+    PlaceTwiceTaken,
+    /// Places may stand in any order.
+    AnyOrder,
+    /// A statement at place 64 is dropped.
+    StatementPlacePast,
+    /// A cursor at place 16 is dropped.
+    CursorPlacePast,
+    /// Place 63 of the statements and place 15 of the cursors are refused.
+    LastPlaceRefused,
+    /// Two statements may have one id.
+    StatementTwiceTaken,
+    /// Two cursors may have one id.
+    CursorTwiceTaken,
+    /// A statement id is cut to 32 bits.
+    StatementIdWide,
+    /// A cursor id is cut to 32 bits.
+    CursorIdWide,
+    /// The statement id of a cursor is cut to 32 bits before it is looked for.
+    StatementIdCut,
+    /// An id of 0 is refused.
+    IdZeroRefused,
+    /// 2^32 reported rows are accepted.
+    RowsWide,
+    /// 65,536 placeholders are accepted from an image.
+    ManyPlaceholders,
+    /// A cursor may be on a statement that is not listed.
+    NoStatementTaken,
+    /// Two cursors may be on one statement.
+    TwoOnOneTaken,
+    /// More rows may be sent than reported.
+    SentAboveTaken,
+    /// A cursor with all rows sent is refused.
+    AllSentRefused,
+    /// Entries of the session that is read into stay where the image has none.
+    OldEntriesKept,
+    /// A closed session stays closed whatever it reads.
+    StaysClosed,
+    /// A closed session is restored open.
+    RestoredOpen,
+    /// Restored entries take the lowest places.
+    RestoredCloseUp,
+    /// A restored cursor has sent nothing.
+    RestoredSentNone,
+    /// A restored cursor has only the rows then left, numbered from 0.
+    RestoredFromZero,
+    /// A refused image leaves an empty session.
+    RefusedEmpties,
+    /// The statements of an image are taken before its cursors are judged.
+    RefusedHalfRead,
+
+    // Keeping the tally from an image on.
+    /// The rows of a restored cursor are numbered from 0.
+    TallyFromZero,
+    /// A restored cursor counts with all its reported rows.
+    TallyAllRows,
+    /// Restored cursors are no openings.
+    TallyForgets,
+
     // Reading arrivals.
     /// What stands behind a bad length is never dropped.
     KeepsBehindBadLength,
@@ -320,6 +422,11 @@ mistakes! {
 }
 
 impl Mistake {
+    /// Whether it is made with images, and shows in what is written or read.
+    pub fn is_on_images(self) -> bool {
+        (Mistake::WrittenInPart as usize..=Mistake::RefusedHalfRead as usize).contains(&(self as usize))
+    }
+
     /// Whether it is made with arrivals, where steps on frames would not show it.
     pub fn is_on_arrivals(self) -> bool {
         use Mistake::*;

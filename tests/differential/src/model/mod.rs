@@ -1,10 +1,12 @@
-//! The model: document 01 and items 1 to 3 of document 02 once more, written
+//! The model: document 01 and items 1 to 4 of document 02 once more, written
 //! from the papers alone.
 //!
 //! It is written to be read beside the document, one file for each chapter,
 //! and takes the plain way everywhere: lists of fields, copies of sessions.
 
 mod arrivals;
+mod faults;
+mod image;
 mod inspect;
 mod mistake;
 mod padded;
@@ -19,12 +21,15 @@ mod wire;
 mod write;
 
 pub use arrivals::Reader;
+pub use faults::Fault;
+pub use image::{Listed, ListedCursor, ListedStatement};
 pub use mistake::{Mistake, ALL as MISTAKES};
 pub use parts::Layer;
 pub use session::Session;
 pub use wire::shortest;
 
 use crate::implementation::*;
+use crate::tally::Tally;
 
 /// The model; told to, it makes one mistake.
 #[derive(Clone, Copy, Debug, Default)]
@@ -110,6 +115,27 @@ impl Implementation for Model {
 
     fn step(&self, session: Session, frame: &[u8], report: Report, reply: &mut [u8]) -> (Session, Answer) {
         self.take_step(session, frame, report, reply)
+    }
+
+    fn made(&self, words: &Words) -> Session {
+        self.session_made(words)
+    }
+
+    fn image(&self, session: &Session, out: &mut [u8]) -> Written {
+        self.write_image(session, out)
+    }
+
+    fn restore(&self, session: Session, image: &[u8]) -> (Session, u8) {
+        self.read_image(session, image)
+    }
+
+    fn tally_from(&self, image: &[u8]) -> Result<Tally, String> {
+        match self.mistake {
+            Some(Mistake::TallyFromZero) => Tally::starting(image, |c| (0, c.rows - c.sent)),
+            Some(Mistake::TallyAllRows) => Tally::starting(image, |c| (c.sent, c.rows)),
+            Some(Mistake::TallyForgets) => Ok(Tally::default()),
+            _ => Tally::from_image(image),
+        }
     }
 
     fn write(&self, draft: &Draft, body: &[u8], args: &[u8], out: &mut [u8]) -> Written {

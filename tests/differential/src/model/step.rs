@@ -5,9 +5,9 @@ use super::rules::work_of;
 use super::{Mistake, Model, Session};
 use crate::implementation::*;
 
-const MOST_PLACEHOLDERS: u64 = 65_535;
+pub const MOST_PLACEHOLDERS: u64 = 65_535;
 const MOST_COLUMNS: u64 = 4_096;
-const MOST_ROWS: u64 = u32::MAX as u64;
+pub const MOST_ROWS: u64 = u32::MAX as u64;
 
 /// An accepted step: the session behind it, the types of its reply frames,
 /// and the rows it sends.
