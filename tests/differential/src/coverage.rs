@@ -1,7 +1,7 @@
 //! What a run has met, so that one can see it was not idle.
 
 use crate::implementation::*;
-use crate::model::{Layer, Model};
+use crate::model::{Fault, Layer, Model};
 use std::fmt;
 
 const NAMES: [&str; 9] =
@@ -14,6 +14,7 @@ const TYPES: [&str; 10] =
 /// Reasons run from 0, for accepted, to 17.
 const REASONS: usize = 18;
 const LAYERS: usize = Layer::IN_PARTS.len();
+const FAULTS: usize = Fault::ALL.len();
 
 #[derive(Clone, Debug, Default)]
 pub struct Coverage {
@@ -30,7 +31,23 @@ pub struct Coverage {
     pub arguments: [u64; 10],
     pub drafts: [u64; REASONS],
     pub stretches: [u64; REASONS],
+    pub images: Images,
     pub arrivals: Arrivals,
+}
+
+/// What was met of images.
+#[derive(Clone, Debug, Default)]
+pub struct Images {
+    /// Sessions reached by an accepted step, whose image was written and read back.
+    pub reached: u64,
+    /// Sessions that went on from their image.
+    pub handed_over: u64,
+    /// Images accepted: with entries, without, of a closed session.
+    pub accepted: [u64; 3],
+    /// Images refused, by the fault where there is one alone; the last is for several.
+    pub refused: [u64; FAULTS + 1],
+    /// Images of a host's own sessions: accepted, refused.
+    pub host_made: [u64; 2],
 }
 
 /// What readers met.
@@ -118,6 +135,24 @@ impl Coverage {
         self.arrivals.start_overs[stood.map_or(nothing, usize::from)] += 1;
     }
 
+    /// An image that was read, with its reason.
+    pub fn restore(&mut self, image: &[u8], reason: u8) {
+        let faults = Model::reference().faults(image);
+        let alone = faults.first().filter(|_| faults.len() == 1);
+        let place = Fault::ALL.iter().position(|fault| Some(fault) == alone);
+        match (reason, image) {
+            (0, [_, 1, ..]) => self.images.accepted[2] += 1,
+            (0, [_, 0, 0, 0]) => self.images.accepted[1] += 1,
+            (0, _) => self.images.accepted[0] += 1,
+            _ => self.images.refused[place.unwrap_or(FAULTS)] += 1,
+        }
+    }
+
+    /// The image of a host's own session that was read, with its reason.
+    pub fn host_made(&mut self, reason: u8) {
+        self.images.host_made[usize::from(reason != 0)] += 1;
+    }
+
     /// Operations of readers.
     pub fn operations(&self) -> u64 {
         self.arrivals.operations()
@@ -198,7 +233,23 @@ impl fmt::Display for Coverage {
             write!(f, "  {name} {count}")?;
         }
         by_reason(f, "drafts   ", &self.drafts)?;
-        by_reason(f, "stretches", &self.stretches)
+        by_reason(f, "stretches", &self.stretches)?;
+        write!(f, "\n{}", self.images)
+    }
+}
+
+impl fmt::Display for Images {
+    fn fmt(&self, f: &mut fmt::Formatter) -> fmt::Result {
+        let [entries, empty, closed] = self.accepted;
+        let [good, bad] = self.host_made;
+        write!(f, "images    reached {}  handed over {}", self.reached, self.handed_over)?;
+        write!(f, "  host's own {good} accepted, {bad} refused")?;
+        write!(f, "\naccepted  with entries {entries}  empty {empty}  closed {closed}")?;
+        write!(f, "\nrefused 18, for one fault alone:")?;
+        for (fault, count) in Fault::ALL.iter().zip(self.refused) {
+            write!(f, "  {fault:?} {count}")?;
+        }
+        write!(f, "  for several {}", self.refused[FAULTS])
     }
 }
 

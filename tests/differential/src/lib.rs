@@ -1,10 +1,10 @@
 //! Independent evidence for the session keeper.
 //!
-//! [`model`] implements document 01 and items 1 to 3 of document 02 from the
+//! [`model`] implements document 01 and items 1 to 4 of document 02 from the
 //! papers alone, [`generate`] makes random sequences of frames, reports, reply
-//! buffers and arrivals, and [`compare`] runs one sequence against two
-//! implementations and demands equal answers, equal buffers, equal tables and
-//! equal bytes held. [`tally`] is demand 3's own bookkeeping, fed from frames,
+//! buffers, images and arrivals, and [`compare`] runs one sequence against two
+//! implementations and demands equal answers, equal buffers, equal tables,
+//! equal images and equal bytes held. [`tally`] is demand 3's own bookkeeping, fed from frames,
 //! reports and answers only. [`mutants`] shows that the comparison would
 //! notice: every deliberate mistake in the model must be found.
 

@@ -1,7 +1,7 @@
 //! Would the comparison notice? Every mistake the model can make must be
 //! found by the same generator and the same comparison as the library gets.
 
-use crate::compare::{run, shrink, Found};
+use crate::compare::{run, shrink_within, Found};
 use crate::coverage::Coverage;
 use crate::generate::{arrivals, sequence, Random};
 use crate::implementation::Implementation;
@@ -9,6 +9,8 @@ use crate::model::{Mistake, Model, MISTAKES};
 
 /// Every mistake must show within this many steps, or operations on a reader.
 pub const WITHIN: u64 = 50_000;
+/// Runs tried to shrink what shows a mistake: there are many of these, and nobody has to understand them.
+const TRIES: usize = 1_000;
 
 /// How a mistake was found.
 pub struct Caught {
@@ -32,7 +34,8 @@ pub fn hunt<I: Implementation>(reference: &I, mistake: Mistake, seed: u64) -> Ca
         if run(reference, &wrong, &events, &mut coverage).is_some() {
             // The one that shows the difference is not counted by coverage.
             let steps = Some(done(&coverage) + 1);
-            return Caught { mistake, steps, found: Some(shrink(reference, &wrong, events)) };
+            let found = shrink_within(reference, &wrong, events, TRIES);
+            return Caught { mistake, steps, found: Some(found) };
         }
     }
     Caught { mistake, steps: None, found: None }

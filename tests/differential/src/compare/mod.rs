@@ -2,6 +2,7 @@
 
 mod arrivals;
 mod divisions;
+mod images;
 mod joined;
 mod padded;
 mod pair;
@@ -14,7 +15,7 @@ mod tree;
 
 pub use divisions::{all_alike, divide};
 pub use pair::{Difference, Pair};
-pub use shrink::{shrink, Found};
+pub use shrink::{shrink, shrink_within, Found};
 
 use crate::coverage::Coverage;
 use crate::generate::{arrivals, edges, long_divisions, sequence, systematic, Event, Random};

@@ -46,8 +46,8 @@ pub fn pattern(len: usize) -> Vec<u8> {
 }
 
 pub struct Pair<'i, A: Implementation, B: Implementation> {
-    left: Side<'i, A>,
-    right: Side<'i, B>,
+    pub(super) left: Side<'i, A>,
+    pub(super) right: Side<'i, B>,
     /// Made at the first arrival: most sequences have none, and stores are large.
     readers: Option<Readers<'i, A, B>>,
 }
@@ -69,6 +69,7 @@ impl<'i, A: Implementation, B: Implementation> Pair<'i, A, B> {
             Event::Reader(operation) => self.operation(operation, coverage),
             Event::Write(probe) => self.write(probe, coverage),
             Event::Stretch(probe) => self.stretch(probe, coverage),
+            Event::Image(imaging) => self.imaging(imaging, coverage),
         }));
         done.unwrap_or_else(|_| Err(broken("one of them", "panicked".into())))
     }
@@ -85,6 +86,10 @@ impl<'i, A: Implementation, B: Implementation> Pair<'i, A, B> {
         same("answer", left.answer, right.answer)?;
         same("reply buffer", hex(&left.buffer), hex(&right.buffer))?;
         same_tables(&left.tables, &right.tables)?;
+        if left.answer.reason == 0 {
+            coverage.images.reached += 1;
+            self.same_images()?;
+        }
         let reply = &left.buffer[..left.answer.reply];
         coverage.step(&step.frame, &messages.0, &left.answer, reply);
         Ok(left)
@@ -146,7 +151,7 @@ impl<'i, A: Implementation, B: Implementation> Pair<'i, A, B> {
 }
 
 /// Place by place, so that a difference is named and not drowned.
-fn same_tables(left: &Tables, right: &Tables) -> Outcome {
+pub fn same_tables(left: &Tables, right: &Tables) -> Outcome {
     same("closed", left.closed, right.closed)?;
     for (place, (a, b)) in left.statements.iter().zip(&right.statements).enumerate() {
         same("statement place", (place, a), (place, b))?;

@@ -1,6 +1,7 @@
 //! What is promised of every implementation by itself, checked on each side:
 //! demand 1's refusals, demand 2's reading back, demand 3's tally.
 
+use super::images::crowd;
 use super::joined::says_the_same;
 use super::padded::flags_agree;
 use super::pair::{broken, pattern, same, Difference, Outcome};
@@ -13,9 +14,13 @@ use crate::tally::Tally;
 /// One implementation with its session and its tally.
 pub struct Side<'i, I: Implementation> {
     pub who: &'i I,
-    session: I::Session,
-    tables: Tables,
-    tally: Tally,
+    pub(super) session: I::Session,
+    pub(super) tables: Tables,
+    pub(super) tally: Tally,
+    /// Another session, to read images into.
+    pub(super) crowd: I::Session,
+    /// Whether the last image read changed the session.
+    pub(super) changed: bool,
     pub last: Option<Answer>,
 }
 
@@ -31,8 +36,8 @@ pub struct Stepped {
 impl<'i, I: Implementation> Side<'i, I> {
     pub fn fresh(who: &'i I) -> Side<'i, I> {
         let session = who.fresh();
-        let tables = who.tables(&session);
-        Side { who, session, tables, tally: Tally::default(), last: None }
+        let (tables, crowd) = (who.tables(&session), who.made(&crowd()));
+        Side { who, session, tables, tally: Tally::default(), crowd, changed: false, last: None }
     }
 
     /// Look, inspection and step, unchecked.

@@ -4,7 +4,7 @@ use super::pair::{hex, Difference, Pair};
 use super::run;
 use super::tree::Tree;
 use crate::coverage::Coverage;
-use crate::generate::{framed, Event, Operation};
+use crate::generate::{framed, Event, Image, Imaging, Operation};
 use crate::implementation::Implementation;
 use std::fmt::Write;
 
@@ -44,9 +44,19 @@ struct Shrinker<'i, A: Implementation, B: Implementation> {
 /// Joins arrivals, drops events, large ones first, then shortens frames, as
 /// long as some difference remains.
 pub fn shrink<A: Implementation, B: Implementation>(a: &A, b: &B, events: Vec<Event>) -> Found {
+    shrink_within(a, b, events, TRIES)
+}
+
+/// The same with another number of tries.
+pub fn shrink_within<A: Implementation, B: Implementation>(
+    a: &A,
+    b: &B,
+    events: Vec<Event>,
+    tries: usize,
+) -> Found {
     let difference = run(a, b, &events, &mut Coverage::default());
     let difference = difference.expect("the sequence differed a moment ago");
-    let mut shrinker = Shrinker { a, b, events, difference, tries: TRIES };
+    let mut shrinker = Shrinker { a, b, events, difference, tries };
     loop {
         let before = (shrinker.events.len(), shrinker.bytes());
         shrinker.join_arrivals();
@@ -61,10 +71,14 @@ pub fn shrink<A: Implementation, B: Implementation>(a: &A, b: &B, events: Vec<Ev
 }
 
 impl<A: Implementation, B: Implementation> Shrinker<'_, A, B> {
-    /// Bytes in frames and arrivals.
+    /// Bytes in frames, images and arrivals.
     fn bytes(&self) -> usize {
-        let in_step = |event: &Event| if let Event::Step(s) = event { s.frame.len() } else { 0 };
-        self.events.iter().map(in_step).sum::<usize>() + self.arriving()
+        let in_event = |event: &Event| match event {
+            Event::Step(step) => step.frame.len(),
+            Event::Image(Imaging::Restore(image)) => image.len(),
+            _ => 0,
+        };
+        self.events.iter().map(in_event).sum::<usize>() + self.arriving()
     }
 
     fn arriving(&self) -> usize {
@@ -136,25 +150,28 @@ impl<A: Implementation, B: Implementation> Shrinker<'_, A, B> {
     fn shorten_frames(&mut self) {
         for index in 0..self.events.len() {
             self.drop_fields(index);
+            self.drop_entries(index);
             self.drop_bytes(index);
         }
     }
 
-    /// What of an event can be cut, if it is there still: a step's payload, an arrival.
+    /// What of an event can be cut, if it is there still: a step's payload, an arrival, an image.
     fn cuttable(&self, index: usize) -> Option<Vec<u8>> {
         match self.events.get(index) {
             Some(Event::Step(step)) if step.frame.len() >= 5 => Some(step.frame[5..].to_vec()),
             Some(Event::Reader(Operation::Push(arrival))) => Some(arrival.clone()),
+            Some(Event::Image(Imaging::Restore(image))) => Some(image.clone()),
             _ => None,
         }
     }
 
-    /// Tries another payload or arrival; true if it was taken.
+    /// Tries other bytes in an event; true if they were taken.
     fn try_bytes(&mut self, index: usize, bytes: &[u8]) -> bool {
         let mut candidate = self.events.clone();
         match candidate.get_mut(index) {
             Some(Event::Step(step)) => step.frame = framed(step.frame[4], bytes),
             Some(Event::Reader(Operation::Push(arrival))) => *arrival = bytes.to_vec(),
+            Some(Event::Image(Imaging::Restore(image))) => *image = bytes.to_vec(),
             _ => return false,
         }
         self.take(candidate)
@@ -187,7 +204,23 @@ impl<A: Implementation, B: Implementation> Shrinker<'_, A, B> {
         }
     }
 
-    /// Cuts parts out of a payload or an arrival, whatever they are.
+    /// Takes entries out of an image, cursors first.
+    fn drop_entries(&mut self, index: usize) {
+        let Some(Event::Image(Imaging::Restore(bytes))) = self.events.get(index) else {
+            return;
+        };
+        let Some(mut image) = Image::said(bytes) else {
+            return;
+        };
+        for at in (0..image.entries()).rev() {
+            let smaller = image.without(at);
+            if self.try_bytes(index, &smaller.bytes()) {
+                image = smaller;
+            }
+        }
+    }
+
+    /// Cuts parts out of a payload, an arrival or an image, whatever they are.
     fn drop_bytes(&mut self, index: usize) {
         let Some(mut bytes) = self.cuttable(index) else {
             return;
@@ -252,6 +285,9 @@ fn describe(event: &Event) -> String {
             format!("next frame, reply buffer {room}")
         }
         Event::Reader(Operation::StartOver) => "start over".into(),
+        Event::Image(Imaging::HandOver) => "hand over".into(),
+        Event::Image(Imaging::Restore(image)) => format!("restore {:?}", hex(image)),
+        Event::Image(Imaging::HostMade(words)) => format!("host's own {words:?}"),
         Event::Stretch(s) => format!("stretch at {} of {:?} room {}", s.at, s.scalars, s.room),
     }
 }

@@ -18,7 +18,7 @@ pub enum Mode {
 }
 
 impl Mode {
-    fn stmt(self, random: &mut Random) -> u32 {
+    pub fn stmt(self, random: &mut Random) -> u32 {
         match self {
             Mode::Few => random.range(1, 4) as u32,
             Mode::Edges => edge_id(random),
@@ -26,7 +26,7 @@ impl Mode {
         }
     }
 
-    fn cursor(self, random: &mut Random) -> u32 {
+    pub fn cursor(self, random: &mut Random) -> u32 {
         match self {
             Mode::Few => random.range(1, 4) as u32,
             Mode::Edges => edge_id(random),

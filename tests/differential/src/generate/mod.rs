@@ -6,9 +6,11 @@ mod divisions;
 mod edges;
 mod encode;
 mod every_cut;
+mod every_image;
 mod every_order;
 mod every_varint;
 mod frames;
+mod images;
 mod intent;
 mod layers;
 mod padding;
@@ -24,7 +26,9 @@ pub use arrivals::Operation;
 pub use divisions::{divisions, samples};
 pub use edges::edges;
 pub use encode::{Encoder, Noise};
+pub use every_image::{accepted, alone, every_image, largest, longest};
 pub use frames::{framed, Intent};
+pub use images::{Image, Imaging};
 pub use padding::{lengthened, FORMS};
 pub use probes::{StretchProbe, WriteProbe};
 pub use random::Random;
@@ -52,18 +56,25 @@ pub enum Event {
     Reader(Operation),
     Write(WriteProbe),
     Stretch(StretchProbe),
+    Image(Imaging),
 }
 
-/// A sequence on one fresh session.
+/// A sequence on one session: a fresh one, or one that an image gives.
 pub fn sequence(random: &mut Random) -> Vec<Event> {
     let mode = random.pick(&[Mode::Few, Mode::Few, Mode::Edges, Mode::Fill]);
     let steps = if mode == Mode::Fill { random.range(100, 300) } else { random.range(1, 160) };
     let mut guide = Guide { session: Session::fresh(), mode };
     let mut events = Vec::new();
     let mut after_close = random.below(6);
+    if random.permille(200) {
+        events.push(Event::Image(guide.restore_another(random)));
+    }
     for _ in 0..steps {
         events.push(Event::Step(guide.step(random)));
         probes(random, &mut events);
+        if random.permille(100) {
+            events.push(Event::Image(guide.imaging(random)));
+        }
         if guide.session.tables.closed {
             // Nothing but refusal 4 from here on; a few of these are enough.
             if after_close == 0 {
@@ -101,6 +112,39 @@ impl Guide {
         let mut reply = vec![0; room];
         self.session = model.step(self.session.clone(), &frame, report, &mut reply).0;
         Step { frame, report, room }
+    }
+
+    fn imaging(&mut self, random: &mut Random) -> Imaging {
+        match random.below(20) {
+            0..5 => Imaging::HandOver,
+            5..7 => Imaging::HostMade(Box::new(images::words(random, self.mode))),
+            7 => self.restore_another(random),
+            8..12 => {
+                let image = self.image();
+                self.restore(images::damaged(random, image))
+            }
+            _ => {
+                let image = Image::any(random, self.mode);
+                self.restore(images::broken(random, image))
+            }
+        }
+    }
+
+    /// The image of another session.
+    fn restore_another(&mut self, random: &mut Random) -> Imaging {
+        self.restore(Image::any(random, self.mode).bytes())
+    }
+
+    fn restore(&mut self, image: Vec<u8>) -> Imaging {
+        self.session = Model::reference().restore(self.session.clone(), &image).0;
+        Imaging::Restore(image)
+    }
+
+    fn image(&self) -> Vec<u8> {
+        let mut image = vec![0; MAX_IMAGE];
+        let length = Model::reference().image(&self.session, &mut image).length;
+        image.truncate(length);
+        image
     }
 
     /// A frame without damage, and on it the step that comes of handing it out.

@@ -1,9 +1,10 @@
 //! Sequences that leave nothing to chance: every cut and every bit of a good
 //! frame of each kind, every length of a varint, every varint padded alone,
 //! every depth of a group, every cut of an embedded message and every order of
-//! its fields.
+//! its fields; every kind of damage to an image.
 
 use super::every_cut::every_cut;
+use super::every_image::every_image;
 use super::every_order::every_order;
 use super::every_varint::every_varint;
 use super::frames::framed;
@@ -74,7 +75,8 @@ pub fn all() -> Vec<Vec<Event>> {
     odd.extend(every_varint());
     odd.extend(every_cut());
     let orders = every_order();
-    odd.into_iter().map(around).chain(orders.chunks(TOGETHER).map(behind_setup)).collect()
+    let frames = odd.into_iter().map(around).chain(orders.chunks(TOGETHER).map(behind_setup));
+    frames.chain(every_image()).collect()
 }
 
 /// Many frames on one session: there are too many for a setup for each.
