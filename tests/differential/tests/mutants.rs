@@ -2,7 +2,7 @@
 
 use differential::compare::{search, search_arrivals, sweep, sweep_arrivals};
 use differential::coverage::Coverage;
-use differential::generate::{arrivals, Event, Operation, Random};
+use differential::generate::{arrivals, every_image, Event, Imaging, Operation, Random};
 use differential::implementation::*;
 use differential::model::{Layer, Mistake, Model, MISTAKES};
 use differential::mutants::{hunt_all, WITHIN};
@@ -55,6 +55,31 @@ const BROKEN: &[Mistake] = {
         LastRowSuspends,
         OpenWithoutDone,
         ReplyCleared,
+        WrittenInPart,
+        FullBufferRefused,
+        RoomForLongest,
+        RestCleared,
+        UnrulyNotWritten,
+        ClosedNotWritten,
+        DoneLeftOut,
+        PlacesCloseUp,
+        SentBeforeReported,
+        BehindTaken,
+        IdZeroRefused,
+        NoStatementTaken,
+        SentAboveTaken,
+        AllSentRefused,
+        OldEntriesKept,
+        StaysClosed,
+        RestoredOpen,
+        RestoredCloseUp,
+        RestoredSentNone,
+        RestoredFromZero,
+        RefusedEmpties,
+        RefusedHalfRead,
+        TallyFromZero,
+        TallyAllRows,
+        TallyForgets,
     ]
 };
 
@@ -120,6 +145,46 @@ fn comparison_alone_finds_all_on_arrivals() {
     }
 }
 
+/// An image as it is written into a buffer with `more` or fewer bytes than it has, and what was answered.
+fn written<I: Implementation>(who: &I, session: &I::Session, more: isize) -> (Written, Vec<u8>) {
+    let length = who.image(session, &mut [0; MAX_IMAGE]).length;
+    let mut buffer = vec![0xaa; length.saturating_add_signed(more)];
+    (who.image(session, &mut buffer), buffer)
+}
+
+/// What of one event with images can be compared.
+fn imaged<I: Implementation>(who: &I, session: &mut I::Session, event: &Event) -> Vec<(Written, Vec<u8>)> {
+    match event {
+        Event::Image(Imaging::Restore(image)) => {
+            let (read, reason) = who.restore(session.clone(), image);
+            *session = read;
+            vec![(Written { reason, length: 0 }, Vec::new())]
+        }
+        Event::Image(Imaging::HostMade(words)) => vec![written(who, &who.made(words), 0)],
+        _ => [-1, 0, 5].map(|more| written(who, session, more)).to_vec(),
+    }
+}
+
+/// Whether two sessions differ in one sequence of images, with no promise asked of either.
+fn images_differ<A: Implementation, B: Implementation>(a: &A, b: &B, events: &[Event]) -> bool {
+    let (mut left, mut right) = (a.fresh(), b.fresh());
+    events.iter().any(|event| {
+        let (one, other) = (imaged(a, &mut left, event), imaged(b, &mut right, event));
+        one != other || a.tables(&left) != b.tables(&right)
+    })
+}
+
+/// The comparison leaves no mistake with images unseen either, and chance is not needed for it.
+#[test]
+fn comparison_alone_finds_all_on_images() {
+    let sequences = every_image();
+    for mistake in MISTAKES.iter().filter(|mistake| mistake.is_on_images()) {
+        let (reference, mutant) = (under_test(), Model::wrong(*mistake));
+        let found = sequences.iter().any(|events| images_differ(&reference, &mutant, events));
+        assert!(found, "{mistake:?} answers as the library does");
+    }
+}
+
 #[test]
 fn the_reference_is_not_accused() {
     let (reference, other) = (Model::reference(), under_test());
@@ -141,6 +206,16 @@ fn the_reference_is_not_accused() {
     assert!([0, 2, 3, 6].iter().all(|reason| coverage.drafts[*reason] > 0), "\n{coverage}");
     assert!([0, 3, 6].iter().all(|reason| coverage.stretches[*reason] > 0), "\n{coverage}");
     in_parts_were_met(&coverage);
+    images_were_met(&coverage);
+}
+
+/// Images of every kind were accepted, and refused for each fault alone.
+fn images_were_met(coverage: &Coverage) {
+    let met = &coverage.images;
+    assert!(met.reached == coverage.reason(0) && met.handed_over >= 1_000, "\n{met}");
+    assert!(met.accepted.iter().all(|count| *count > 0), "\n{met}");
+    assert!(met.refused.iter().all(|count| *count > 0), "\n{met}");
+    assert!(met.host_made.iter().all(|count| *count >= 50), "\n{met}");
 }
 
 /// Each layer in parts was accepted often, was bad and stood in a frame refused
