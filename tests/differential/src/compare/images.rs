@@ -42,11 +42,10 @@ fn image_of<I: Implementation>(who: &I, session: &I::Session) -> Result<Vec<u8>,
 fn fits_exactly<I: Implementation>(who: &I, session: &I::Session, image: &[u8], room: usize) -> Kept {
     let mut memory = pattern(room + GUARD);
     let written = who.image(session, &mut memory[..room]);
-    let fits = image.len() <= room;
-    let answer = if fits { (0, image.len()) } else { (TOO_SMALL, 0) };
+    let (reason, length) = if image.len() <= room { (0, image.len()) } else { (TOO_SMALL, 0) };
     let mut left = pattern(room + GUARD);
-    left[..answer.1].copy_from_slice(&image[..answer.1]);
-    let good = (written.reason, written.length) == answer && memory == left;
+    left[..length].copy_from_slice(&image[..length]);
+    let good = written == Written { reason, length } && memory == left;
     demand(good, &format!("an image of {} bytes, a buffer of {room}: {written:?}", image.len()))
 }
 
@@ -91,13 +90,16 @@ impl<I: Implementation> Side<'_, I> {
         refuses(self.who, &self.session, &[image, &[0]].concat())?;
         self.session = self.who.restore(self.crowd.clone(), image).0;
         self.tables = self.who.tables(&self.session);
+        self.tallies.truncate(1);
         self.history_from(image)
     }
 
-    /// Demand 3's history starts anew.
+    /// One tally more, which starts at an image.
     fn history_from(&mut self, image: &[u8]) -> Kept {
-        self.tally = self.who.tally_from(image)?;
-        self.tally.check(&self.tables)
+        let tally = self.who.tally_from(image)?;
+        tally.check(&self.tables)?;
+        self.tallies.push(tally);
+        Ok(())
     }
 
     /// Reads an image into the session. Gives the reason.
@@ -121,6 +123,7 @@ impl<I: Implementation> Side<'_, I> {
     /// An accepted image is that of the session it gives, whatever that was before.
     fn just_these(&mut self, image: &[u8]) -> Kept {
         self.tables = self.who.tables(&self.session);
+        self.tallies.clear();
         self.history_from(image)?;
         demand(
             image_of(self.who, &self.session)? == image,

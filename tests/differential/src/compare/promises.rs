@@ -11,12 +11,13 @@ use crate::generate::{Step, StretchProbe, WriteProbe};
 use crate::implementation::*;
 use crate::tally::Tally;
 
-/// One implementation with its session and its tally.
+/// One implementation with its session and its tallies.
 pub struct Side<'i, I: Implementation> {
     pub who: &'i I,
     pub(super) session: I::Session,
     pub(super) tables: Tables,
-    pub(super) tally: Tally,
+    /// The history from the beginning; behind a hand-over also the one that starts at its image.
+    pub(super) tallies: Vec<Tally>,
     /// Another session, to read images into.
     pub(super) crowd: I::Session,
     /// Whether the last image read changed the session.
@@ -37,7 +38,8 @@ impl<'i, I: Implementation> Side<'i, I> {
     pub fn fresh(who: &'i I) -> Side<'i, I> {
         let session = who.fresh();
         let (tables, crowd) = (who.tables(&session), who.made(&crowd()));
-        Side { who, session, tables, tally: Tally::default(), crowd, changed: false, last: None }
+        let tallies = vec![Tally::default()];
+        Side { who, session, tables, tallies, crowd, changed: false, last: None }
     }
 
     /// Look, inspection and step, unchecked.
@@ -83,8 +85,10 @@ impl<'i, I: Implementation> Side<'i, I> {
         if (1..=3).contains(&answer.reason) && (answer.used, answer.reply) != (0, 0) {
             return Err("refusals 1 to 3 use and write nothing".into());
         }
-        self.tally.feed(&step.frame, step.report, answer, &buffer[..answer.reply])?;
-        self.tally.check(tables)
+        self.tallies.iter_mut().try_for_each(|tally| {
+            tally.feed(&step.frame, step.report, answer, &buffer[..answer.reply])?;
+            tally.check(tables)
+        })
     }
 }
 

@@ -95,8 +95,8 @@ impl Image {
     /// The image of a session that keeps the rules.
     pub fn any(random: &mut Random, mode: Mode) -> Image {
         let mut image = Image::empty();
-        if random.permille(50) {
-            image.closed = 1;
+        if random.permille(80) {
+            image.closed = random.below(2) as u64;
             return image;
         }
         for place in places(random, STATEMENTS) {
