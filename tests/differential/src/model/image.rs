@@ -111,7 +111,7 @@ impl Model {
         Written { reason: 0, length: image.len() }
     }
 
-    pub(super) fn image_of(&self, tables: &Tables) -> Vec<u8> {
+    fn image_of(&self, tables: &Tables) -> Vec<u8> {
         let (statements, cursors) = (self.list_statements(tables), self.list_cursors(tables));
         let closed = tables.closed && !self.makes(Mistake::ClosedNotWritten);
         let mut numbers = vec![FORM, u64::from(closed), statements.len() as u64];
