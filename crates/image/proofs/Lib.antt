@@ -2,3 +2,4 @@ pub mod NumberLaws
 pub mod TakeLaws
 pub mod WholeLaws
 pub mod WriteLaws
+pub mod SeenLaws

@@ -1,7 +1,10 @@
 // Reading an image into a session that has no entries.
 ghost use mathlib.Core.Path.{_≡_};
+ghost use mathlib.Core.Bool.{false};
+ghost use Prim.Native.Nat.{ℕ};
+ghost use Rattle.session.specs.Entry.{isStmt};
+ghost use Rattle.session.specs.Lists.{howMany};
 ghost use mathlib.Core.List.{[], _∷_};
-ghost use Prim.Native.Nat.{_<_};
 ghost use lib.ListN.{length};
 ghost use Rattle.session.specs.Tables.{fresh, maxCursors, maxStmts};
 ghost use Rattle.session.specs.Words.{sessionOf};
@@ -50,6 +53,9 @@ const SENT: usize = 4;
 const LIVE: u32 = 1;
 
 const MAX_PLACEHOLDERS: u32 = 65535;
+
+// The slots that ids fall into while they are read: more than there are statements, so that few meet.
+const SLOTS: usize = 256;
 
 // The whole image, into a session that has no entries.
 pub(crate) fn take_image(words: &mut [u32; WORDS], image: &[u8]) -> bool
@@ -109,11 +115,14 @@ fn take_rest(words: &mut [u32; WORDS], image: &[u8], at: usize) -> bool
     end == image.len()
 }
 
-// The statements from the place `at` on, one after the other.
+// The statements from the place `at` on, one after the other, into a session that has none. Ids that differ by their
+// last bits, as most do, are told apart by `seen`; only where it has an id's slot is that id looked up.
 fn take_stmts(words: &mut [u32; WORDS], image: &[u8], at: usize, count: u32) -> End
+    requires { ⌜ ((id : ℕ) → howMany (isStmt id) (sessionOf (now words) .stmts) ≡ 0) ⌝ }
     ensures { λ r. ⌜ readTo r (sessionOf (now (words .exit))) ≡
         entriesAt stmtTable count 0 (now (image .entry)) at (sessionOf (now (words .entry))) ⌝ }
 {
+    let mut seen = [false; SLOTS];
     let mut numbers = [0; MOST];
     let mut p = at;
     let mut next = 0;
@@ -127,9 +136,11 @@ fn take_stmts(words: &mut [u32; WORDS], image: &[u8], at: usize, count: u32) -> 
             id: numbers[ID],
             placeholders: numbers[PLACEHOLDERS],
         };
-        if !takes_stmt(words, next, e) {
+        let slot = e.id as usize % SLOTS;
+        if !takes_stmt(words, next, e, seen[slot]) {
             return End::Broken;
         }
+        seen[slot] = true;
         put_stmt(words, e);
         next = e.place + 1;
         p = after;
@@ -138,7 +149,9 @@ fn take_stmts(words: &mut [u32; WORDS], image: &[u8], at: usize, count: u32) -> 
     End::At(p)
 }
 
-fn takes_stmt(words: &[u32; WORDS], next: u32, e: StmtEntry) -> bool
+// A statement whose id was not seen is not looked up.
+fn takes_stmt(words: &[u32; WORDS], next: u32, e: StmtEntry, seen: bool) -> bool
+    requires { ⌜ (seen ≡ false → howMany (isStmt (e .id)) (sessionOf (now words) .stmts) ≡ 0) ⌝ }
     ensures { λ r. ⌜ r ≡ stmtTable .takes next e (sessionOf (now (words .entry))) ⌝ }
 {
     if !rises(MAX_STMTS, next, e.place) {
@@ -146,6 +159,9 @@ fn takes_stmt(words: &[u32; WORDS], next: u32, e: StmtEntry) -> bool
     }
     if MAX_PLACEHOLDERS < e.placeholders {
         return false;
+    }
+    if !seen {
+        return true;
     }
     is_none(find::find_stmt(words, e.id))
 }

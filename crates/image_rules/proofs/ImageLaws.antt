@@ -144,6 +144,11 @@ begun-cursors =
     begun-is (λ s. cursorCount s ≡ 0) (sum-replicate (λ c. one (isLiveCursor c)) maxCursors noCursor refl)
     (closedNow-sound fresh-sound .shut refl .1)
 
+-- so no id is live in it
+pub begun-none : (c id : ℕ) → howMany (isStmt id) (begun c .stmts) ≡ 0
+begun-none c id =
+    omega (arith, count-le (isStmt id) isLiveStmt (λ t e. and-true _ _ e .0) (begun c .stmts), begun-stmts c)
+
 -- ---- what comes of the entries of a listing
 
 module _ (m : Listing) (flagged : m .closed ≤ 1) (open-or : (m .closed ≡ 0) ⊎ (m .stmts ≡ [])) where
@@ -243,13 +248,7 @@ module _ (m : Listing) (h : Rules m) where
   stmts-ahead =
       record {
         rising = h .stmtPlaces;
-        once = λ id.
-            omega (
-              arith,
-              h .stmtIds id,
-              count-le (isStmt id) isLiveStmt (λ t e. and-true _ _ e .0) (begun (m .closed) .stmts),
-              begun-stmts (m .closed),
-            );
+        once = λ id. omega (arith, h .stmtIds id, begun-none (m .closed) id);
         small = h .stmtsSmall;
       }
 

@@ -66,7 +66,7 @@ module _ {A : Type 0} (p : A → Bool) (xs : List A) where
       go (Place.At i) f g = absurd (false≢true g)
       go Place.Nothing f g = none-from p xs 0 f
 
-  zero-none : howMany p xs ≡ 0 → none (first p xs 0) ≡ true
+  pub zero-none : howMany p xs ≡ 0 → none (first p xs 0) ≡ true
   zero-none e = ap none (none-back p xs 0 e)
 
   some-found : 1 ≤ howMany p xs → not (none (first p xs 0)) ≡ true

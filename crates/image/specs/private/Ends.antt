@@ -16,6 +16,10 @@ use Rattle.image.specs.declared.numbers.End.{End}
 abbrev pub most : ℕ
 most = 5
 
+-- the slots that ids fall into while they are read
+abbrev pub slots : ℕ
+slots = 256
+
 -- one number below 2^32 in its shortest form
 abbrev pub small : Varint → Varint
 small (Varint.Number v next) = cond (leb v maxNumber) (Varint.Number v next) Varint.Bad

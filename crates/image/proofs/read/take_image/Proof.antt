@@ -1,5 +1,8 @@
 -- The head, the statements and the rest in turn.
-use Rattle.prelude.proofs.Basics.{arith, refl, sym, _∙_, needs, not-true, not-false}
+use Rattle.prelude.proofs.Basics.{arith, refl, sym, ap, _∙_, getD, needs, not-true, not-false}
+use Rattle.session.specs.Lists.{howMany}
+use Rattle.session.specs.Entry.{isStmt}
+use Rattle.image_rules.proofs.ImageLaws.{begun-none}
 use Rattle.image.proofs.TakeLaws.{front-broken, front-at}
 use Rattle.image.proofs.WholeLaws.{read-broken, read-at, whole-broken, whole-head, whole-refused, whole-read}
 use Rattle.image.proofs.read.take_image.Statement.{statement}
@@ -45,6 +48,13 @@ returns-4 c =
     (sym (h .is-head .ensures) ∙ not-false _ (e .if1 .left)) _ (b .begin .ensures) _ _
     (read-at _ _ (n .after .given .1) (t .take-stmts .ensures)) (c .take-rest .ensures)
 
+-- no statement is live before the first is taken
+none-live : tie.Need-take-stmts-requires
+none-live c κs id =
+    let r = c .before .before .before .before .before .before .before .before .before in
+    ap (λ s. howMany (isStmt id) (s .stmts)) (c .before .begin .ensures)
+    ∙ begun-none (getD (r .read-numbers .last .1 .1 .1 .0) 1 0) id
+
 pub take-image-spec : {M : Type 1} → statement M
 take-image-spec =
     tie.close
@@ -62,7 +72,7 @@ take-image-spec =
     (λ c. search needs)
     (λ c κs. c .before .before .before .before .before .before .before .before .before .before .pre)
     (λ c. search needs)
-    (λ c κs. search needs)
+    none-live
     (λ c. search needs)
     (λ c. search needs)
     returns-3
