@@ -1,5 +1,5 @@
 -- The tally: it "starts empty and is fed each step's frame, report and answer (accepted is reason 0), nothing of the
--- session", and nothing of the reply (T1, T2).
+-- session", and nothing of the reply (T1, T2). After a restore it starts from the cursors of the image (I8, Start).
 use Prim.Native.Nat.{ℕ, _+_, _-_}
 use mathlib.Core.Bool.{Bool, cond, not}
 use mathlib.Core.List.{List, [], _∷_, _++_}
@@ -22,7 +22,7 @@ pub record Segment : Type 0 where
   pub count : ℕ
 
 -- an opening: "its two ids, the report's rows, the rows its answer sends", and those that fetches added, in the order
--- sent (T4, T5). `first` is the number of its first row
+-- sent (T4, T5); of a cursor of an image the rows that it had left (I8). `first` is the number of its first row
 pub record Opening : Type 0 where
   pub cursor : ℕ
   pub stmt : ℕ

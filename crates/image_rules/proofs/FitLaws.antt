@@ -16,8 +16,9 @@ use Rattle.session.proofs.SumLaws.{one-le}
 use Rattle.image_rules.specs.Numbers.{bytesOf}
 use Rattle.image_rules.specs.Listing.{placed, stmtEntry, cursorEntry, stmtsOf, cursorsOf, listingOf}
 use Rattle.image_rules.specs.Image.{form, joined, stmtNumbers, cursorNumbers, imageOf, maxImage}
-use Rattle.image_rules.specs.private.Parts.{placeBytes, stmtBytesAt, cursorBytesAt, stmtBytes, cursorBytes, mostNumber}
-use Rattle.image_rules.specs.private.Parts.{mostStmt, mostCursor}
+use Rattle.image_rules.specs.Image.{mostNumber}
+use Rattle.image_rules.specs.private.Parts.{placeBytes, stmtBytesAt, cursorBytesAt, stmtBytes, cursorBytes}
+use Rattle.image_rules.specs.Image.{mostStmt, mostCursor}
 use Rattle.image_rules.specs.ImageRules.{ImageFits}
 use Rattle.image_rules.proofs.NumberLaws.{Fits, bytes-append}
 use Rattle.image_rules.proofs.PlacedLaws.{placed-count}

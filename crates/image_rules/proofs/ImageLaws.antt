@@ -19,7 +19,7 @@ use Rattle.image_rules.specs.Numbers.{bytesOf, Front, frontAt}
 use Rattle.image_rules.specs.Listing.{Listing, stmtEntry, cursorEntry, stmtsOf, cursorsOf}
 use Rattle.image_rules.specs.Listing.{placed, listingOf}
 use Rattle.image_rules.specs.Image.{form, stmtNumbers, cursorNumbers, joined, numbersIn, imageOf}
-use Rattle.image_rules.specs.Acceptable.{Rising, stmtsWith, Rules, Acceptable, Image}
+use Rattle.image_rules.specs.Acceptable.{Rising, stmtsWith, Rules, Acceptable, AcceptableImage}
 use Rattle.image_rules.specs.Restore.{Reading, onFront, onRead, entriesAt, stmtTable, cursorTable, begun}
 use Rattle.image_rules.specs.Restore.{nth, headWidth, headGood, cursorsAt, readingOf, restoredBy, restoreOf}
 use Rattle.image_rules.specs.ImageRules.{Exactly, AcceptedExactly, JustTheseEntries, RefusedAsItWas, KeepsRules}

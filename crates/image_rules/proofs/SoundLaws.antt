@@ -12,7 +12,7 @@ use Rattle.session.proofs.SumLaws.{one, one-le}
 use Rattle.image_rules.specs.declared.StmtEntry.{StmtEntry}
 use Rattle.image_rules.specs.declared.CursorEntry.{CursorEntry}
 use Rattle.image_rules.specs.Listing.{stmtEntry, cursorEntry, stmtsOf, cursorsOf, listingOf}
-use Rattle.image_rules.specs.Acceptable.{stmtsWith, cursorsWith, cursorsUpon, Rules}
+use Rattle.image_rules.specs.Acceptable.{stmtsWith, cursorsWith, cursorsOn, Rules}
 use Rattle.image_rules.proofs.PlacedLaws.{placed-many, placed-all, placed-none, placed-rising, placed-same}
 
 -- ---- the counts of the entries are those of the tables
@@ -25,8 +25,8 @@ pub cursors-with : (id : ℕ) (s : Session) → cursorsWith id (cursorsOf s) ≡
 cursors-with id s =
     placed-many isLiveCursor cursorEntry (λ e. eqb (e .id) id) (λ c. eqb (c .id) id) (λ k c. refl) 0 (s .cursors)
 
-pub cursors-upon : (stmt : ℕ) (s : Session) → cursorsUpon stmt (cursorsOf s) ≡ howMany (onStmt stmt) (s .cursors)
-cursors-upon stmt s =
+pub cursors-on : (stmt : ℕ) (s : Session) → cursorsOn stmt (cursorsOf s) ≡ howMany (onStmt stmt) (s .cursors)
+cursors-on stmt s =
     placed-many isLiveCursor cursorEntry (λ e. eqb (e .stmt) stmt) (λ c. eqb (c .stmt) stmt) (λ k c. refl) 0
     (s .cursors)
 
@@ -69,7 +69,7 @@ sound-keeps s h =
           placed-all isLiveCursor cursorEntry (λ c. isLiveCursor c ≡ true → 1 ≤ howMany (onStmt (c .stmt)) (s .cursors)) _
           (λ k c e p. omega (arith, p e, h .carries (c .stmt), stmts-with (c .stmt) s)) 0 (s .cursors)
           (own-counted (s .cursors) (s .cursors) (λ k. omega arith));
-      notTwo = λ stmt. omega (arith, cursors-upon stmt s, h .carries stmt, h .stmtOnce stmt);
+      notTwo = λ stmt. omega (arith, cursors-on stmt s, h .carries stmt, h .stmtOnce stmt);
       within =
           placed-all isLiveCursor cursorEntry ProperCursor _ (λ k c e p. p .within) 0 (s .cursors)
           (h .cursorsProper);

@@ -16,7 +16,7 @@ use Rattle.session.proofs.SumLaws.{one, sum-set, all-set, and-true, counted, co
 use Rattle.image_rules.specs.declared.StmtEntry.{StmtEntry}
 use Rattle.image_rules.specs.declared.CursorEntry.{CursorEntry}
 use Rattle.image_rules.specs.Listing.{stmtEntry, cursorEntry, stmtsOf, cursorsOf}
-use Rattle.image_rules.specs.Acceptable.{Rising, stmtsWith, cursorsWith, cursorsUpon}
+use Rattle.image_rules.specs.Acceptable.{Rising, stmtsWith, cursorsWith, cursorsOn}
 use Rattle.image_rules.specs.Restore.{none, rises, stmtTable, cursorTable}
 use Rattle.image_rules.specs.Image.{stmtNumbers, cursorNumbers}
 use Rattle.image_rules.proofs.NumberLaws.{Fits}
@@ -414,7 +414,7 @@ cursors-taken (e ∷ es) next x g fit h =
 pub record CursorsAhead (next : ℕ) (es : List CursorEntry) (x : Session) : Type 0 where
   pub rising : Rising maxCursors next (map (λ e. e .place) es)
   pub once : (id : ℕ) → howMany (isCursor id) (x .cursors) + cursorsWith id es ≤ 1
-  pub upon : (stmt : ℕ) → howMany (onStmt stmt) (x .cursors) + cursorsUpon stmt es ≤ 1
+  pub upon : (stmt : ℕ) → howMany (onStmt stmt) (x .cursors) + cursorsOn stmt es ≤ 1
   pub small : All (λ e. (e .id ≤ maxNumber) × ((e .stmt ≤ maxNumber) × (e .rows ≤ maxNumber))) es
   pub within : All (λ e. e .sent ≤ e .rows) es
   pub onListed : All (λ e. 1 ≤ howMany (isStmt (e .stmt)) (x .stmts)) es

@@ -17,15 +17,15 @@ unfoldable pub Rising : ℕ → ℕ → List ℕ → Type 0
 Rising limit from [] = Unit {0}
 Rising limit from (p ∷ ps) = (from ≤ p) × ((p < limit) × Rising limit (suc p) ps)
 
--- how many of the entries have an id; of the cursors how many stand on a statement
+-- how many of the entries have an id, and how many cursors stand on a statement
 abbrev pub stmtsWith : ℕ → List StmtEntry → ℕ
 stmtsWith id es = howMany (λ e. eqb (e .id) id) es
 
 abbrev pub cursorsWith : ℕ → List CursorEntry → ℕ
 cursorsWith id es = howMany (λ e. eqb (e .id) id) es
 
-abbrev pub cursorsUpon : ℕ → List CursorEntry → ℕ
-cursorsUpon stmt es = howMany (λ e. eqb (e .stmt) stmt) es
+abbrev pub cursorsOn : ℕ → List CursorEntry → ℕ
+cursorsOn stmt es = howMany (λ e. eqb (e .stmt) stmt) es
 
 pub record Rules (m : Listing) : Type 0 where
   -- closed or not, 0 or 1
@@ -36,12 +36,12 @@ pub record Rules (m : Listing) : Type 0 where
   -- ids distinct in each table
   pub stmtIds : (id : ℕ) → stmtsWith id (m .stmts) ≤ 1
   pub cursorIds : (id : ℕ) → cursorsWith id (m .cursors) ≤ 1
-  -- ids and rows below 2^32, placeholders at most 65,535
+  -- ids and rows below 2^32 (rows sent by `within`), placeholders at most 65,535
   pub stmtsSmall : All (λ e. (e .id ≤ maxNumber) × (e .placeholders ≤ maxPlaceholders)) (m .stmts)
   pub cursorsSmall : All (λ e. (e .id ≤ maxNumber) × ((e .stmt ≤ maxNumber) × (e .rows ≤ maxNumber))) (m .cursors)
   -- each cursor on a listed statement, and no two on one
   pub onListed : All (λ e. 1 ≤ stmtsWith (e .stmt) (m .stmts)) (m .cursors)
-  pub notTwo : (stmt : ℕ) → cursorsUpon stmt (m .cursors) ≤ 1
+  pub notTwo : (stmt : ℕ) → cursorsOn stmt (m .cursors) ≤ 1
   -- rows sent at most rows reported
   pub within : All (λ e. e .sent ≤ e .rows) (m .cursors)
   -- no entries if closed
@@ -54,7 +54,7 @@ pub record Acceptable (ns : List ℕ) : Type 0 where
   pub rules : Rules listing
 
 -- bytes that are the shortest varints of such numbers, with nothing behind them
-pub record Image (bytes : List ℕ) : Type 0 where
+pub record AcceptableImage (bytes : List ℕ) : Type 0 where
   pub numbers : List ℕ
   pub shortest : bytesOf numbers ≡ bytes
   pub acceptable : Acceptable numbers

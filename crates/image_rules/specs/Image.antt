@@ -1,11 +1,12 @@
 -- The image of a session: what it lists, as numbers, as shortest varints (I1, I2); and its writing (I3).
-use Prim.Native.Nat.{ℕ}
+use Prim.Native.Nat.{ℕ, _+_, _-_, _*_}
 use mathlib.Core.Bool.{cond}
 use mathlib.Core.List.{List, [], _∷_, _++_}
 use lib.ListN.{length}
 use lib.Dec.{leb}
 use Rattle.protocol.specs.Reason as Reason
 use Rattle.session.specs.Session.{Session}
+use Rattle.session.specs.Tables.{maxStmts, maxCursors}
 use Rattle.encode.specs.Put.{fitsAt, written}
 use Rattle.image_rules.specs.declared.Written.{Written}
 use Rattle.image_rules.specs.declared.StmtEntry.{StmtEntry}
@@ -18,6 +19,13 @@ abbrev pub form : ℕ
 form = 1
 
 -- ---- the numbers
+
+-- how many an entry has
+abbrev pub stmtWidth : ℕ
+stmtWidth = 3
+
+abbrev pub cursorWidth : ℕ
+cursorWidth = 5
 
 abbrev pub stmtNumbers : StmtEntry → List ℕ
 stmtNumbers e = e .place ∷ e .id ∷ e .placeholders ∷ []
@@ -43,10 +51,23 @@ numbersIn m = form ∷ m .closed ∷ tableNumbers stmtNumbers (m .stmts) ++ tabl
 abbrev pub imageOf : Session → List ℕ
 imageOf s = bytesOf (numbersIn (listingOf s))
 
--- no image of a session of 32-bit words is longer: one byte for the form, the flag, each count and each place, at most
--- five for every other number
+-- of a session of 32-bit words: the form, the flag, each count and each place have one byte
+abbrev pub oneByte : ℕ
+oneByte = 1
+
+-- every other number has at most five
+abbrev pub mostNumber : ℕ
+mostNumber = 5
+
+abbrev pub mostStmt : ℕ
+mostStmt = oneByte + (stmtWidth - 1) * mostNumber
+
+abbrev pub mostCursor : ℕ
+mostCursor = oneByte + (cursorWidth - 1) * mostNumber
+
+-- so no image is longer than 1,044 bytes
 abbrev pub maxImage : ℕ
-maxImage = 1044
+maxImage = 4 * oneByte + maxStmts * mostStmt + maxCursors * mostCursor
 
 -- ---- writing one into a lent buffer
 

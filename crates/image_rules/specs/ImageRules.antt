@@ -12,13 +12,13 @@ use Rattle.session.specs.Words.{sessionOf}
 use Rattle.image_rules.specs.Numbers.{bytesOf}
 use Rattle.image_rules.specs.Listing.{Listing, listingOf}
 use Rattle.image_rules.specs.Image.{numbersIn, imageOf, maxImage}
-use Rattle.image_rules.specs.Acceptable.{Rules, Image}
+use Rattle.image_rules.specs.Acceptable.{Rules, AcceptableImage}
 use Rattle.image_rules.specs.Restore.{Restored, restoreOf}
 
 -- "An image is accepted exactly if" its bytes are the shortest varints of an acceptable list of numbers (I4)
 pub record Exactly (image : List ℕ) (r : Restored) : Type 0 where
-  pub only : r .reason ≡ Reason.accepted → Image image
-  pub always : Image image → r .reason ≡ Reason.accepted
+  pub only : r .reason ≡ Reason.accepted → AcceptableImage image
+  pub always : AcceptableImage image → r .reason ≡ Reason.accepted
 
 abbrev pub AcceptedExactly : Type 0
 AcceptedExactly = (before : Session) (image : List ℕ) → Exactly image (restoreOf before image)
@@ -51,7 +51,7 @@ RoundTrips =
     (before s : Session) → Sound s →
     restoreOf before (imageOf s) ≡ record { reason = Reason.accepted; session = s }
 
--- what an accepted image gives keeps the rules of the tables
+-- what an accepted image gives keeps the rules of the tables (I5)
 abbrev pub AcceptedSound : Type 0
 AcceptedSound =
     (before : Session) (image : List ℕ) → restoreOf before image .reason ≡ Reason.accepted →

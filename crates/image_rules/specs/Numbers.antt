@@ -1,5 +1,5 @@
--- Numbers as bytes: the shortest varint of each, one behind the other (I1). An image is nothing else, and none of its
--- numbers is 2^32 or more.
+-- Numbers as bytes: the shortest varint of each, one behind the other (I1). An image is nothing else. No number of an
+-- acceptable image is 2^32 or more, nor is one of a session of 32-bit words.
 use Prim.Native.Nat.{ℕ, zero, suc}
 use mathlib.Core.Bool.{cond}
 use mathlib.Core.List.{List, [], _∷_, _++_}

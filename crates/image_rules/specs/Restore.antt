@@ -1,5 +1,6 @@
 -- Reading an image back (I5): its entries are taken into a session that has none, one after the other, each where the
--- rules allow it. Where one does not, or anything stands behind the last, the image is refused.
+-- rules allow it. Where one does not, or anything stands behind the last, the image is refused. This is shaped for the
+-- code; what it means is said in ImageRules.
 use Prim.Native.Nat.{ℕ, zero, suc}
 use mathlib.Core.Bool.{Bool, true, false, _&&_, _||_, not, cond}
 use mathlib.Core.List.{List}
@@ -15,7 +16,7 @@ use Rattle.session.specs.Sound.{maxPlaceholders}
 use Rattle.image_rules.specs.Numbers.{Front, frontAt}
 use Rattle.image_rules.specs.declared.StmtEntry.{StmtEntry}
 use Rattle.image_rules.specs.declared.CursorEntry.{CursorEntry}
-use Rattle.image_rules.specs.Image.{form}
+use Rattle.image_rules.specs.Image.{form, stmtWidth, cursorWidth}
 
 -- what is read up to a place: the session so far
 pub data Reading : Type 0 where
@@ -55,9 +56,24 @@ abbrev pub none : Place → Bool
 none (Place.At i) = false
 none Place.Nothing = true
 
--- the numbers of an entry, by their order
+-- the numbers of an entry or of the head, by their order
 abbrev pub nth : List ℕ → ℕ → ℕ
 nth ns k = getD ns k 0
+
+abbrev pub stmtOf : List ℕ → StmtEntry
+stmtOf ns = record { place = nth ns 0; id = nth ns 1; placeholders = nth ns 2 }
+
+abbrev pub cursorOf : List ℕ → CursorEntry
+cursorOf ns = record { place = nth ns 0; id = nth ns 1; stmt = nth ns 2; rows = nth ns 3; sent = nth ns 4 }
+
+abbrev pub formIn : List ℕ → ℕ
+formIn ns = nth ns 0
+
+abbrev pub closedIn : List ℕ → ℕ
+closedIn ns = nth ns 1
+
+abbrev pub stmtsIn : List ℕ → ℕ
+stmtsIn ns = nth ns 2
 
 -- a place behind those below `next`, and within the limit
 abbrev pub rises : ℕ → ℕ → ℕ → Bool
@@ -66,8 +82,8 @@ rises limit next place = leb next place && ltb place limit
 abbrev pub stmtTable : Table StmtEntry
 stmtTable =
     record {
-      width = 3;
-      entry = λ ns. record { place = nth ns 0; id = nth ns 1; placeholders = nth ns 2 };
+      width = stmtWidth;
+      entry = stmtOf;
       place = λ e. e .place;
       takes = λ next e x.
           rises maxStmts next (e .place) && (leb (e .placeholders) maxPlaceholders && none (stmtAt x (e .id)));
@@ -77,9 +93,8 @@ stmtTable =
 abbrev pub cursorTable : Table CursorEntry
 cursorTable =
     record {
-      width = 5;
-      entry = λ ns.
-          record { place = nth ns 0; id = nth ns 1; stmt = nth ns 2; rows = nth ns 3; sent = nth ns 4 };
+      width = cursorWidth;
+      entry = cursorOf;
       place = λ e. e .place;
       takes = λ next e x.
           rises maxCursors next (e .place) && (leb (e .sent) (e .rows) && (not (none (stmtAt x (e .stmt)))
@@ -93,17 +108,21 @@ cursorTable =
 abbrev pub begun : ℕ → Session
 begun closed = cond (eqb closed 0) fresh (closedNow fresh)
 
--- form, closed or not, and how many statements: none if closed
+-- form, closed or not, and how many statements: none if closed. So no cursor finds its statement then
 abbrev pub headWidth : ℕ
 headWidth = 3
 
 abbrev pub headGood : List ℕ → Bool
-headGood ns = eqb (nth ns 0) form && (leb (nth ns 1) 1 && (eqb (nth ns 1) 0 || eqb (nth ns 2) 0))
+headGood ns = eqb (formIn ns) form && (leb (closedIn ns) 1 && (eqb (closedIn ns) 0 || eqb (stmtsIn ns) 0))
+
+-- the count of cursors, by itself
+abbrev pub countWidth : ℕ
+countWidth = 1
 
 -- how many cursors, the cursors, and nothing behind them
 unfoldable pub cursorsAt : List ℕ → ℕ → Session → Reading
 cursorsAt s at x =
-    onFront (frontAt 1 s at) (λ ns after.
+    onFront (frontAt countWidth s at) (λ ns after.
     onRead (entriesAt cursorTable (nth ns 0) 0 s after x) (λ y end.
     cond (eqb end (length s)) (Reading.read y end) Reading.broken))
 
@@ -111,7 +130,7 @@ unfoldable pub readingOf : List ℕ → Reading
 readingOf s =
     onFront (frontAt headWidth s 0) (λ ns at.
     cond (headGood ns)
-    (onRead (entriesAt stmtTable (nth ns 2) 0 s at (begun (nth ns 1))) (λ x after. cursorsAt s after x))
+    (onRead (entriesAt stmtTable (stmtsIn ns) 0 s at (begun (closedIn ns))) (λ x after. cursorsAt s after x))
     Reading.broken)
 
 -- ---- the answer

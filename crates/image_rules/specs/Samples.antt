@@ -1,11 +1,15 @@
--- Images that are shown by proof: of sessions without entries, and of one in mid-load; and some that are refused.
+-- Images that are shown by proof (V19, V20): of sessions without entries, of one in mid-load, of one with the largest
+-- numbers; and bytes that break one rule each.
 use Prim.Native.Nat.{ℕ}
 use mathlib.Core.Path.{_≡_}
-use mathlib.Core.List.{List, [], _∷_, _++_}
+use mathlib.Core.List.{List, [], _∷_}
 use Rattle.protocol.specs.Reason as Reason
 use Rattle.session.specs.Session.{Session}
 use Rattle.session.specs.Lists.{All}
-use Rattle.session.specs.Tables.{fresh, closedNow, prepared, opened}
+use Rattle.session.specs.declared.Place.{Place}
+use Rattle.session.specs.Entry.{newStmt}
+use Rattle.session.specs.Sound.{maxNumber, maxPlaceholders}
+use Rattle.session.specs.Tables.{fresh, closedNow, prepared, opened, storedStmt}
 use Rattle.image_rules.specs.Image.{imageOf}
 use Rattle.image_rules.specs.Restore.{restoreOf}
 
@@ -25,11 +29,16 @@ loading = opened (prepared fresh 300 2) 7 300 1000 2
 abbrev pub loadingImage : List ℕ
 loadingImage = 1 ∷ 0 ∷ 1 ∷ 0 ∷ 0xAC ∷ 2 ∷ 2 ∷ 1 ∷ 0 ∷ 7 ∷ 0xAC ∷ 2 ∷ 0xE8 ∷ 7 ∷ 2 ∷ []
 
+-- the last place, the largest id, the most placeholders; all places before it are free
+abbrev pub greatest : Session
+greatest = storedStmt fresh (Place.At 63) (newStmt maxNumber maxPlaceholders)
+
 abbrev pub samples : List Sample
 samples =
     image fresh (1 ∷ 0 ∷ 0 ∷ 0 ∷ [])
     ∷ image (closedNow fresh) (1 ∷ 1 ∷ 0 ∷ 0 ∷ [])
     ∷ image loading loadingImage
+    ∷ image greatest (1 ∷ 0 ∷ 1 ∷ 63 ∷ 0xFF ∷ 0xFF ∷ 0xFF ∷ 0xFF ∷ 0x0F ∷ 0xFF ∷ 0xFF ∷ 3 ∷ 0 ∷ [])
     ∷ refused []
     ∷ refused (2 ∷ 0 ∷ 0 ∷ 0 ∷ [])  -- another form
     ∷ refused (1 ∷ 2 ∷ 0 ∷ 0 ∷ [])  -- neither closed nor not
@@ -39,6 +48,10 @@ samples =
     ∷ refused (1 ∷ 0 ∷ 2 ∷ 0 ∷ 5 ∷ 0 ∷ 0 ∷ 6 ∷ 0 ∷ 0 ∷ [])  -- one place twice
     ∷ refused (1 ∷ 0 ∷ 2 ∷ 0 ∷ 5 ∷ 0 ∷ 1 ∷ 5 ∷ 0 ∷ 0 ∷ [])  -- one id twice
     ∷ refused (1 ∷ 0 ∷ 1 ∷ 64 ∷ 5 ∷ 0 ∷ 0 ∷ [])  -- a place past the table
+    ∷ refused (1 ∷ 0 ∷ 1 ∷ 0 ∷ 5 ∷ 0 ∷ 1 ∷ 16 ∷ 7 ∷ 5 ∷ 1 ∷ 0 ∷ [])  -- and of a cursor
+    ∷ refused (1 ∷ 0 ∷ 1 ∷ 0 ∷ 0x80 ∷ 0x80 ∷ 0x80 ∷ 0x80 ∷ 0x10 ∷ 0 ∷ 0 ∷ [])  -- the id 2^32
+    ∷ refused (1 ∷ 0 ∷ 1 ∷ 0 ∷ 5 ∷ 0x80 ∷ 0x80 ∷ 4 ∷ 0 ∷ [])  -- 65,536 placeholders
+    ∷ refused (1 ∷ 0 ∷ 2 ∷ 0 ∷ 5 ∷ 0 ∷ 1 ∷ 6 ∷ 0 ∷ 2 ∷ 0 ∷ 7 ∷ 5 ∷ 1 ∷ 0 ∷ 1 ∷ 7 ∷ 6 ∷ 1 ∷ 0 ∷ [])  -- a cursor id twice
     ∷ refused (1 ∷ 0 ∷ 0 ∷ 1 ∷ 0 ∷ 7 ∷ 5 ∷ 1 ∷ 0 ∷ [])  -- a cursor on no statement
     ∷ refused (1 ∷ 0 ∷ 1 ∷ 0 ∷ 5 ∷ 0 ∷ 1 ∷ 0 ∷ 7 ∷ 5 ∷ 1 ∷ 2 ∷ [])  -- more rows sent than reported
     ∷ refused (1 ∷ 0 ∷ 1 ∷ 0 ∷ 5 ∷ 0 ∷ 2 ∷ 0 ∷ 7 ∷ 5 ∷ 1 ∷ 0 ∷ 1 ∷ 8 ∷ 5 ∷ 1 ∷ 0 ∷ [])  -- two cursors on one

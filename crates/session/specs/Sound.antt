@@ -1,4 +1,4 @@
--- What every session that steps reach keeps (S13).
+-- What every session that steps and restores reach keeps (S13).
 use Prim.Native.Nat.{ℕ, _≤_}
 use mathlib.Core.Bool.{true, false}
 use mathlib.Core.Path.{_≡_}
@@ -10,7 +10,7 @@ use Rattle.session.specs.Lists.{All, howMany}
 use Rattle.session.specs.Entry.{noStmt, noCursor, isLiveStmt, isLiveCursor, isStmt, isCursor, onStmt}
 use Rattle.session.specs.Tables.{maxStmts, maxCursors, noSpare, liveStmt, carried, stmtCount, cursorCount}
 
--- the largest id and count of rows, and of placeholders
+-- the largest id and count of rows, 2^32 - 1, and of placeholders
 abbrev pub maxNumber : ℕ
 maxNumber = 4294967295
 

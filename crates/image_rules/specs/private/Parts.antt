@@ -1,5 +1,5 @@
--- The parts of an image: what each table puts behind its count, place by place, and how long that is at most.
-use Prim.Native.Nat.{ℕ, _+_, _*_}
+-- The parts of an image: what each table puts behind its count, place by place.
+use Prim.Native.Nat.{ℕ}
 use mathlib.Core.Bool.{Bool, cond}
 use mathlib.Core.List.{List, []}
 use Rattle.session.specs.declared.Stmt.{Stmt}
@@ -26,14 +26,3 @@ stmtBytes s = bytesOf (joined stmtNumbers (stmtsOf s))
 
 abbrev pub cursorBytes : Session → List ℕ
 cursorBytes s = bytesOf (joined cursorNumbers (cursorsOf s))
-
--- a number of 32 bits takes at most five bytes
-abbrev pub mostNumber : ℕ
-mostNumber = 5
-
--- an entry: one byte for its place, and two numbers or four
-abbrev pub mostStmt : ℕ
-mostStmt = 1 + 2 * mostNumber
-
-abbrev pub mostCursor : ℕ
-mostCursor = 1 + 4 * mostNumber

@@ -4,7 +4,8 @@ use Rattle.encode.proofs.PutsLaws.{puts-length}
 use Rattle.image_rules.specs.Numbers.{bytesOf}
 use Rattle.image_rules.specs.Listing.{cursorEntry}
 use Rattle.image_rules.specs.Image.{cursorNumbers}
-use Rattle.image_rules.specs.private.Parts.{cursorBytesAt, mostCursor}
+use Rattle.image_rules.specs.Image.{mostCursor}
+use Rattle.image_rules.specs.private.Parts.{cursorBytesAt}
 use Rattle.image_rules.proofs.FitLaws.{cursor-short}
 use Rattle.image.proofs.WriteLaws.{number-then, last-number, puts-free, puts-live}
 use Rattle.image.proofs.write.put_cursor.Statement.{statement}

@@ -7,7 +7,8 @@ use Rattle.session.proofs.BuildLaws.{getD-build}
 use Rattle.encode.proofs.PutsLaws.{puts-length}
 use Rattle.image_rules.specs.Listing.{cursorEntry}
 use Rattle.image_rules.specs.Image.{cursorNumbers}
-use Rattle.image_rules.specs.private.Parts.{cursorBytesAt, mostCursor}
+use Rattle.image_rules.specs.Image.{mostCursor}
+use Rattle.image_rules.specs.private.Parts.{cursorBytesAt}
 use Rattle.image_rules.proofs.FitLaws.{table-places}
 use Rattle.image.proofs.WriteLaws.{Filling, fills, fills-on, filled}
 use Rattle.image.proofs.write.put_cursors.Statement.{statement}

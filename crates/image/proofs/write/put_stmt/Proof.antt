@@ -4,7 +4,8 @@ use Rattle.encode.proofs.PutsLaws.{puts-length}
 use Rattle.image_rules.specs.Numbers.{bytesOf}
 use Rattle.image_rules.specs.Listing.{stmtEntry}
 use Rattle.image_rules.specs.Image.{stmtNumbers}
-use Rattle.image_rules.specs.private.Parts.{stmtBytesAt, mostStmt}
+use Rattle.image_rules.specs.Image.{mostStmt}
+use Rattle.image_rules.specs.private.Parts.{stmtBytesAt}
 use Rattle.image_rules.proofs.FitLaws.{stmt-short}
 use Rattle.image.proofs.WriteLaws.{number-then, last-number, puts-free, puts-live}
 use Rattle.image.proofs.write.put_stmt.Statement.{statement}

@@ -7,7 +7,8 @@ use Rattle.session.proofs.BuildLaws.{getD-build}
 use Rattle.encode.proofs.PutsLaws.{puts-length}
 use Rattle.image_rules.specs.Listing.{stmtEntry}
 use Rattle.image_rules.specs.Image.{stmtNumbers}
-use Rattle.image_rules.specs.private.Parts.{stmtBytesAt, mostStmt}
+use Rattle.image_rules.specs.Image.{mostStmt}
+use Rattle.image_rules.specs.private.Parts.{stmtBytesAt}
 use Rattle.image_rules.proofs.FitLaws.{table-places}
 use Rattle.image.proofs.WriteLaws.{Filling, fills, fills-on, filled}
 use Rattle.image.proofs.write.put_stmts.Statement.{statement}
