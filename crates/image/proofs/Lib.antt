@@ -1,3 +1,4 @@
+pub mod FastLaws
 pub mod NumberLaws
 pub mod TakeLaws
 pub mod WholeLaws

@@ -1,7 +1,10 @@
 // Numbers of an image: each below 2^32, in its shortest form.
+ghost use mathlib.Core.Bool.{cond};
 ghost use mathlib.Core.Path.{_≡_};
+ghost use lib.Dec.{eqb};
 ghost use lib.ListN.{length, take};
-ghost use Prim.Native.Nat.{_≤_};
+ghost use Prim.Native.Nat.{_<_, _≤_};
+ghost use Rattle.varint.specs.declared.Varint.{Varint};
 ghost use Rattle.image_rules.specs.Numbers.{frontAt};
 ghost use Rattle.image.specs.private.Ends.{frontTo, most, numberAt};
 use varint::Varint;
@@ -11,6 +14,24 @@ use varint::read_short;
 pub(crate) const MOST: usize = 5;
 
 const MAX_NUMBER: u64 = 0xffff_ffff;
+
+// The most bytes that such a number has.
+const LONGEST: usize = 5;
+
+// A byte from here on has another behind it.
+const MORE: u64 = 128;
+
+// What 1 counts in the second byte and in each behind it. The mark of the byte before counts as much: it goes off.
+const SECOND: u64 = MORE;
+
+const THIRD: u64 = SECOND * MORE;
+
+const FOURTH: u64 = THIRD * MORE;
+
+const FIFTH: u64 = FOURTH * MORE;
+
+// So much in the fifth byte is 2^32.
+const FIFTH_LIMIT: u64 = 16;
 
 // The place behind what was read, or an image that is not acceptable.
 pub(crate) enum End {
@@ -38,8 +59,66 @@ pub(crate) fn read_numbers(image: &[u8], at: usize, k: usize, numbers: &mut [u32
     End::At(p)
 }
 
-// A number below 2^32 in its shortest form.
+// A number below 2^32 in its shortest form. Where as many bytes are there as it has at most, the end is asked for once.
 fn read_number(image: &[u8], at: usize) -> Varint
+    ensures { λ r. ⌜ r ≡ numberAt (now (image .entry)) at ⌝ }
+{
+    let n = image.len();
+    if n <= at {
+        return Varint::Bad;
+    }
+    let a = octet(image[at]);
+    if a < MORE {
+        return Varint::Number {
+            value: a,
+            next: at + 1,
+        };
+    }
+    if n - at < LONGEST {
+        return read_plain(&image[..n], at);
+    }
+    let b = octet(image[at + 1]);
+    let two = a - SECOND + b * SECOND;
+    if b < MORE {
+        return number_of(b, two, at + 2);
+    }
+    let c = octet(image[at + 2]);
+    let three = two - THIRD + c * THIRD;
+    if c < MORE {
+        return number_of(c, three, at + 3);
+    }
+    let d = octet(image[at + 3]);
+    let four = three - FOURTH + d * FOURTH;
+    if d < MORE {
+        return number_of(d, four, at + 4);
+    }
+    let e = octet(image[at + 4]);
+    if FIFTH_LIMIT <= e {
+        return Varint::Bad;
+    }
+    number_of(e, four - FIFTH + e * FIFTH, at + 5)
+}
+
+// A byte as a number, with its range.
+fn octet(b: u8) -> u64
+    ensures answer { λ r. ⌜ r ≡ b ⌝ }
+    ensures small { λ r. ⌜ r < 256 ⌝ }
+{
+    b as u64
+}
+
+// The number of several bytes. A last one of 0 is padding.
+fn number_of(last: u64, value: u64, next: usize) -> Varint
+    ensures { λ r. ⌜ r ≡ cond (eqb last 0) Varint.Bad (Varint.Number value next) ⌝ }
+{
+    if last == 0 {
+        return Varint::Bad;
+    }
+    Varint::Number { value, next }
+}
+
+// The same at the end of an image, where fewer bytes are left.
+fn read_plain(image: &[u8], at: usize) -> Varint
     ensures { λ r. ⌜ r ≡ numberAt (now (image .entry)) at ⌝ }
 {
     let mut padded = false;
