@@ -594,7 +594,7 @@ struct karramotx_sent karramotx_append(struct karramotx_scalar scalar, const uin
  *
  *     struct karramotx_session session = karramotx_fresh();
  *     if (karramotx_restore(&session, image, len) != KARRAMOTX_ACCEPTED)
- *         give up: this is no image, or a damaged one
+ *         give up: this is no acceptable image
  *
  * A session restored from an image goes on exactly as the one that it was written from: it is that very session, so the
  * same frames and reports get the same answers and replies. What FetchDone stands for is promised of it too: a cursor
@@ -621,6 +621,9 @@ struct karramotx_sent karramotx_append(struct karramotx_scalar scalar, const uin
  * KARRAMOTX_MAX_STMTS or KARRAMOTX_MAX_CURSORS, no id stands twice in a table, ids and rows are below 2^32 and
  * placeholders at most 65,535, each cursor is on a statement that is listed and no two are on one, no cursor has sent
  * more rows than were reported, and a closed session has no statement and no cursor.
+ *
+ * That says that the bytes are an acceptable image, not that they are the one that was written: an image has no
+ * checksum, and damage that keeps these rules gives another session. Carry it in a way that finds damage.
  *
  * Every session has one image, and that of a session which came from karramotx_fresh or karramotx_restore and was
  * changed by karramotx_step alone is accepted. That of one with other words in it need not be.

@@ -121,7 +121,8 @@
 //! entries, and at which places. The result of a cursor must have as many rows as before.
 //!
 //! An image may come from disk or from the network: it is judged, byte for byte, and refused as
-//! [`Refusal::BadImage`] where it is not acceptable. `include/karramotx.h` lays it out.
+//! [`Refusal::BadImage`] where it is not acceptable. `include/karramotx.h` lays it out. It has no checksum, and
+//! damage that keeps its rules gives another session: carry it in a way that finds damage.
 #![deny(missing_docs)]
 
 mod argument;
