@@ -1,5 +1,6 @@
 -- What is reached is sound, so its image gives it back. Assumes nothing.
-use Rattle.prelude.proofs.Basics.{ℕ, suc, _+_, _≤_, arith, Bool, true, false, cond, _≡_, refl, sym, ap, subst, _∙_, List, [], _∷_, map}
+use Rattle.prelude.proofs.Basics.{ℕ, suc, _+_, _≤_, arith, Bool, true, false, cond, _≡_, refl, sym, ap, subst, _∙_}
+use Rattle.prelude.proofs.Basics.{List, [], _∷_, map}
 use Rattle.protocol.specs.Reason as Reason
 use Rattle.session.specs.declared.Cursor.{Cursor}
 use Rattle.session.specs.Session.{Session}
@@ -13,16 +14,16 @@ use Rattle.session.proofs.WordLaws.{nothing-lost}
 use Rattle.image_rules.specs.declared.CursorEntry.{CursorEntry}
 use Rattle.image_rules.specs.Numbers.{bytesOf}
 use Rattle.image_rules.specs.Acceptable.{Rules}
-use Rattle.image_rules.specs.Listing.{Listing, placed, cursorEntry, listingOf}
-use Rattle.image_rules.specs.Image.{numbersIn, imageOf}
+use Rattle.image_rules.specs.Listing.{Listing, placed, cursorEntry}
+use Rattle.image_rules.specs.Image.{numbersIn}
 use Rattle.image_rules.specs.Restore.{Reading, restoredBy, readingOf, restoreOf}
-use Rattle.image_rules.proofs.ImageLaws.{just-these-entries, keeps-rules, round-trips, accepted-sound, refused-as-it-was}
+use Rattle.image_rules.proofs.ImageLaws.{just-these-entries, keeps-rules, round-trips, accepted-sound}
 use Rattle.history.specs.Tally.{Tally, kept}
 use Rattle.history.specs.Start.{openingOf, startOf}
 use Rattle.history.specs.Run.{Input, run, leaves}
 use Rattle.history.specs.History.{Kept, stateBy}
 use Rattle.history.specs.Calls.{stateAfter}
-use Rattle.history.specs.Handover.{Reachable, StepsReach, Keeps, ReachableKeeps, GivenBack, GoesOn, openingIn}
+use Rattle.history.specs.Handover.{Reachable, StepsReach, ReachableKeeps, GivenBack, GoesOn, openingIn}
 use Rattle.history.specs.Handover.{startIn, EndsAtReported, Demand3Restored, Demand3RestoredExported, SameWords}
 use Rattle.history.specs.Handover.Reachable.{begins, steps, restores}
 use Rattle.history.proofs.HistoryLaws.{demand-3-from, sound-from}

@@ -53,12 +53,13 @@ GivenBack =
 -- without them, with the same reply and the same session (I9)
 abbrev pub GoesOn : Type 0
 GoesOn =
-    (before s : Session) → Reachable s → (later : List Input) → run (restoreOf before (imageOf s) .session) later ≡ run s later
+    (before s : Session) → Reachable s → (later : List Input) →
+    run (restoreOf before (imageOf s) .session) later ≡ run s later
 
 -- ---- demand 3 from an image
 
--- "each restored cursor counts, in the tally from its start, as an opening of the rows then left, numbered from its rows
--- sent" (I8)
+-- "each restored cursor counts, in the tally from its start, as an opening of the rows then left, numbered from its
+-- rows sent" (I8)
 abbrev pub openingIn : CursorEntry → Opening
 openingIn e = record { cursor = e .id; stmt = e .stmt; first = e .sent; rows = e .rows - e .sent; segments = [] }
 

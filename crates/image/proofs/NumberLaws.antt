@@ -1,6 +1,6 @@
 -- Numbers read one by one are those in front. Assumes nothing.
-use Rattle.prelude.proofs.Basics.{ℕ, zero, suc, _+_, _-_, _≤_, _<_, arith, add-one, Bool, true, false, cond, _≡_, refl}
-use Rattle.prelude.proofs.Basics.{sym, ap, _∙_, List, [], _∷_, _++_, append-nil, length, set, take, length-set, leb}
+use Rattle.prelude.proofs.Basics.{ℕ, suc, _+_, _-_, _≤_, _<_, arith, add-one, Bool, true, false, cond, _≡_, refl}
+use Rattle.prelude.proofs.Basics.{sym, ap, _∙_, List, [], _∷_, _++_, length, set, take, length-set, leb}
 use Rattle.prelude.proofs.Basics.{le-leb, leb-true, lt-leb}
 use lib.Seq.{take-suc-set}
 use Rattle.varint.specs.declared.Varint.{Varint}

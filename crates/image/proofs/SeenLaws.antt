@@ -1,5 +1,5 @@
 -- An id whose slot was not seen is not live yet. Assumes nothing.
-use Rattle.prelude.proofs.Basics.{ℕ, _+_, _≤_, _<_, _%_, arith, Bool, true, false, true≢false, _≡_, refl, sym, ap}
+use Rattle.prelude.proofs.Basics.{ℕ, _<_, _%_, arith, Bool, true, false, true≢false, _≡_, refl, sym, ap}
 use Rattle.prelude.proofs.Basics.{_∙_, mod-lt, List, length, getD, set, replicate, length-set, getD-set-same}
 use Rattle.prelude.proofs.Basics.{getD-set-other, eqb, eqb-true, eqb-false}
 use lib.ListN.{length-replicate}

@@ -1,12 +1,12 @@
 -- Entries taken one by one, and what is asked of each. Assumes nothing.
-use Rattle.prelude.proofs.Basics.{ℕ, zero, suc, _+_, _-_, _≤_, _<_, arith, add-one, Bool, true, false, not, _&&_, cond}
-use Rattle.prelude.proofs.Basics.{and-false, _≡_, refl, sym, ap, _∙_, List, [], _∷_, length, getD, take, getD-take}
-use Rattle.prelude.proofs.Basics.{leb, ltb, le-leb, lt-leb, lt-ltb, le-ltb, not-true, not-false, before-suc}
+use Rattle.prelude.proofs.Basics.{ℕ, zero, suc, _+_, _-_, _≤_, _<_, arith, add-one, Bool, true, false, _&&_, cond}
+use Rattle.prelude.proofs.Basics.{_≡_, refl, sym, ap, _∙_, List, getD, take, getD-take}
+use Rattle.prelude.proofs.Basics.{leb, ltb, le-leb, lt-leb, before-suc}
 use Rattle.session.specs.Session.{Session}
 use Rattle.image_rules.specs.declared.StmtEntry.{StmtEntry}
 use Rattle.image_rules.specs.declared.CursorEntry.{CursorEntry}
 use Rattle.image_rules.specs.Numbers.{Front, frontAt}
-use Rattle.image_rules.specs.Restore.{Reading, onFront, Table, entriesAt, nth, rises, stmtTable, cursorTable}
+use Rattle.image_rules.specs.Restore.{Reading, onFront, Table, entriesAt, rises, stmtTable, cursorTable}
 use Rattle.image.specs.declared.numbers.End.{End}
 use Rattle.image.specs.private.Ends.{frontTo}
 
@@ -52,7 +52,8 @@ module _ {E : Type 0} (t : Table E) (count next : ℕ) (s : List ℕ) (at : ℕ)
     pub entries-refuse : (e : E) → e ≡ t .entry ns → t .takes next e x ≡ false →
         Reading.broken ≡ entriesAt t count next s at x
     entries-refuse e f h =
-        sym (ap (λ (b : Bool). cond b (entriesAt t (count - 1) (suc (t .place e)) s after (t .taken e x)) Reading.broken) h)
+        sym (ap (λ (b : Bool). cond b (entriesAt t (count - 1) (suc (t .place e)) s after (t .taken e x))
+        Reading.broken) h)
         ∙ ap (λ y. one-entry y after) f
         ∙ there
 

@@ -1,6 +1,7 @@
 -- The parts of an image, read in turn, are the whole. Assumes nothing.
 use Rattle.prelude.proofs.Basics.{ℕ, _<_, _≤_, arith, Bool, true, false, _&&_, _||_, cond, _≡_, refl, sym, ap, _∙_}
-use Rattle.prelude.proofs.Basics.{List, [], _∷_, length, getD, take, getD-take, eqb, leb, eq-eqb, ne-eqb, le-leb, lt-leb}
+use Rattle.prelude.proofs.Basics.{List, [], _∷_, length, getD, take, getD-take, eqb, leb, eq-eqb, ne-eqb, le-leb}
+use Rattle.prelude.proofs.Basics.{lt-leb}
 use Rattle.prelude.proofs.Basics.{eqb-true}
 use Rattle.protocol.specs.Reason as Reason
 use Rattle.session.specs.Session.{Session}
@@ -114,7 +115,8 @@ module _ (s : List ℕ) where
         ∙ whole-is
 
     module _ (good : headGood (headIn ns) ≡ true) where
-      stmts-is : onRead (entriesAt stmtTable (getD ns 2 0) 0 s at (begun (getD ns 1 0))) (λ x after. cursorsAt s after x)
+      stmts-is :
+          onRead (entriesAt stmtTable (getD ns 2 0) 0 s at (begun (getD ns 1 0))) (λ x after. cursorsAt s after x)
           ≡ readingOf s
       stmts-is =
           sym (ap (λ (b : Bool). cond b
@@ -134,8 +136,8 @@ module _ (s : List ℕ) where
         whole-refused g = from g
 
         pub whole-read : (y : Session) (after : ℕ) →
-            Reading.read y after ≡ entriesAt stmtTable (getD ns 2 0) 0 s at x → {f : Reading} → f ≡ cursorsAt s after y →
-            f ≡ readingOf s
+            Reading.read y after ≡ entriesAt stmtTable (getD ns 2 0) 0 s at x → {f : Reading} →
+            f ≡ cursorsAt s after y → f ≡ readingOf s
         whole-read y after g h = h ∙ from g
 
 -- ---- the answer

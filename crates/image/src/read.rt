@@ -6,7 +6,7 @@ ghost use Rattle.session.specs.Entry.{isStmt};
 ghost use Rattle.session.specs.Lists.{howMany};
 ghost use mathlib.Core.List.{[], _∷_};
 ghost use lib.ListN.{length};
-ghost use Rattle.session.specs.Tables.{fresh, maxCursors, maxStmts};
+ghost use Rattle.session.specs.Tables.{fresh};
 ghost use Rattle.session.specs.Words.{sessionOf};
 ghost use Rattle.image_rules.specs.Restore.{begun, cursorTable, cursorsAt, entriesAt, headGood, none, readingOf};
 ghost use Rattle.image_rules.specs.Restore.{rises, stmtTable};

@@ -50,7 +50,8 @@ module _ {E : Type 0} (t : Table E) (numbers : E → List ℕ) (law : Lawful t n
       ∙ ap (λ y. step (length es) next s x y after) (law .back e)
       ∙ ap (λ (b : Bool). cond b (entriesAt t (length es) (suc (t .place e)) s after (t .taken e x)) Reading.broken)
       (h .0)
-      ∙ entries-read es (suc (t .place e)) s after q (t .taken e x) (fit .1) (behind-it s (bytesOf (numbers e)) (listed es ++ q) at here) (h .1)
+      ∙ entries-read es (suc (t .place e)) s after q (t .taken e x) (fit .1)
+      (behind-it s (bytesOf (numbers e)) (listed es ++ q) at here) (h .1)
       ∙ ap (Reading.read (withAll t es (t .taken e x))) sum
     where
       after : ℕ

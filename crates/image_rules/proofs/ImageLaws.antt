@@ -1,13 +1,13 @@
 -- What is read is what was listed, both ways. Assumes nothing.
-use Rattle.prelude.proofs.Basics.{ℕ, zero, suc, _+_, _-_, _≤_, _<_, arith, add-zero, Bool, true, false, not, _&&_, _||_}
-use Rattle.prelude.proofs.Basics.{cond, true≢false, false≢true, _≡_, refl, sym, ap, subst, _∙_, _⊎_, inl, inr, ⊎-elim}
+use Rattle.prelude.proofs.Basics.{ℕ, zero, suc, _+_, _-_, _≤_, arith, Bool, true, false, not, _&&_, _||_}
+use Rattle.prelude.proofs.Basics.{cond, _≡_, refl, sym, ap, subst, _∙_, _⊎_, inl, inr, ⊎-elim}
 use Rattle.prelude.proofs.Basics.{List, [], _∷_, _++_, append-nil, map, length, drop, length-append}
 use Rattle.prelude.proofs.Basics.{drop-of-length-le, eqb, leb, eq-eqb, eqb-true, leb-true, le-leb, both}
 use lib.ListN.{length-map}
 use Rattle.protocol.specs.Reason as Reason
 use Rattle.session.specs.declared.Cursor.{Cursor}
 use Rattle.session.specs.Session.{Session, isClosed}
-use Rattle.session.specs.Lists.{All, howMany, sumBy}
+use Rattle.session.specs.Lists.{All, howMany}
 use Rattle.session.specs.Entry.{noStmt, noCursor, isLiveStmt, isLiveCursor, isStmt, isCursor, onStmt}
 use Rattle.session.specs.Tables.{maxStmts, maxCursors, fresh, closedNow, stmtCount, cursorCount}
 use Rattle.session.specs.Sound.{maxNumber, maxPlaceholders, Sound}
@@ -19,17 +19,18 @@ use Rattle.image_rules.specs.Numbers.{bytesOf, Front, frontAt}
 use Rattle.image_rules.specs.Listing.{Listing, stmtEntry, cursorEntry, stmtsOf, cursorsOf}
 use Rattle.image_rules.specs.Listing.{placed, listingOf}
 use Rattle.image_rules.specs.Image.{form, stmtNumbers, cursorNumbers, joined, numbersIn, imageOf}
-use Rattle.image_rules.specs.Acceptable.{Rising, stmtsWith, Rules, Acceptable, AcceptableImage}
+use Rattle.image_rules.specs.Acceptable.{Rising, stmtsWith, Rules}
 use Rattle.image_rules.specs.Restore.{Reading, onFront, onRead, entriesAt, stmtTable, cursorTable, begun}
-use Rattle.image_rules.specs.Restore.{nth, headWidth, headGood, cursorsAt, readingOf, restoredBy, restoreOf}
-use Rattle.image_rules.specs.ImageRules.{Exactly, AcceptedExactly, JustTheseEntries, RefusedAsItWas, KeepsRules}
+use Rattle.image_rules.specs.Restore.{nth, headGood, cursorsAt, readingOf, restoredBy, restoreOf}
+use Rattle.image_rules.specs.ImageRules.{AcceptedExactly, JustTheseEntries, RefusedAsItWas, KeepsRules}
 use Rattle.image_rules.specs.ImageRules.{RoundTrips, AcceptedSound}
 use Rattle.image_rules.proofs.NumberLaws.{Fits, bytes-append, behind-it, reads, Fronts, Tells, front-tells}
 use Rattle.image_rules.proofs.EntryLaws.{Lawful, Taken, withAll, entries-read, Listed, Lists, entries-list}
 use Rattle.image_rules.proofs.PlacedLaws.{placed-none}
 use Rattle.image_rules.proofs.SoundLaws.{stmts-with, flag-one, all-as, sound-keeps, same-session}
-use Rattle.image_rules.proofs.StoreLaws.{and-both, none-live, TakingStmts, TookStmts, stmts-taken, StmtsAhead, stmts-take}
-use Rattle.image_rules.proofs.StoreLaws.{TakingCursors, TookCursors, cursors-taken, CursorsAhead, cursors-take}
+use Rattle.image_rules.proofs.StoreLaws.{and-both, none-live, TakingStmts, TookStmts, stmts-taken, StmtsAhead}
+use Rattle.image_rules.proofs.StoreLaws.{stmts-take}
+use Rattle.image_rules.proofs.StoreLaws.{TakingCursors, TookCursors, cursors-taken, cursors-take}
 
 -- ---- the two tables
 

@@ -1,9 +1,9 @@
 -- Numbers written as shortest varints read back, and no other bytes read as them. Assumes nothing.
-use Rattle.prelude.proofs.Basics.{ℕ, zero, suc, _+_, _-_, _%_, _^_, _≤_, _<_, arith, add-zero, mod-lt, Bool, true, false}
-use Rattle.prelude.proofs.Basics.{cond, _≡_, refl, sym, ap, subst, _∙_, List, [], _∷_, _++_, append-assoc, length, take, drop}
+use Rattle.prelude.proofs.Basics.{ℕ, zero, suc, _+_, _-_, _^_, _≤_, _<_, arith, add-zero, Bool, false}
+use Rattle.prelude.proofs.Basics.{cond, _≡_, refl, sym, ap, subst, _∙_, List, [], _∷_, _++_, append-assoc, length, drop}
 use Rattle.prelude.proofs.Basics.{drop-drop, drop-at, length-append, take-append-drop, leb, le-leb, leb-true, both}
 use Rattle.varint.specs.declared.Varint.{Varint}
-use Rattle.varint.specs.Varint.{varintAt, groups, low64}
+use Rattle.varint.specs.Varint.{varintAt}
 use Rattle.varint.specs.Shortest.{varintBytes}
 use Rattle.varint.specs.Padded.{paddedAt}
 use Rattle.varint.specs.Past.{Past}
@@ -37,11 +37,13 @@ pub reads : (ns s : List ℕ) (at : ℕ) (q : List ℕ) → All Fits ns → drop
 unfolding frontAt bytesOf All
 reads [] s at q h e = ap (Front.numbers []) (sym (add-zero at))
 reads (n ∷ ns) s at q h e =
-    ap (λ (b : Bool). cond b Front.broken (onVarint (varintAt s at) more)) (plain-there n at s (bytesOf ns ++ q) fit here)
+    ap (λ (b : Bool). cond b Front.broken (onVarint (varintAt s at) more))
+    (plain-there n at s (bytesOf ns ++ q) fit here)
     ∙ ap (λ x. onVarint x more) (reads-there n at s (bytesOf ns ++ q) fit here)
     ∙ ap (λ (b : Bool). cond b (ahead n (frontAt (length ns) s (at + length (varintBytes n)))) Front.broken)
     (le-leb n maxNumber (h .0))
-    ∙ ap (ahead n) (reads ns s (at + length (varintBytes n)) q (h .1) (behind-it s (varintBytes n) (bytesOf ns ++ q) at here))
+    ∙ ap (ahead n)
+    (reads ns s (at + length (varintBytes n)) q (h .1) (behind-it s (varintBytes n) (bytesOf ns ++ q) at here))
     ∙ ap (Front.numbers (n ∷ ns)) sum
   where
     more : ℕ → ℕ → Front

@@ -1,16 +1,15 @@
 -- A sound session lists what keeps the rules of an image, and is determined by what it lists. Assumes nothing.
-use Rattle.prelude.proofs.Basics.{ℕ, zero, suc, _+_, _≤_, arith, le-trans, Bool, true, false, _&&_, cond, false≢true}
-use Rattle.prelude.proofs.Basics.{_≡_, refl, sym, ap, _∙_, List, [], _∷_, length, eqb, eq-eqb}
+use Rattle.prelude.proofs.Basics.{ℕ, zero, suc, _≤_, arith, Bool, true, false, _&&_, false≢true}
+use Rattle.prelude.proofs.Basics.{_≡_, refl, sym, ap, _∙_, List, [], _∷_, eqb, eq-eqb}
 use Rattle.session.specs.declared.Stmt.{Stmt}
 use Rattle.session.specs.declared.Cursor.{Cursor}
 use Rattle.session.specs.Session.{Session, flag, isClosed, withStmts, withCursors, withSpare, withClosed}
 use Rattle.session.specs.Lists.{All, sumBy, howMany}
-use Rattle.session.specs.Entry.{noStmt, noCursor, newStmt, newCursor, isLiveStmt, isLiveCursor, isStmt, isCursor, onStmt}
+use Rattle.session.specs.Entry.{noStmt, noCursor, newStmt, newCursor, isLiveStmt, isLiveCursor, isStmt, isCursor}
+use Rattle.session.specs.Entry.{onStmt}
 use Rattle.session.specs.Tables.{maxStmts, maxCursors}
 use Rattle.session.specs.Sound.{ProperStmt, ProperCursor, Sound}
 use Rattle.session.proofs.SumLaws.{one, one-le}
-use Rattle.image_rules.specs.declared.StmtEntry.{StmtEntry}
-use Rattle.image_rules.specs.declared.CursorEntry.{CursorEntry}
 use Rattle.image_rules.specs.Listing.{stmtEntry, cursorEntry, stmtsOf, cursorsOf, listingOf}
 use Rattle.image_rules.specs.Acceptable.{stmtsWith, cursorsWith, cursorsOn, Rules}
 use Rattle.image_rules.proofs.PlacedLaws.{placed-many, placed-all, placed-none, placed-rising, placed-same}
@@ -66,7 +65,8 @@ sound-keeps s h =
           placed-all isLiveCursor cursorEntry ProperCursor _ (λ k c e p. (p .id, (p .stmt, p .rows))) 0 (s .cursors)
           (h .cursorsProper);
       onListed =
-          placed-all isLiveCursor cursorEntry (λ c. isLiveCursor c ≡ true → 1 ≤ howMany (onStmt (c .stmt)) (s .cursors)) _
+          placed-all isLiveCursor cursorEntry
+          (λ c. isLiveCursor c ≡ true → 1 ≤ howMany (onStmt (c .stmt)) (s .cursors)) _
           (λ k c e p. omega (arith, p e, h .carries (c .stmt), stmts-with (c .stmt) s)) 0 (s .cursors)
           (own-counted (s .cursors) (s .cursors) (λ k. omega arith));
       notTwo = λ stmt. omega (arith, cursors-on stmt s, h .carries stmt, h .stmtOnce stmt);
@@ -95,7 +95,9 @@ stmt-own : (t : Stmt) → ProperStmt t →
     (isLiveStmt t ≡ false → t ≡ noStmt) × (isLiveStmt t ≡ true → (k : ℕ) → newStmt (t .id) (t .placeholders) ≡ t)
 stmt-own t p = (
   p .empty,
-  λ e k. ap (λ (n : ℕ). record { id = t .id; placeholders = t .placeholders; live = n }) (live-one (t .live) e (p .flagged)),
+  λ e k.
+      ap (λ (n : ℕ). record { id = t .id; placeholders = t .placeholders; live = n })
+      (live-one (t .live) e (p .flagged)),
 )
 
 cursor-own : (c : Cursor) → ProperCursor c →

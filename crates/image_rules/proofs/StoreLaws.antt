@@ -1,15 +1,16 @@
 -- A session that takes an entry of an image stays sound and lists it behind the others. Assumes nothing.
-use Rattle.prelude.proofs.Basics.{ℕ, zero, suc, _+_, _≤_, _<_, arith, zero-add, le-trans, Bool, true, false, not, _&&_, cond}
-use Rattle.prelude.proofs.Basics.{true≢false, false≢true, _≡_, refl, sym, ap, subst, _∙_, List, [], _∷_, _++_}
-use Rattle.prelude.proofs.Basics.{append-nil, append-assoc, map, length, getD, set, length-set, getD-set-same}
+use Rattle.prelude.proofs.Basics.{ℕ, zero, suc, _+_, _≤_, _<_, arith, zero-add, Bool, true, false, not, _&&_}
+use Rattle.prelude.proofs.Basics.{true≢false, false≢true, _≡_, refl, sym, ap, _∙_, List, [], _∷_, _++_}
+use Rattle.prelude.proofs.Basics.{append-nil, append-assoc, map, length, getD, set, length-set}
 use Rattle.prelude.proofs.Basics.{getD-set-other, eqb, leb, ltb, eq-eqb, eqb-true, leb-true, ltb-true, le-leb, lt-ltb}
 use Rattle.session.specs.declared.Stmt.{Stmt}
 use Rattle.session.specs.declared.Cursor.{Cursor}
 use Rattle.session.specs.declared.Place.{Place}
 use Rattle.session.specs.Session.{Session, isClosed}
 use Rattle.session.specs.Lists.{All, first, sumBy, howMany}
-use Rattle.session.specs.Entry.{noStmt, noCursor, newStmt, newCursor, isLiveStmt, isLiveCursor, isStmt, isCursor, onStmt}
-use Rattle.session.specs.Tables.{maxStmts, maxCursors, stmtAt, cursorAt, cursorOn}
+use Rattle.session.specs.Entry.{noStmt, noCursor, newStmt, newCursor, isLiveStmt, isLiveCursor, isStmt, isCursor}
+use Rattle.session.specs.Entry.{onStmt}
+use Rattle.session.specs.Tables.{maxStmts, maxCursors}
 use Rattle.session.specs.Sound.{maxNumber, maxPlaceholders, ProperStmt, ProperCursor, Sound}
 use Rattle.session.proofs.PlaceLaws.{found, none-from, none-back}
 use Rattle.session.proofs.SumLaws.{one, sum-set, all-set, and-true, counted, count-le}
@@ -17,7 +18,7 @@ use Rattle.image_rules.specs.declared.StmtEntry.{StmtEntry}
 use Rattle.image_rules.specs.declared.CursorEntry.{CursorEntry}
 use Rattle.image_rules.specs.Listing.{stmtEntry, cursorEntry, stmtsOf, cursorsOf}
 use Rattle.image_rules.specs.Acceptable.{Rising, stmtsWith, cursorsWith, cursorsOn}
-use Rattle.image_rules.specs.Restore.{none, rises, stmtTable, cursorTable}
+use Rattle.image_rules.specs.Restore.{none, stmtTable, cursorTable}
 use Rattle.image_rules.specs.Image.{stmtNumbers, cursorNumbers}
 use Rattle.image_rules.proofs.NumberLaws.{Fits}
 use Rattle.image_rules.proofs.PlacedLaws.{placed-last}

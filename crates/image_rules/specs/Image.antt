@@ -3,7 +3,6 @@ use Prim.Native.Nat.{ℕ, _+_, _-_, _*_}
 use mathlib.Core.Bool.{cond}
 use mathlib.Core.List.{List, [], _∷_, _++_}
 use lib.ListN.{length}
-use lib.Dec.{leb}
 use Rattle.protocol.specs.Reason as Reason
 use Rattle.session.specs.Session.{Session}
 use Rattle.session.specs.Tables.{maxStmts, maxCursors}

@@ -1,5 +1,5 @@
--- What holds of images: of every byte string, and of every session that keeps the rules of the tables. That every session
--- which steps and restores reach keeps them is with the runs of steps: history Handover.
+-- What holds of images: of every byte string, and of every session that keeps the rules of the tables. That every
+-- session which steps and restores reach keeps them is with the runs of steps: history Handover.
 use mathlib.Core.Path.{_≡_}
 use mathlib.Core.List.{List}
 use Prim.Native.Nat.{ℕ, _≤_}
@@ -33,7 +33,8 @@ pub record Gives (m : Listing) (image : List ℕ) (r : Restored) : Type 0 where
 
 abbrev pub JustTheseEntries : Type 0
 JustTheseEntries =
-    (before : Session) (m : Listing) → Rules m → Gives m (bytesOf (numbersIn m)) (restoreOf before (bytesOf (numbersIn m)))
+    (before : Session) (m : Listing) → Rules m →
+    Gives m (bytesOf (numbersIn m)) (restoreOf before (bytesOf (numbersIn m)))
 
 -- "18, image not acceptable, the session given back as it was" (I6)
 abbrev pub RefusedAsItWas : Type 0

@@ -41,7 +41,8 @@ returns-2 c = (fetching-ends (c .before .loop .inv) (c .loop-test .left), c .bef
 
 -- a place of the array
 inside : (c : tie.After-known-told Inv-loop μ-loop) →
-    c .before .before .before .before .before .loop .i < length (c .before .before .before .before .before .loop .numbers)
+    c .before .before .before .before .before .loop .i
+    < length (c .before .before .before .before .before .loop .numbers)
 inside c =
     let r = c .before .before .before .before in
     omega (arith, r .loop-test .taken, r .before .loop .inv .room, r .before .loop .inv .long)
@@ -49,6 +50,10 @@ inside c =
 few : (c : tie.After-known-told Inv-loop μ-loop) → c .before .before .before .before .before .loop .i < most
 few c =
     let r = c .before .before .before .before in omega (arith, r .loop-test .taken, r .before .loop .inv .room)
+
+same-length : tie.Need-same-length Inv-loop μ-loop
+same-length c =
+    let l = c .before .before .before .before in l .loop .inv .long ∙ sym (l .before .before .before .pre .0)
 
 pub read-numbers-spec : {M : Type 1} → statement M
 read-numbers-spec =
@@ -60,7 +65,7 @@ read-numbers-spec =
     (λ c κs. search needs)
     (λ c. search needs)
     (λ c. search needs)
-    (λ c. c .before .before .before .before .loop .inv .long ∙ sym (c .before .before .before .before .before .before .before .pre .0))
+    same-length
     returns
     cast-numbers
     (λ c. omega (arith, few c))

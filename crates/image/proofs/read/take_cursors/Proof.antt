@@ -1,5 +1,5 @@
 -- What was taken, and what is left to take, is the whole.
-use Rattle.prelude.proofs.Basics.{arith, _≡_, refl, sym, ap, _∙_, length, needs, not-true, not-false}
+use Rattle.prelude.proofs.Basics.{arith, _≡_, refl, sym, _∙_, length, needs, not-true, not-false}
 use Rattle.session.specs.Words.{sessionOf}
 use Rattle.image_rules.specs.Restore.{cursorTable, entriesAt}
 use Rattle.image_rules.proofs.StoreLaws.{cursor-inside}
@@ -11,7 +11,8 @@ use Rattle.image.proofs.read.take_cursors.Tie as tie
 
 abbrev Inv-loop : tie.InvT-loop
 Inv-loop words₀ image at count numbers₀ p₀ next₀ left₀ words numbers p next left =
-    (entriesAt cursorTable left next image p (sessionOf words) ≡ entriesAt cursorTable count 0 image at (sessionOf words₀))
+    (entriesAt cursorTable left next image p (sessionOf words)
+    ≡ entriesAt cursorTable count 0 image at (sessionOf words₀))
     × (length numbers ≡ most)
 
 abbrev μ-loop : tie.MeasureT-loop
@@ -61,7 +62,11 @@ add-next c =
     let r = t .before .before .before .before .before .before in
     let l = r .before .before .before in
     let ns = r .read-numbers .last .1 .1 .1 .0 in
-    omega (arith, cursor-inside (l .loop .next) (cursorIn ns) (sessionOf (l .loop .words)) (sym (t .takes-cursor .ensures) ∙ not-false _ (e .if1 .left)))
+    omega (
+      arith,
+      cursor-inside (l .loop .next) (cursorIn ns) (sessionOf (l .loop .words))
+          (sym (t .takes-cursor .ensures) ∙ not-false _ (e .if1 .left)),
+    )
 
 pub take-cursors-spec : {M : Type 1} → statement M
 take-cursors-spec =

@@ -1,5 +1,5 @@
 -- What was taken, and what is left to take, is the whole; and an id whose slot was not seen is not live yet.
-use Rattle.prelude.proofs.Basics.{arith, _≡_, refl, sym, ap, _∙_, length, needs, not-true, not-false}
+use Rattle.prelude.proofs.Basics.{arith, _≡_, refl, sym, _∙_, length, needs, not-true, not-false}
 use Rattle.session.specs.Words.{sessionOf}
 use Rattle.image_rules.specs.Restore.{stmtTable, entriesAt}
 use Rattle.image_rules.proofs.StoreLaws.{stmt-inside}

@@ -1,5 +1,5 @@
 -- The tests of the definition in turn.
-use Rattle.prelude.proofs.Basics.{_≡_, true, false, not, sym, ap, _∙_, needs, le-leb, lt-leb, not-true, not-false}
+use Rattle.prelude.proofs.Basics.{not, sym, ap, _∙_, needs, le-leb, lt-leb, not-true, not-false}
 use Rattle.image_rules.specs.Restore.{none}
 use Rattle.image.proofs.TakeLaws.{and-off, and-on}
 use Rattle.image.proofs.read.takes_cursor.Statement.{statement}
