@@ -10,6 +10,7 @@ use session::Session;
 use session::WORDS;
 
 mod numbers;
+mod put;
 mod read;
 mod write;
 

@@ -12,6 +12,7 @@ ghost use Rattle.image_rules.specs.Image.{imageOf, maxImage};
 ghost use Rattle.image_rules.specs.Image.{mostCursor, mostStmt};
 ghost use Rattle.image_rules.specs.private.Parts.{cursorBytes, cursorBytesAt, stmtBytes, stmtBytesAt};
 ghost use Rattle.image.specs.private.Handed.{handed};
+use crate::put::put_number;
 use encode::number::put_varint;
 use encode::put::Put;
 use encode::put::write_bytes;
@@ -72,9 +73,9 @@ fn put_stmt(buf: &mut [u8], at: usize, place: usize, t: Stmt) -> usize
     if t.live == 0 {
         return at;
     }
-    let at = put_varint(buf, at, place as u64);
-    let at = put_varint(buf, at, t.id as u64);
-    put_varint(buf, at, t.placeholders as u64)
+    let at = put_number(buf, at, place as u32);
+    let at = put_number(buf, at, t.id);
+    put_number(buf, at, t.placeholders)
 }
 
 // The live cursors, in place order.
@@ -102,11 +103,11 @@ fn put_cursor(buf: &mut [u8], at: usize, place: usize, c: Cursor) -> usize
     if c.live == 0 {
         return at;
     }
-    let at = put_varint(buf, at, place as u64);
-    let at = put_varint(buf, at, c.id as u64);
-    let at = put_varint(buf, at, c.stmt as u64);
-    let at = put_varint(buf, at, c.rows as u64);
-    put_varint(buf, at, c.sent as u64)
+    let at = put_number(buf, at, place as u32);
+    let at = put_number(buf, at, c.id);
+    let at = put_number(buf, at, c.stmt);
+    let at = put_number(buf, at, c.rows);
+    put_number(buf, at, c.sent)
 }
 
 // An image at the front of `buf`, where it fits.

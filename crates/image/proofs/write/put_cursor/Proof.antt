@@ -25,19 +25,18 @@ returns c =
 returns-2 : tie.Need-returns-2
 returns-2 c =
     let k = c .before .before in
-    let h = k .before .before .before .before .before in
-    let g = h .before .before .before .before .before in
-    let f = g .before .before .before .before .before in
-    let e = f .before .before .before .before .before in
+    let h = k .before .before .before .before in
+    let g = h .before .before .before .before in
+    let f = g .before .before .before .before in
+    let e = f .before .before .before .before in
     let d = e .before .before in
     let numbers =
-    number-then (e .put-varint .ensures)
-    (number-then (f .put-varint2 .ensures)
-    (number-then (g .put-varint3 .ensures)
-    (number-then (h .put-varint4 .ensures) (last-number (k .put-varint5 .ensures))))) in
+    number-then (e .put-number .ensures)
+    (number-then (f .put-number2 .ensures)
+    (number-then (g .put-number3 .ensures)
+    (number-then (h .put-number4 .ensures) (last-number (k .put-number5 .ensures))))) in
     (puts-live (d .if1 .left) (numbers .puts), short (d .before))
 
 pub put-cursor-spec : {M : Type 1} → statement M
-put-cursor-spec = tie.close (tie.spec returns (λ c κs. search needs) (λ c. search needs) (λ c κs. search needs)
-    (λ c. search needs) (λ c κs. search needs) (λ c. search needs) (λ c κs. search needs) (λ c. search needs)
-    (λ c κs. search needs) (λ c. puts-length (returns-2 c .0)) returns-2)
+put-cursor-spec = tie.close (tie.spec returns (λ c. search needs) (λ c κs. search needs) (λ c κs. search needs)
+    (λ c κs. search needs) (λ c κs. search needs) (λ c κs. search needs) (λ c. puts-length (returns-2 c .0)) returns-2)

@@ -25,14 +25,14 @@ returns c =
 returns-2 : tie.Need-returns-2
 returns-2 c =
     let h = c .before .before in
-    let g = h .before .before .before .before .before in
-    let f = g .before .before .before .before .before in
+    let g = h .before .before .before .before in
+    let f = g .before .before .before .before in
     let e = f .before .before in
     let numbers =
-    number-then (f .put-varint .ensures)
-    (number-then (g .put-varint2 .ensures) (last-number (h .put-varint3 .ensures))) in
+    number-then (f .put-number .ensures)
+    (number-then (g .put-number2 .ensures) (last-number (h .put-number3 .ensures))) in
     (puts-live (e .if1 .left) (numbers .puts), short (e .before))
 
 pub put-stmt-spec : {M : Type 1} → statement M
-put-stmt-spec = tie.close (tie.spec returns (λ c κs. search needs) (λ c. search needs) (λ c κs. search needs)
-    (λ c. search needs) (λ c κs. search needs) (λ c. puts-length (returns-2 c .0)) returns-2)
+put-stmt-spec = tie.close (tie.spec returns (λ c. search needs) (λ c κs. search needs) (λ c κs. search needs)
+    (λ c κs. search needs) (λ c. puts-length (returns-2 c .0)) returns-2)
