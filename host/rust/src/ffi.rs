@@ -319,10 +319,6 @@ extern "C" {
         reply: *mut u8,
         reply_len: usize,
     ) -> Answer;
-    /// The image of a session at the front of a buffer.
-    pub fn karramotx_image(session: *const Session, buf: *mut u8, buf_len: usize) -> Sent;
-    /// An image read into a session: 0, or 18 and the session is as it was.
-    pub fn karramotx_restore(session: *mut Session, image: *const u8, image_len: usize) -> u64;
     /// What a frame holds.
     pub fn karramotx_read(frame: *const u8, len: usize) -> Message;
     /// The chosen body.
