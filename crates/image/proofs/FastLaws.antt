@@ -41,16 +41,16 @@ module _ (s : List ℕ) (at : ℕ) where
             shortest-at-most 10 4 v (omega arith),
           ))))
 
--- k bytes that have others behind them were read: `low` is their number with the mark of the last one, which counts as
--- much as 1 of the next byte
-pub record Marked (s : List ℕ) (at low k : ℕ) : Type 0 where
+-- k bytes that have others behind them were read: `low` is their number with their marks, each of which counts as much
+-- as 1 of the next byte
+pub record Marked (s : List ℕ) (at low marks k : ℕ) : Type 0 where
   pub value : ℕ
-  pub is : low ≡ value + 128 ^ k
+  pub is : low ≡ value + marks
   pub inside : at < length s
   pub more : 128 ≤ getD s at 0
   pub reading : Reading (getD s at 0) s (at + 1) value (128 ^ k) (at + k) k
 
-pub marked-starts : (s : List ℕ) (at b : ℕ) → b ≡ getD s at 0 → at < length s → 128 ≤ b → b < 256 → Marked s at b 1
+pub marked-starts : (s : List ℕ) (at b : ℕ) → b ≡ getD s at 0 → at < length s → 128 ≤ b → b < 256 → Marked s at b 128 1
 marked-starts s at b e h m u =
     record {
       value = getD s at 0 % 128;
@@ -61,12 +61,12 @@ marked-starts s at b e h m u =
     }
 
 -- one byte more
-module _ {s : List ℕ} {at low k : ℕ} (m : Marked s at low k) (few : k < 9) (there : at + k < length s) (b : ℕ)
-    (e : b ≡ getD s (at + k) 0) where
+module _ {s : List ℕ} {at low marks k : ℕ} (m : Marked s at low marks k) (few : k < 9) (there : at + k < length s)
+    (b : ℕ) (e : b ≡ getD s (at + k) 0) where
   abbrev byte : ℕ
   byte = getD s (at + k) 0
 
-  pub marked-on : 128 ≤ b → b < 256 → Marked s at (low - 128 ^ k + b * 128 ^ k) (k + 1)
+  pub marked-on : 128 ≤ b → b < 256 → Marked s at (low + b * 128 ^ k) (marks + 128 ^ (k + 1)) (k + 1)
   marked-on h u =
       record {
         value = m .value + byte % 128 * 128 ^ k;
@@ -93,7 +93,7 @@ module _ {s : List ℕ} {at low k : ℕ} (m : Marked s at low k) (few : k < 9) (
       place : at + (k + 1) ≡ at + k + 1
       place = omega arith
 
-  module _ (low-byte : b < 128) (v next : ℕ) (v-is : v ≡ low - 128 ^ k + b * 128 ^ k) (next-is : next ≡ at + (k + 1))
+  module _ (low-byte : b < 128) (v next : ℕ) (v-is : v ≡ low + b * 128 ^ k - marks) (next-is : next ≡ at + (k + 1))
     where
       v-read : v ≡ m .value + byte * 128 ^ k
       v-read = omega (arith, v-is, m .is, ap (λ (n : ℕ). n * 128 ^ k) e)
@@ -112,7 +112,7 @@ module _ {s : List ℕ} {at low k : ℕ} (m : Marked s at low k) (few : k < 9) (
           ∙ behind-flag s at (m .inside) (m .more) refl
 
       needed : 0 < b → paddedAt s at ≡ false
-      needed h = sym flagged ∙ le-ltb v (128 ^ k) (omega (arith, v-is, mul-le-mul-right (128 ^ k) h))
+      needed h = sym flagged ∙ le-ltb v (128 ^ k) (omega (arith, v-is, m .is, mul-le-mul-right (128 ^ k) h))
 
       -- a last byte of 0 was not needed
       pub marked-last : v ≤ maxNumber → cond (eqb b 0) Varint.Bad (Varint.Number v next) ≡ numberAt s at
@@ -131,7 +131,7 @@ module _ {s : List ℕ} {at low k : ℕ} (m : Marked s at low k) (few : k < 9) (
       marked-large h large = number-large s at v next answered (needed h) large
 
 -- five bytes that have others behind them begin no such number
-five-more : {s : List ℕ} {at low : ℕ} → Marked s at low 5 → Varint.Bad ≡ numberAt s at
+five-more : {s : List ℕ} {at low marks : ℕ} → Marked s at low marks 5 → Varint.Bad ≡ numberAt s at
 five-more {s} {at} m =
     go (groups 5 s (at + 5)) (groups-past 5 s (at + 5))
     (ap low64 (m .reading .whole) ∙ behind-answer s at (m .inside) (m .more) refl)
@@ -142,9 +142,9 @@ five-more {s} {at} m =
     go Varint.Bad p e = number-bad s at e
 
 -- 16 in the fifth byte are 2^32
-pub fifth-over : {s : List ℕ} {at low : ℕ} → Marked s at low 4 → at + 4 < length s → (b : ℕ) →
+pub fifth-over : {s : List ℕ} {at low marks : ℕ} → Marked s at low marks 4 → at + 4 < length s → (b : ℕ) →
     b ≡ getD s (at + 4) 0 → 16 ≤ b → b < 256 → Varint.Bad ≡ numberAt s at
 fifth-over {s} {at} {low} m there b e h u =
     less-or-not b 128
-    (λ l. marked-large m (omega arith) there b e l _ _ refl refl (omega arith) (omega arith))
+    (λ l. marked-large m (omega arith) there b e l _ _ refl refl (omega arith) (omega (arith, m .is)))
     (λ l. five-more (marked-on m (omega arith) there b e l u))

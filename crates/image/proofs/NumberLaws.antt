@@ -1,7 +1,7 @@
 -- Numbers read one by one are those in front. Assumes nothing.
-use Rattle.prelude.proofs.Basics.{ℕ, suc, _+_, _-_, _≤_, _<_, arith, add-one, Bool, true, false, cond, _≡_, refl}
-use Rattle.prelude.proofs.Basics.{sym, ap, _∙_, List, [], _∷_, _++_, length, set, take, length-set, leb}
-use Rattle.prelude.proofs.Basics.{le-leb, leb-true, lt-leb}
+use Rattle.prelude.proofs.Basics.{ℕ, suc, _+_, _-_, _≤_, _<_, arith, zero, zero-add, add-one, Bool, true, false}
+use Rattle.prelude.proofs.Basics.{cond, _≡_, refl, sym, ap, subst, _∙_, List, [], _∷_, _++_, length, set, take}
+use Rattle.prelude.proofs.Basics.{length-set, leb, le-leb, leb-true, lt-leb}
 use lib.Seq.{take-suc-set}
 use Rattle.varint.specs.declared.Varint.{Varint}
 use Rattle.varint.specs.Varint.{varintAt}
@@ -76,7 +76,7 @@ unfoldable pub aheadAll : List ℕ → Front → Front
 aheadAll [] f = f
 aheadAll (n ∷ ns) f = ahead n (aheadAll ns f)
 
-all-broken : (ns : List ℕ) → aheadAll ns Front.broken ≡ Front.broken
+pub all-broken : (ns : List ℕ) → aheadAll ns Front.broken ≡ Front.broken
 unfolding aheadAll
 all-broken [] = refl
 all-broken (n ∷ ns) = ap (ahead n) (all-broken ns)
@@ -147,3 +147,56 @@ module _ {k : ℕ} {s : List ℕ} {at : ℕ} {ns : List ℕ} {p i : ℕ} (r : Fe
       ∙ sym (all-read (take i ns) p)
       ∙ sym (ap (λ (n : ℕ). aheadAll (take i ns) (frontAt n s p)) e)
       ∙ r .whole
+
+-- ---- some, and behind them more
+
+abbrev pub joinFront : Front → (ℕ → Front) → Front
+joinFront (Front.numbers ns mid) f = aheadAll ns (f mid)
+joinFront Front.broken f = Front.broken
+
+pub front-split : (w m : ℕ) (s : List ℕ) (at : ℕ) →
+    frontAt (w + m) s at ≡ joinFront (frontAt w s at) (λ mid. frontAt m s mid)
+unfolding frontAt aheadAll
+front-split zero m s at = ap (λ (k : ℕ). frontAt k s at) (zero-add m)
+front-split (suc w) m s at =
+    let e : suc w + m ≡ suc (w + m) = omega arith in
+    ap (λ (k : ℕ). frontAt k s at) e
+    ∙ front-number (w + m) s at
+    ∙ go (numberAt s at) (front-split w m s)
+    ∙ ap (λ f. joinFront f (λ mid. frontAt m s mid)) (sym (front-number w s at))
+  where
+    ahead-join : (v : ℕ) (f : Front) →
+        ahead v (joinFront f (λ mid. frontAt m s mid)) ≡ joinFront (ahead v f) (λ mid. frontAt m s mid)
+    ahead-join v (Front.numbers ns mid) = refl
+    ahead-join v Front.broken = refl
+
+    go : (x : Varint) →
+        ((n : ℕ) → frontAt (w + m) s n ≡ joinFront (frontAt w s n) (λ mid. frontAt m s mid)) →
+        onVarint x (λ n next. ahead n (frontAt (w + m) s next))
+        ≡ joinFront (onVarint x (λ n next. ahead n (frontAt w s next))) (λ mid. frontAt m s mid)
+    go (Varint.Number v next) more = ap (ahead v) (more next) ∙ ahead-join v (frontAt w s next)
+    go Varint.Bad more = refl
+
+abbrev pub Long : ℕ → Front → Type 0
+Long k (Front.numbers ns end) = length ns ≡ k
+Long k Front.broken = Unit {0}
+
+pub front-long : (k : ℕ) (s : List ℕ) (at : ℕ) → Long k (frontAt k s at)
+unfolding frontAt
+front-long zero s at = refl
+front-long (suc k) s at =
+    subst (Long (suc k)) (sym (front-number k s at)) (go (numberAt s at) (front-long k s))
+  where
+    longer : (v : ℕ) (f : Front) → Long k f → Long (suc k) (ahead v f)
+    longer v (Front.numbers ns end) h = ap suc h
+    longer v Front.broken h = tt
+
+    go : (x : Varint) → ((n : ℕ) → Long k (frontAt k s n)) →
+        Long (suc k) (onVarint x (λ n next. ahead n (frontAt k s next)))
+    go (Varint.Number v next) more = longer v (frontAt k s next) (more next)
+    go Varint.Bad more = tt
+
+pub all-more : (ns ms : List ℕ) (p : ℕ) → aheadAll ns (Front.numbers ms p) ≡ Front.numbers (ns ++ ms) p
+unfolding aheadAll
+all-more [] ms p = refl
+all-more (n ∷ ns) ms p = ap (ahead n) (all-more ns ms p)

@@ -1,11 +1,14 @@
 -- Writing an image: numbers put one behind the other, the places of a table put one a turn, and the answer of handing
 -- it over. Assumes nothing.
-use Rattle.prelude.proofs.Basics.{ℕ, _+_, _*_, _≤_, _<_, arith, add-one, zero-add, Bool, true, false, not, cond, _≡_}
-use Rattle.prelude.proofs.Basics.{refl, sym, ap, _∙_, List, [], _∷_, append-nil, length, length-append, ne-eqb, yes}
-use Rattle.prelude.proofs.Basics.{no}
+use Rattle.prelude.proofs.Basics.{ℕ, zero, suc, _+_, _-_, _*_, _≤_, _<_, arith, add-zero, add-one, zero-add, Bool}
+use Rattle.prelude.proofs.Basics.{true, false, not, cond, _≡_, refl, sym, ap, _∙_, List, [], _∷_, _++_, append-nil}
+use Rattle.prelude.proofs.Basics.{length, length-append, ne-eqb, yes, no}
+use native.Mathlib.Nat.{mul-le-mul-right}
 use Rattle.protocol.specs.Reason as Reason
 use Rattle.varint.specs.Shortest.{varintBytes}
 use Rattle.session.specs.Session.{flag}
+use Rattle.session.specs.Lists.{sumBy, howMany}
+use Rattle.session.specs.Words.{build}
 use Rattle.encode.specs.declared.put.Put.{Put}
 use Rattle.encode.specs.declared.put.Put.the-variants.{Next, Full}
 use Rattle.encode.specs.Put.{fitsAt, putAt}
@@ -13,8 +16,10 @@ use Rattle.encode.specs.Puts.{Puts}
 use Rattle.encode.proofs.PutsLaws.{puts-nothing, puts-then, puts-as}
 use Rattle.image_rules.specs.declared.Written.{Written}
 use Rattle.image_rules.specs.Numbers.{bytesOf}
-use Rattle.image_rules.specs.Image.{answer}
-use Rattle.image_rules.proofs.FitLaws.{placesTo}
+use Rattle.image_rules.specs.Listing.{placed}
+use Rattle.image_rules.specs.Image.{answer, joined}
+use Rattle.image_rules.specs.private.Parts.{placeBytes}
+use Rattle.image_rules.proofs.FitLaws.{placesTo, table-places}
 use Rattle.image.specs.private.Handed.{handed}
 
 -- ---- numbers
@@ -42,35 +47,76 @@ module _ {b : List ℕ} {at live : ℕ} where
       Puts b at (cond (flag live) bytes []) p b₁
   puts-live {bytes} h f = puts-as (yes bytes [] (ap not (ne-eqb live 0 h))) f
 
--- ---- a table of n places, each of at most `most` bytes: those before i are put
+-- ---- a table of n places, each of at most `most` bytes: those before i are put, and of the others `left` are live
 
-pub record Filling (g : ℕ → List ℕ) (most n : ℕ) (b₀ : List ℕ) (at : ℕ) (b : List ℕ) (p i : ℕ) : Type 0 where
-  pub inside : i ≤ n
+pub record Filling {A : Type 0} (live : A → Bool) (f : ℕ → A) (g : ℕ → List ℕ) (most n : ℕ) (b₀ : List ℕ) (at : ℕ)
+    (b : List ℕ) (p i left : ℕ) : Type 0 where
   pub put : Puts b₀ at (placesTo g i) p b
   pub short : length (placesTo g i) ≤ i * most
+  pub ahead : ℕ
+  pub inside : i + ahead ≡ n
+  pub counted : left ≡ howMany live (build f i ahead)
 
-module _ {g : ℕ → List ℕ} {most n : ℕ} {b₀ : List ℕ} {at : ℕ} where
-  pub fills : Filling g most n b₀ at b₀ at 0
+-- where one is left there is a place ahead
+first-ahead : {A : Type 0} (live : A → Bool) (f : ℕ → A) (i ahead : ℕ) {left : ℕ} →
+    left ≡ howMany live (build f i ahead) → 0 < left →
+    (k : ℕ) × (ahead ≡ suc k) × (left ≡ cond (live (f i)) 1 0 + howMany live (build f (suc i) k))
+unfolding build sumBy
+first-ahead live f i zero e h = absurd (omega (arith, e))
+first-ahead live f i (suc k) e h = (k, refl, e)
+
+module _ {A : Type 0} {live : A → Bool} {f : ℕ → A} {g : ℕ → List ℕ} {most n : ℕ} {b₀ : List ℕ} {at : ℕ} where
+  pub fills : {left : ℕ} → left ≡ howMany live (build f 0 n) → Filling live f g most n b₀ at b₀ at 0 left
   unfolding placesTo
-  fills = record { inside = omega arith; put = puts-nothing b₀ at; short = omega arith }
+  fills e = record { put = puts-nothing b₀ at; short = omega arith; ahead = n; inside = omega arith; counted = e }
 
-  module _ {b : List ℕ} {p i : ℕ} (l : Filling g most n b₀ at b p i) where
-    pub fills-on : {ys b₁ : List ℕ} {q : ℕ} → i < n → ys ≡ g i → Puts b p ys q b₁ × (length ys ≤ most) →
-        Filling g most n b₀ at b₁ q (i + 1)
+  module _ {b : List ℕ} {p i left : ℕ} (l : Filling live f g most n b₀ at b p i left) (h : 0 < left) where
+    pub within : i < n
+    within = let a = first-ahead live f i (l .ahead) (l .counted) h in omega (arith, a .1, l .inside)
+
+    pub fills-on : (r : ℕ) {ys b₁ : List ℕ} {q : ℕ} → r ≡ cond (live (f i)) 1 0 → ys ≡ g i →
+        Puts b p ys q b₁ × (length ys ≤ most) → Filling live f g most n b₀ at b₁ q (i + 1) (left - r)
     unfolding placesTo
-    fills-on h e f =
+    fills-on r one e w =
+        let a = first-ahead live f i (l .ahead) (l .counted) h in
         rw add-one
         record {
-          inside = omega arith;
-          put = puts-then (l .put) (puts-as e (f .0));
-          short = rw length-append (omega (arith, l .short, f .1, ap length e));
+          put = puts-then (l .put) (puts-as e (w .0));
+          short = rw length-append (omega (arith, l .short, w .1, ap length e));
+          ahead = a .0;
+          inside = omega (arith, a .1, l .inside);
+          counted = omega (arith, a .2, one);
         }
 
-    pub filled : {whole : List ℕ} → n ≤ i → placesTo g n ≡ whole → Puts b₀ at whole p b × (length whole ≤ n * most)
-    filled {whole} h e =
-        let same : i ≡ n = omega (arith, l .inside) in
-        let all : placesTo g i ≡ whole = ap (placesTo g) same ∙ e in
-        (puts-as all (l .put), omega (arith, l .short, ap length all, ap (λ (k : ℕ). k * most) same))
+module _ {A E : Type 0} (live : A → Bool) (entry : ℕ → A → E) (numbers : E → List ℕ) (f : ℕ → A) where
+  abbrev here : ℕ → List ℕ
+  here k = placeBytes live entry numbers k (f k)
+
+  -- places without a live entry put nothing
+  none-ahead : (i ahead : ℕ) → howMany live (build f i ahead) ≡ 0 → placesTo here i ≡ placesTo here (i + ahead)
+  unfolding build sumBy placesTo
+  none-ahead i zero e = ap (placesTo here) (sym (add-zero i))
+  none-ahead i (suc k) e =
+      let next : suc i + k ≡ i + suc k = omega arith in
+      free (live (f i)) (bytesOf (numbers (entry i (f i)))) (omega (arith, e))
+      ∙ none-ahead (suc i) k (omega (arith, e))
+      ∙ ap (placesTo here) next
+    where
+      free : (b : Bool) (bytes : List ℕ) → _≡_ {A = ℕ} (cond b 1 0) 0 →
+          placesTo here i ≡ placesTo here i ++ cond b bytes []
+      free true bytes h = absurd (omega (arith, h))
+      free false bytes h = sym (append-nil (placesTo here i))
+
+  pub filled : {most n : ℕ} {b₀ b : List ℕ} {at p i left : ℕ} → Filling live f here most n b₀ at b p i left →
+      left ≤ 0 →
+      let whole = bytesOf (joined numbers (placed live entry 0 (build f 0 n))) in
+      Puts b₀ at whole p b × (length whole ≤ n * most)
+  filled {most} {n} {i = i} l h =
+      let none : howMany live (build f i (l .ahead)) ≡ 0 = omega (arith, l .counted) in
+      let all =
+      none-ahead i (l .ahead) none ∙ ap (placesTo here) (l .inside) ∙ table-places live entry numbers f n in
+      let upto : i * most ≤ n * most = mul-le-mul-right most (omega (arith, l .inside)) in
+      (puts-as all (l .put), omega (arith, l .short, ap length all, upto))
 
 -- ---- handing over
 

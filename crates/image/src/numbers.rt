@@ -10,8 +10,8 @@ ghost use Rattle.image.specs.private.Ends.{frontTo, most, numberAt};
 use varint::Varint;
 use varint::read_short;
 
-// The numbers that are read at once: those of a cursor.
-pub(crate) const MOST: usize = 5;
+// The numbers that are read at once: those of all statements, which are more than those of all cursors.
+pub(crate) const MOST: usize = 192;
 
 const MAX_NUMBER: u64 = 0xffff_ffff;
 
@@ -21,7 +21,7 @@ const LONGEST: usize = 5;
 // A byte from here on has another behind it.
 const MORE: u64 = 128;
 
-// What 1 counts in the second byte and in each behind it. The mark of the byte before counts as much: it goes off.
+// What 1 counts in the second byte and in each behind it.
 const SECOND: u64 = MORE;
 
 const THIRD: u64 = SECOND * MORE;
@@ -29,6 +29,15 @@ const THIRD: u64 = SECOND * MORE;
 const FOURTH: u64 = THIRD * MORE;
 
 const FIFTH: u64 = FOURTH * MORE;
+
+// The marks of the bytes that have another behind them: each counts as much as 1 of the next byte.
+const ONE_MARK: u64 = SECOND;
+
+const TWO_MARKS: u64 = ONE_MARK + THIRD;
+
+const THREE_MARKS: u64 = TWO_MARKS + FOURTH;
+
+const FOUR_MARKS: u64 = THREE_MARKS + FIFTH;
 
 // So much in the fifth byte is 2^32.
 const FIFTH_LIMIT: u64 = 16;
@@ -60,6 +69,7 @@ pub(crate) fn read_numbers(image: &[u8], at: usize, k: usize, numbers: &mut [u32
 }
 
 // A number below 2^32 in its shortest form. Where as many bytes are there as it has at most, the end is asked for once.
+// The bytes are added up with their marks, which go off at the end.
 fn read_number(image: &[u8], at: usize) -> Varint
     ensures { λ r. ⌜ r ≡ numberAt (now (image .entry)) at ⌝ }
 {
@@ -78,25 +88,25 @@ fn read_number(image: &[u8], at: usize) -> Varint
         return read_plain(&image[..n], at);
     }
     let b = octet(image[at + 1]);
-    let two = a - SECOND + b * SECOND;
+    let two = a + b * SECOND;
     if b < MORE {
-        return number_of(b, two, at + 2);
+        return number_of(b, two - ONE_MARK, at + 2);
     }
     let c = octet(image[at + 2]);
-    let three = two - THIRD + c * THIRD;
+    let three = two + c * THIRD;
     if c < MORE {
-        return number_of(c, three, at + 3);
+        return number_of(c, three - TWO_MARKS, at + 3);
     }
     let d = octet(image[at + 3]);
-    let four = three - FOURTH + d * FOURTH;
+    let four = three + d * FOURTH;
     if d < MORE {
-        return number_of(d, four, at + 4);
+        return number_of(d, four - THREE_MARKS, at + 4);
     }
     let e = octet(image[at + 4]);
     if FIFTH_LIMIT <= e {
         return Varint::Bad;
     }
-    number_of(e, four - FIFTH + e * FIFTH, at + 5)
+    number_of(e, four + e * FIFTH - FOUR_MARKS, at + 5)
 }
 
 // A byte as a number, with its range.

@@ -2,11 +2,11 @@
 ghost use mathlib.Core.Path.{_≡_};
 ghost use mathlib.Core.Bool.{false};
 ghost use Prim.Native.Nat.{ℕ};
-ghost use Rattle.session.specs.Entry.{isStmt};
+ghost use Rattle.session.specs.Entry.{isCursor, isStmt, onStmt, passes};
 ghost use Rattle.session.specs.Lists.{howMany};
 ghost use mathlib.Core.List.{[], _∷_};
 ghost use lib.ListN.{length};
-ghost use Rattle.session.specs.Tables.{fresh};
+ghost use Rattle.session.specs.Tables.{fresh, placeOf};
 ghost use Rattle.session.specs.Words.{sessionOf};
 ghost use Rattle.image_rules.specs.Restore.{begun, cursorTable, cursorsAt, entriesAt, headGood, none, readingOf};
 ghost use Rattle.image_rules.specs.Restore.{rises, stmtTable};
@@ -22,6 +22,7 @@ use session::MAX_STMTS;
 use session::Place;
 use session::Stmt;
 use session::WORDS;
+use session::Which;
 use session::find;
 use session::words;
 
@@ -100,8 +101,10 @@ fn begin(words: &mut [u32; WORDS], closed: u32)
     }
 }
 
-// The cursors, with their count in front and nothing behind them.
+// The cursors, with their count in front and nothing behind them, into a session that has none.
 fn take_rest(words: &mut [u32; WORDS], image: &[u8], at: usize) -> bool
+    requires { ⌜ ((id : ℕ) → howMany (isCursor id) (sessionOf (now words) .cursors) ≡ 0) ⌝ }
+    requires { ⌜ ((id : ℕ) → howMany (onStmt id) (sessionOf (now words) .cursors) ≡ 0) ⌝ }
     ensures { λ r. ⌜ readAll r (sessionOf (now (words .exit))) (length (now (image .entry))) ≡
         cursorsAt (now (image .entry)) at (sessionOf (now (words .entry))) ⌝ }
 {
@@ -115,26 +118,31 @@ fn take_rest(words: &mut [u32; WORDS], image: &[u8], at: usize) -> bool
     end == image.len()
 }
 
-// The statements from the place `at` on, one after the other, into a session that has none. Ids that differ by their
-// last bits, as most do, are told apart by `seen`; only where it has an id's slot is that id looked up.
+// The statements from the place `at` on, one after the other, into a session that has none. Their numbers are read in
+// one go. Ids that differ in their last bits, as most do, are told apart by `seen`: only where it has an id's slot is
+// that id looked up.
 fn take_stmts(words: &mut [u32; WORDS], image: &[u8], at: usize, count: u32) -> End
     requires { ⌜ ((id : ℕ) → howMany (isStmt id) (sessionOf (now words) .stmts) ≡ 0) ⌝ }
-    ensures { λ r. ⌜ readTo r (sessionOf (now (words .exit))) ≡
+    ensures read { λ r. ⌜ readTo r (sessionOf (now (words .exit))) ≡
         entriesAt stmtTable count 0 (now (image .entry)) at (sessionOf (now (words .entry))) ⌝ }
+    ensures kept { λ r. ⌜ sessionOf (now (words .exit)) .cursors ≡ sessionOf (now (words .entry)) .cursors ⌝ }
 {
-    let mut seen = [false; SLOTS];
+    if MAX_STMTS < count as usize {
+        return End::Broken;
+    }
     let mut numbers = [0; MOST];
-    let mut p = at;
+    let End::At(end) = read_numbers(image, at, STMT * count as usize, &mut numbers) else {
+        return End::Broken;
+    };
+    let mut seen = [false; SLOTS];
     let mut next = 0;
+    let mut i = 0;
     let mut left = count;
     while 0 < left {
-        let End::At(after) = read_numbers(image, p, STMT, &mut numbers) else {
-            return End::Broken;
-        };
         let e = StmtEntry {
-            place: numbers[0],
-            id: numbers[ID],
-            placeholders: numbers[PLACEHOLDERS],
+            place: numbers[i],
+            id: numbers[i + ID],
+            placeholders: numbers[i + PLACEHOLDERS],
         };
         let slot = e.id as usize % SLOTS;
         if !takes_stmt(words, next, e, seen[slot]) {
@@ -143,10 +151,10 @@ fn take_stmts(words: &mut [u32; WORDS], image: &[u8], at: usize, count: u32) -> 
         seen[slot] = true;
         put_stmt(words, e);
         next = e.place + 1;
-        p = after;
+        i += STMT;
         left -= 1;
     }
-    End::At(p)
+    End::At(end)
 }
 
 // A statement whose id was not seen is not looked up.
@@ -196,38 +204,52 @@ fn put_stmt(words: &mut [u32; WORDS], e: StmtEntry)
     );
 }
 
-// The cursors from the place `at` on.
+// The cursors from the place `at` on, into a session that has none.
 fn take_cursors(words: &mut [u32; WORDS], image: &[u8], at: usize, count: u32) -> End
+    requires { ⌜ ((id : ℕ) → howMany (isCursor id) (sessionOf (now words) .cursors) ≡ 0) ⌝ }
+    requires { ⌜ ((id : ℕ) → howMany (onStmt id) (sessionOf (now words) .cursors) ≡ 0) ⌝ }
     ensures { λ r. ⌜ readTo r (sessionOf (now (words .exit))) ≡
         entriesAt cursorTable count 0 (now (image .entry)) at (sessionOf (now (words .entry))) ⌝ }
 {
+    if MAX_CURSORS < count as usize {
+        return End::Broken;
+    }
     let mut numbers = [0; MOST];
-    let mut p = at;
+    let End::At(end) = read_numbers(image, at, CURSOR * count as usize, &mut numbers) else {
+        return End::Broken;
+    };
+    let mut ids = [false; SLOTS];
+    let mut stmts = [false; SLOTS];
     let mut next = 0;
+    let mut i = 0;
     let mut left = count;
     while 0 < left {
-        let End::At(after) = read_numbers(image, p, CURSOR, &mut numbers) else {
-            return End::Broken;
-        };
         let e = CursorEntry {
-            place: numbers[0],
-            id: numbers[ID],
-            stmt: numbers[CURSOR_STMT],
-            rows: numbers[ROWS],
-            sent: numbers[SENT],
+            place: numbers[i],
+            id: numbers[i + ID],
+            stmt: numbers[i + CURSOR_STMT],
+            rows: numbers[i + ROWS],
+            sent: numbers[i + SENT],
         };
-        if !takes_cursor(words, next, e) {
+        let own = e.id as usize % SLOTS;
+        let on = e.stmt as usize % SLOTS;
+        if !takes_cursor(words, next, e, ids[own], stmts[on]) {
             return End::Broken;
         }
+        ids[own] = true;
+        stmts[on] = true;
         put_cursor(words, e);
         next = e.place + 1;
-        p = after;
+        i += CURSOR;
         left -= 1;
     }
-    End::At(p)
+    End::At(end)
 }
 
-fn takes_cursor(words: &[u32; WORDS], next: u32, e: CursorEntry) -> bool
+// A cursor whose id was not seen is not looked up, nor is one on a statement that was not seen.
+fn takes_cursor(words: &[u32; WORDS], next: u32, e: CursorEntry, seen: bool, carries: bool) -> bool
+    requires { ⌜ (seen ≡ false → howMany (isCursor (e .id)) (sessionOf (now words) .cursors) ≡ 0) ⌝ }
+    requires { ⌜ (carries ≡ false → howMany (onStmt (e .stmt)) (sessionOf (now words) .cursors) ≡ 0) ⌝ }
     ensures { λ r. ⌜ r ≡ cursorTable .takes next e (sessionOf (now (words .entry))) ⌝ }
 {
     if !rises(MAX_CURSORS, next, e.place) {
@@ -239,10 +261,24 @@ fn takes_cursor(words: &[u32; WORDS], next: u32, e: CursorEntry) -> bool
     if is_none(find::find_stmt(words, e.stmt)) {
         return false;
     }
-    if !is_none(find::find_cursor(words, e.id)) {
+    if !is_new(words, Which::Id(e.id), seen) {
         return false;
     }
-    is_none(find::find_on(words, e.stmt))
+    is_new(words, Which::On(e.stmt), carries)
+}
+
+// Whether no cursor passes the test; where none can, there is no search.
+fn is_new(words: &[u32; WORDS], which: Which, seen: bool) -> bool
+    requires { ⌜ (seen ≡ false → howMany (passes which) (sessionOf (now words) .cursors) ≡ 0) ⌝ }
+    ensures { λ r. ⌜ r ≡ none (placeOf (passes which) (sessionOf (now (words .entry)))) ⌝ }
+{
+    if !seen {
+        return true;
+    }
+    match which {
+        Which::Id(id) => is_none(find::find_cursor(words, id)),
+        Which::On(id) => is_none(find::find_on(words, id)),
+    }
 }
 
 fn put_cursor(words: &mut [u32; WORDS], e: CursorEntry)

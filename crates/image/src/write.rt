@@ -3,8 +3,8 @@ ghost use mathlib.Core.Path.{_≡_};
 ghost use mathlib.Core.Bool.{cond};
 ghost use Prim.Native.Nat.{_*_, _<_, _≤_};
 ghost use lib.ListN.{length};
-ghost use Rattle.session.specs.Session.{isClosed};
-ghost use Rattle.session.specs.Tables.{maxCursors, maxStmts};
+ghost use Rattle.session.specs.Session.{flag, isClosed};
+ghost use Rattle.session.specs.Tables.{cursorCount, maxCursors, maxStmts, stmtCount};
 ghost use Rattle.session.specs.Words.{sessionOf};
 ghost use Rattle.encode.specs.Put.{written};
 ghost use Rattle.encode.specs.Puts.{Puts};
@@ -19,8 +19,6 @@ use encode::put::write_bytes;
 use image_rules::Written;
 use protocol::reason;
 use session::Cursor;
-use session::MAX_CURSORS;
-use session::MAX_STMTS;
 use session::Place;
 use session::Stmt;
 use session::WORDS;
@@ -36,10 +34,12 @@ pub(crate) fn put_image(buf: &mut [u8], words: &[u32; WORDS]) -> usize
 {
     let at = put_varint(buf, 0, FORM);
     let at = put_varint(buf, at, closed(words));
-    let at = put_varint(buf, at, count::stmt_count(words));
-    let at = put_stmts(buf, at, words);
-    let at = put_varint(buf, at, count::cursor_count(words));
-    put_cursors(buf, at, words)
+    let stmts = count::stmt_count(words);
+    let at = put_varint(buf, at, stmts);
+    let at = put_stmts(buf, at, words, stmts);
+    let cursors = count::cursor_count(words);
+    let at = put_varint(buf, at, cursors);
+    put_cursors(buf, at, words, cursors)
 }
 
 fn closed(words: &[u32; WORDS]) -> u64
@@ -48,8 +48,16 @@ fn closed(words: &[u32; WORDS]) -> u64
     if words::is_closed(words) { 1 } else { 0 }
 }
 
-// The live statements, in place order.
-fn put_stmts(buf: &mut [u8], at: usize, words: &[u32; WORDS]) -> usize
+// 1 for a live entry.
+fn one(live: u32) -> u64
+    ensures { λ r. ⌜ r ≡ cond (flag live) 1 0 ⌝ }
+{
+    if live != 0 { 1 } else { 0 }
+}
+
+// The n live statements, in place order: the places behind the last one are not looked at.
+fn put_stmts(buf: &mut [u8], at: usize, words: &[u32; WORDS], n: u64) -> usize
+    requires { ⌜ n ≡ stmtCount (sessionOf (now words)) ⌝ }
     ensures put { λ r. ⌜
         Puts (now (buf .entry)) at (stmtBytes (sessionOf (now (words .entry)))) r (now (buf .exit))
         ⌝ }
@@ -57,8 +65,11 @@ fn put_stmts(buf: &mut [u8], at: usize, words: &[u32; WORDS]) -> usize
 {
     let mut p = at;
     let mut i = 0;
-    while i < MAX_STMTS {
-        p = put_stmt(buf, p, i, words::stmt_at(words, Place::At(i)));
+    let mut left = n;
+    while 0 < left {
+        let t = words::stmt_at(words, Place::At(i));
+        p = put_stmt(buf, p, i, t);
+        left -= one(t.live);
         i += 1;
     }
     p
@@ -78,8 +89,9 @@ fn put_stmt(buf: &mut [u8], at: usize, place: usize, t: Stmt) -> usize
     put_number(buf, at, t.placeholders)
 }
 
-// The live cursors, in place order.
-fn put_cursors(buf: &mut [u8], at: usize, words: &[u32; WORDS]) -> usize
+// The n live cursors, in place order.
+fn put_cursors(buf: &mut [u8], at: usize, words: &[u32; WORDS], n: u64) -> usize
+    requires { ⌜ n ≡ cursorCount (sessionOf (now words)) ⌝ }
     ensures put { λ r. ⌜
         Puts (now (buf .entry)) at (cursorBytes (sessionOf (now (words .entry)))) r (now (buf .exit))
         ⌝ }
@@ -87,8 +99,11 @@ fn put_cursors(buf: &mut [u8], at: usize, words: &[u32; WORDS]) -> usize
 {
     let mut p = at;
     let mut i = 0;
-    while i < MAX_CURSORS {
-        p = put_cursor(buf, p, i, words::cursor_at(words, Place::At(i)));
+    let mut left = n;
+    while 0 < left {
+        let c = words::cursor_at(words, Place::At(i));
+        p = put_cursor(buf, p, i, c);
+        left -= one(c.live);
         i += 1;
     }
     p

@@ -150,6 +150,14 @@ pub begun-none : (c id : ℕ) → howMany (isStmt id) (begun c .stmts) ≡ 0
 begun-none c id =
     omega (arith, count-le (isStmt id) isLiveStmt (λ t e. and-true _ _ e .0) (begun c .stmts), begun-stmts c)
 
+pub begun-no-cursor : (c id : ℕ) → howMany (isCursor id) (begun c .cursors) ≡ 0
+begun-no-cursor c id =
+    omega (arith, count-le (isCursor id) isLiveCursor (λ t e. and-true _ _ e .0) (begun c .cursors), begun-cursors c)
+
+pub begun-none-on : (c id : ℕ) → howMany (onStmt id) (begun c .cursors) ≡ 0
+begun-none-on c id =
+    omega (arith, count-le (onStmt id) isLiveCursor (λ t e. and-true _ _ e .0) (begun c .cursors), begun-cursors c)
+
 -- ---- what comes of the entries of a listing
 
 module _ (m : Listing) (flagged : m .closed ≤ 1) (open-or : (m .closed ≡ 0) ⊎ (m .stmts ≡ [])) where

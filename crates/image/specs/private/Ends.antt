@@ -1,5 +1,5 @@
 -- What a function that reads an image comes to: the place behind what it read, with what was read beside it.
-use Prim.Native.Nat.{ℕ}
+use Prim.Native.Nat.{ℕ, _*_}
 use mathlib.Core.Bool.{Bool, true, false, cond}
 use mathlib.Core.List.{List}
 use lib.Dec.{leb}
@@ -8,13 +8,15 @@ use Rattle.varint.specs.Varint.{varintAt}
 use Rattle.varint.specs.Padded.{paddedAt}
 use Rattle.session.specs.Session.{Session}
 use Rattle.session.specs.Sound.{maxNumber}
+use Rattle.session.specs.Tables.{maxStmts}
 use Rattle.image_rules.specs.Numbers.{Front}
+use Rattle.image_rules.specs.Image.{stmtWidth}
 use Rattle.image_rules.specs.Restore.{Reading}
 use Rattle.image.specs.declared.numbers.End.{End}
 
 -- the numbers that are read at once
 abbrev pub most : ℕ
-most = 5
+most = maxStmts * stmtWidth
 
 -- the slots that ids fall into while they are read
 abbrev pub slots : ℕ

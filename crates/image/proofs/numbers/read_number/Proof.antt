@@ -1,5 +1,5 @@
 -- Each byte that has another behind it, and each way out, is a law. Assumes nothing.
-use Rattle.prelude.proofs.Basics.{ℕ, _+_, _-_, _*_, _^_, _<_, arith, refl, sym, ap, _∙_, List, length, take-length}
+use Rattle.prelude.proofs.Basics.{ℕ, _+_, _*_, _^_, _<_, arith, refl, sym, ap, _∙_, List, length, take-length}
 use Rattle.prelude.proofs.Basics.{needs}
 use Rattle.image.specs.private.Ends.{numberAt}
 use Rattle.image.proofs.FastLaws.{number-none, number-one, Marked, marked-starts, marked-on, marked-last}
@@ -54,36 +54,36 @@ abbrev one : tie.Else3 → ℕ
 one c = c .before .before .octet .result
 
 abbrev two : tie.After-octet2 → ℕ
-two c = one (back c) - 128 + c .octet2 .result * 128
+two c = one (back c) + c .octet2 .result * 128
 
 abbrev three : tie.After-octet3 → ℕ
-three c = two (c .before .before .before) - 128 ^ 2 + c .octet3 .result * 128 ^ 2
+three c = two (c .before .before .before) + c .octet3 .result * 128 ^ 2
 
 abbrev four : tie.After-octet4 → ℕ
-four c = three (c .before .before .before) - 128 ^ 3 + c .octet4 .result * 128 ^ 3
+four c = three (c .before .before .before) + c .octet4 .result * 128 ^ 3
 
-abbrev Read : tie.Else3 → ℕ → ℕ → Type 0
-Read c low k = Marked (bytes c) (place c) low k
+abbrev Read : tie.Else3 → ℕ → ℕ → ℕ → Type 0
+Read c low marks k = Marked (bytes c) (place c) low marks k
 
-one-read : (c : tie.Else3) → Read c (one c) 1
+one-read : (c : tie.Else3) → Read c (one c) 128 1
 one-read c =
     let o = c .before .before in
     marked-starts (bytes c) (place c) (one c) (o .octet .ensures .0) (o .before .before .if1 .left)
     (c .before .if2 .left) (o .octet .ensures .1)
 
-two-read : (c : tie.Else4) → Read (back (c .before)) (two (c .before)) 2
+two-read : (c : tie.Else4) → Read (back (c .before)) (two (c .before)) (128 + 128 ^ 2) 2
 two-read c =
     let o = c .before in
     marked-on (one-read (back o)) (omega arith) (omega (arith, room (back o))) (o .octet2 .result)
     (o .octet2 .ensures .0) (c .if4 .left) (o .octet2 .ensures .1)
 
-three-read : (c : tie.Else5) → Read (back3 (c .before)) (three (c .before)) 3
+three-read : (c : tie.Else5) → Read (back3 (c .before)) (three (c .before)) (128 + 128 ^ 2 + 128 ^ 3) 3
 three-read c =
     let o = c .before in
     marked-on (two-read (o .before .before)) (omega arith) (omega (arith, room (back3 o))) (o .octet3 .result)
     (o .octet3 .ensures .0) (c .if5 .left) (o .octet3 .ensures .1)
 
-four-read : (c : tie.Else6) → Read (back4 (c .before)) (four (c .before)) 4
+four-read : (c : tie.Else6) → Read (back4 (c .before)) (four (c .before)) (128 + 128 ^ 2 + 128 ^ 3 + 128 ^ 4) 4
 four-read c =
     let o = c .before in
     marked-on (three-read (o .before .before)) (omega arith) (omega (arith, room (back4 o))) (o .octet4 .result)
@@ -129,7 +129,7 @@ read-number-spec = tie.close (tie.spec returns (λ c. search needs) (λ c κs. s
     (λ c. let a = start (c .before .before .before) .args in sym (ap length (take-length (a .image .now))))
     (λ c κs. search needs) returns-3
     (λ c. search needs) (λ c. search needs) (λ c κs. search needs) (λ c. search needs) (λ c. search needs)
-    (λ c. search needs) (λ c κs. search needs) returns-4
+    (λ c. search needs) (λ c. search needs) (λ c κs. search needs) returns-4
     (λ c. search needs) (λ c. search needs) (λ c κs. search needs) (λ c. search needs) (λ c. search needs)
     (λ c. search needs) (λ c. search needs) (λ c κs. search needs) returns-5
     (λ c. search needs) (λ c. search needs) (λ c κs. search needs) (λ c. search needs) (λ c. search needs)

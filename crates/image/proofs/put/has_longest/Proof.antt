@@ -1,5 +1,5 @@
 -- The place is compared with the last one that has room behind it. Assumes nothing.
-use Rattle.prelude.proofs.Basics.{_+_, arith, sym, _∙_, leb, _≡_, lt-leb, le-leb, less-or-not, _-_}
+use Rattle.prelude.proofs.Basics.{_+_, arith, sym, _∙_, lt-leb, le-leb, less-or-not, _-_}
 use Rattle.image_rules.specs.Image.{mostNumber}
 use Rattle.image.proofs.put.has_longest.Statement.{statement}
 use Rattle.image.proofs.put.has_longest.Tie as tie

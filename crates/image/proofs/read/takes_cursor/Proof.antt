@@ -26,30 +26,32 @@ returns-3 c =
 returns-4 : tie.Need-returns-4
 returns-4 c =
     let m = c .before in
-    let e = m .before .before in
+    let e = m .before in
     let n = e .before in
     let t = n .before .before in
     let r = t .before .before in
     and-on (sym (r .before .rises .ensures) ∙ not-false _ (r .if1 .left))
     (and-on (le-leb _ _ (t .if2 .left))
     (and-on (ap not (sym (n .is-none .ensures ∙ ap none (n .before .find-stmt .ensures)) ∙ e .if3 .left))
-    (and-off _ (sym (m .is-none2 .ensures ∙ ap none (m .before .find-cursor .ensures)) ∙ not-true _ (c .if4 .taken)))))
+    (and-off _ (sym (m .is-new .ensures) ∙ not-true _ (c .if4 .taken)))))
 
 returns-5 : tie.Need-returns-5
 returns-5 c =
-    let f = c .before .before in
+    let f = c .before in
     let m = f .before in
-    let e = m .before .before in
+    let e = m .before in
     let n = e .before in
     let t = n .before .before in
     let r = t .before .before in
     and-on (sym (r .before .rises .ensures) ∙ not-false _ (r .if1 .left))
     (and-on (le-leb _ _ (t .if2 .left))
     (and-on (ap not (sym (n .is-none .ensures ∙ ap none (n .before .find-stmt .ensures)) ∙ e .if3 .left))
-    (and-on (sym (m .is-none2 .ensures ∙ ap none (m .before .find-cursor .ensures)) ∙ not-false _ (f .if4 .left))
-    (c .is-none3 .ensures ∙ ap none (c .before .find-on .ensures)))))
+    (and-on (sym (m .is-new .ensures) ∙ not-false _ (f .if4 .left)) (c .is-new2 .ensures))))
+
+abbrev start : tie.Else3 → tie.Start
+start e = e .before .before .before .before .before .before .before
 
 pub takes-cursor-spec : {M : Type 1} → statement M
 takes-cursor-spec =
     tie.close (tie.spec (λ c κs. search needs) returns returns-2 (λ c κs. search needs) (λ c κs. search needs) returns-3
-    (λ c κs. search needs) (λ c κs. search needs) returns-4 (λ c κs. search needs) (λ c κs. search needs) returns-5)
+    (λ c κs. start c .pre .0) returns-4 (λ c κs. start (c .before .before) .pre .1) returns-5)

@@ -16,8 +16,8 @@ returns c =
     let form = flag .before .before .before .before .before in
     let words = form .before .before .before .args .words .now in (
       puts-as
-          (image-parts (sessionOf words) (flag .before .closed .ensures) (count .before .stmt-count .ensures)
-          (count2 .before .cursor-count .ensures))
+          (image-parts (sessionOf words) (flag .before .closed .ensures) (count .before .before .stmt-count .ensures)
+          (count2 .before .before .cursor-count .ensures))
           (puts-then (form .put-varint .ensures)
           (puts-then (flag .put-varint2 .ensures)
           (puts-then (count .put-varint3 .ensures)
@@ -28,5 +28,8 @@ returns c =
 
 pub put-image-spec : {M : Type 1} → statement M
 put-image-spec = tie.close (tie.spec (λ c κs. search needs) (λ c κs. search needs) (λ c κs. search needs)
-    (λ c κs. search needs) (λ c κs. search needs) (λ c κs. search needs) (λ c κs. search needs) (λ c κs. search needs)
-    (λ c κs. search needs) (λ c. puts-length (returns c .0)) returns)
+    (λ c κs. search needs) (λ c κs. search needs)
+    (λ c κs. c .before .before .before .before .before .stmt-count .ensures) (λ c κs. search needs)
+    (λ c κs. search needs)
+    (λ c κs. c .before .before .before .before .before .cursor-count .ensures)
+    (λ c. puts-length (returns c .0)) returns)
