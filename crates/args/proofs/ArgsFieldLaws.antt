@@ -95,8 +95,8 @@ args_field_lem =
     }
 
 module _ (number wire value : ℕ) where
-  pub args_number : is_args number wire value ≡ true → (number ≡ args_number) × (wire ≡ len)
-  args_number e = go (eqb number args_number) refl (eqb wire len) refl (sym (execute_field number wire value) ∙ e)
+  pub args_number_lem : is_args number wire value ≡ true → (number ≡ args_number) × (wire ≡ len)
+  args_number_lem e = go (eqb number args_number) refl (eqb wire len) refl (sym (execute_field number wire value) ∙ e)
     where
       go : (b : Bool) → eqb number args_number ≡ b → (c : Bool) → eqb wire len ≡ c → (b && c) ≡ true →
           (number ≡ args_number) × (wire ≡ len)
@@ -104,8 +104,8 @@ module _ (number wire value : ℕ) where
       go true f false g h = absurd (let z : ◌≡◌ {A = ℕ} 0 1 = cc in omega arith)
       go false f c g h = absurd (let z : ◌≡◌ {A = ℕ} 0 1 = cc in omega arith)
 
-  pub is_args : number ≡ args_number → wire ≡ len → true ≡ is_args number wire value
-  is_args e f = sym (execute_field number wire value ∙ rw (e, f))
+  pub is_args_lem : number ≡ args_number → wire ≡ len → true ≡ is_args number wire value
+  is_args_lem e f = sym (execute_field number wire value ∙ rw (e, f))
 
   pub no_wire : number ≡ args_number → (wire ≡ len → ⊥) → false ≡ is_args number wire value
   no_wire e f = sym (execute_field number wire value ∙ rw (e, ne_eqb wire len f))

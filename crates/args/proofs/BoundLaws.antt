@@ -359,9 +359,9 @@ tests number wire v = args_field_lem.tested number wire v ∙ go (eqb number 2)
     go false = refl
 
 module _ (s : List ℕ) (number wire v start len next : ℕ) where
-  pub inside_args : tests_args number wire ≡ true →
+  pub inside_args_lem : tests_args number wire ≡ true →
       argument_padded s start len ≡ inside_args s (Field.Good number wire v start len next)
-  inside_args h = yes _ false (tests number wire v ∙ h)
+  inside_args_lem h = yes _ false (tests number wire v ∙ h)
 
   pub inside_other : tests_args number wire ≡ false → inside_args s (Field.Good number wire v start len next) ≡ false
   inside_other h = sym (no _ false (tests number wire v ∙ h))

@@ -5,7 +5,7 @@ use Rattle.args.proofs.Names.{as_length, of_value, field_at, PastField, Field, V
 use Rattle.args.proofs.Names.{argument_in, is_args, of_field, place_from, arg_place, place_of, of_place, next_argument}
 use Rattle.args.proofs.Names.{GoesOn, ArgPlace, NextArgument}
 use Rattle.args.specs.WithinRules.{NextGoesOn}
-use Rattle.args.proofs.ArgsFieldLaws.{is_args, no_wire, no_number}
+use Rattle.args.proofs.ArgsFieldLaws.{is_args_lem, no_wire, no_number}
 use Rattle.args.proofs.WithinLaws.{ends_later, argument_ends}
 
 -- where the loop stands: what is left at p answers for the whole
@@ -57,7 +57,7 @@ module _ {s : List ℕ} {at p : ℕ} (k : Seeking s at p) (inside : p < length s
         ∙ turn (Field.Good number wire v start len next) e
 
     pub found : number ≡ 2 → wire ≡ 2 → ArgPlace.At start len next ≡ arg_place s at
-    found h g = by_args true (is_args number wire v h g)
+    found h g = by_args true (is_args_lem number wire v h g)
 
     pub on : place_from (k.most - 1) s next ≡ arg_place s at → Seeking s at next
     on w = record { most = k.most - 1; enough = omega (arith, k.enough, advances); whole = w }

@@ -21,7 +21,7 @@ use wire::value::Value;
 
 // Where the next args field stands: its value's place and length and the place behind it; none left; or
 // a bad field on the way.
-#[derive(Drop)]
+#[derive(Clone, Copy)]
 pub enum ArgPlace {
     At {
         start: usize,
@@ -33,7 +33,7 @@ pub enum ArgPlace {
 }
 
 // The next argument and the place behind it, or no more.
-#[derive(Drop)]
+#[derive(Clone, Copy)]
 pub enum NextArgument {
     Found { value: Argument, next: usize },
     End,
@@ -43,7 +43,7 @@ pub enum NextArgument {
 // among them with its index (kind 0: none). `good` says that each one is. No two of the numbers stand side by side as
 // in what hosts are told: such two are copied at once, right after they were written one by one, for which a processor
 // waits.
-#[derive(Drop)]
+#[derive(Clone, Copy)]
 pub struct Arguments {
     pub good: bool,
     pub kind: u64,

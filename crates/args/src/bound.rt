@@ -12,7 +12,7 @@ use protocol::{fields, wire_type};
 use wire::field::Field;
 
 // What is kept of a message's own fields: whether field 1 and field 3 occur, and their values.
-#[derive(Drop)]
+#[derive(Clone, Copy)]
 pub struct Own {
     pub hasone: bool,
     pub one: u64,
@@ -22,7 +22,7 @@ pub struct Own {
 
 // The same beside the arguments, as they are in `Arguments`. The numbers stand in such an order that no two are copied
 // at once right after they were written one by one, for which a processor waits.
-#[derive(Drop)]
+#[derive(Clone, Copy)]
 pub struct Bound {
     pub count: usize,
     pub one: u64,

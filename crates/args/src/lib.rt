@@ -1,4 +1,6 @@
 // The arguments of a message: one by one, and all together.
+#![tactic(auto)]
+
 pub mod arguments;
 pub mod bound;
 pub mod judge;

@@ -14,7 +14,7 @@ use wire::value::Value;
 
 // Two fields that fill the message: number 1, a varint of one byte with the value `first`; and one whose tag is the
 // byte `tag`, with its value and place. Other: no such pair, and the long way reads the message.
-#[derive(Drop)]
+#[derive(Clone, Copy)]
 pub enum Pair {
     Two {
         first: u64,
@@ -157,7 +157,7 @@ pub fn read_lone(s: &[u8], at: usize, n: usize) -> u64
 }
 
 // Field 1 with bytes that fills the message: the place and length of the bytes. Other: there is more or something else.
-#[derive(Drop)]
+#[derive(Clone, Copy)]
 pub enum Text {
     Alone { start: usize, len: usize },
     Other,

@@ -9,7 +9,7 @@ use Rattle.scalar.specs.declared.argument.Argument.TheVariants as Va
 use Rattle.args.specs.Arguments.{any_type_of, arguments_from, arguments_at}
 use Rattle.args.specs.Moved.{moved}
 use Rattle.args.proofs.PlaceLaws.{next_end}
-use Rattle.args.proofs.ArgsFieldLaws.{is_args}
+use Rattle.args.proofs.ArgsFieldLaws.{is_args_lem}
 use Rattle.args.proofs.MovedArgLaws.{argument_moved, args_found}
 use Rattle.args.proofs.ArgumentsLaws.{from_none as args_none}
 use Rattle.writer.specs.Judge.{is_good}

@@ -36,7 +36,7 @@ const NO_FIELD: u64 = wire_type::GROUP_START;
 
 // Whether it can be written, its Scalar type, the number, wire type and value of the field with its value, and the
 // place and length of its bytes.
-#[derive(Drop)]
+#[derive(Clone, Copy)]
 pub(crate) struct Form {
     pub(crate) good: bool,
     pub(crate) kind: u64,

@@ -1,5 +1,7 @@
 // One argument appended as an args field to a lent buffer, so that a stretch of them is built without
 // encoding by hand.
+#![tactic(auto)]
+
 ghost use Rattle.std.specs.Prelude.{◌≡◌, length};
 ghost use Rattle.args_writer.specs.Append.{appended_of, left_by};
 

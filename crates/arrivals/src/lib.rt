@@ -1,5 +1,7 @@
 // Frames as they arrive: bytes come in, cut anywhere, and whole frames go out. What has come in and has not gone
 // out is held in a store that the caller lends and that only these functions write.
+#![tactic(auto)]
+
 ghost use Rattle.std.specs.Prelude.{◌≡◌, ◌≤◌, [], length};
 ghost use Rattle.streams.specs.Reader.{next_at, next_of, push_at, push_of, reader, settled};
 ghost use Rattle.streams.specs.Reader.{stands_first, start_over, store_size, usable};

@@ -6,7 +6,7 @@ ghost use Rattle.encode.specs.Put.{place_behind, put_at, written};
 ghost use Rattle.encode.specs.Puts.{Puts};
 
 // What writing all or nothing at a place comes to: the place behind the bytes, or no room for them.
-#[derive(Drop)]
+#[derive(Clone, Copy)]
 pub enum Put {
     Next(usize),
     Full,

@@ -1,1 +1,3 @@
 // What holds of every list of steps from a fresh session: see specs/. There is no code here.
+#![tactic(auto)]
+

@@ -1,5 +1,7 @@
 // A session handed to another server: written to an image, and read back from one. What an image is stands in crate
 // image_rules.
+#![tactic(auto)]
+
 ghost use Rattle.std.specs.Prelude.{◌≡◌};
 ghost use Rattle.session.specs.Words.{session_of};
 ghost use Rattle.image_rules.specs.Image.{buffer_with, written_of};

@@ -36,7 +36,7 @@ const FOUR_MARKS: u64 = THREE_MARKS + FIFTH;
 const FIFTH_LIMIT: u64 = 16;
 
 // The place behind what was read, or an image that is not acceptable.
-#[derive(Drop)]
+#[derive(Clone, Copy)]
 pub(crate) enum End {
     At(usize),
     Broken,

@@ -1,8 +1,9 @@
 // Images of sessions, by which one is handed to another server: their types here, what an image is, which are accepted
 // and what holds of them in specs/. The functions are those of crate image.
+#![tactic(auto)]
 
 // A statement as an image lists it.
-#[derive(Drop)]
+#[derive(Clone, Copy)]
 pub struct StmtEntry {
     pub place: u32,
     pub id: u32,
@@ -10,7 +11,7 @@ pub struct StmtEntry {
 }
 
 // A cursor as an image lists it: the id of its statement, the rows that the engine reported, the rows sent so far.
-#[derive(Drop)]
+#[derive(Clone, Copy)]
 pub struct CursorEntry {
     pub place: u32,
     pub id: u32,
@@ -21,7 +22,7 @@ pub struct CursorEntry {
 
 // The reason by which an image is not written, or 0 and its length.
 #[repr(C)]
-#[derive(Drop)]
+#[derive(Clone, Copy)]
 pub struct Written {
     pub reason: u64,
     pub len: usize,

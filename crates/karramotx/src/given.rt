@@ -7,7 +7,7 @@ use scalar::argument::Argument;
 
 // `kind` is the Scalar type, 1 to 8. `value` is as `Value` tells it.
 #[repr(C)]
-#[derive(Drop)]
+#[derive(Clone, Copy)]
 pub struct Scalar {
     pub kind: u64,
     pub value: u64,

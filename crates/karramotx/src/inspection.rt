@@ -15,7 +15,7 @@ use session::WORDS;
 // is none. `ends` has a bit for each place of a cursor that the request ends once it is accepted, the lowest for place
 // 0.
 #[repr(C)]
-#[derive(Drop)]
+#[derive(Clone, Copy)]
 pub struct Inspection {
     pub look: Look,
     pub message: Message,

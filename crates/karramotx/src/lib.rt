@@ -1,6 +1,8 @@
 // The library for hosts in C and Rust: numbers, slices, `#[repr(C)]` structs and references to a session's words only.
 // A slice is passed as a pointer and a length, a reference as a pointer. Nothing is asked of a caller: every bit
 // pattern is a session, and a report kind or a message type that is not listed is refused.
+#![tactic(auto)]
+
 ghost use Rattle.std.specs.Prelude.{◌≡◌, length};
 ghost use Rattle.args.specs.Arguments.{next_argument};
 ghost use Rattle.args_writer.specs.Append.{appended_of, left_by};
@@ -38,7 +40,7 @@ pub mod value;
 
 // The live statements, the live cursors, and the rows that these have still to send.
 #[repr(C)]
-#[derive(Drop)]
+#[derive(Clone, Copy)]
 pub struct Counts {
     pub stmts: u64,
     pub cursors: u64,

@@ -13,7 +13,7 @@ use protocol::{client, reason};
 // `padded`, is 0. `used` is the frame's length, 0 where it is refused 1 or 2. What the message's type does not have is
 // 0 or absent. `padded` says whether a varint read in the frame is padded.
 #[repr(C)]
-#[derive(Drop)]
+#[derive(Clone, Copy)]
 pub struct Message {
     pub reason: u64,
     pub used: usize,
@@ -33,7 +33,7 @@ pub struct Message {
 
 // The arguments, as `Arguments` has them.
 #[repr(C)]
-#[derive(Drop)]
+#[derive(Clone, Copy)]
 pub struct Args {
     pub good: bool,
     pub count: usize,

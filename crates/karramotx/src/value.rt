@@ -11,7 +11,7 @@ use scalar::argument::Argument;
 // or a bool; octets and strings are a place and a length. `next` is the place behind an argument that is
 // read in one pass, else 0.
 #[repr(C)]
-#[derive(Drop)]
+#[derive(Clone, Copy)]
 pub struct Value {
     pub reason: u64,
     pub kind: u64,

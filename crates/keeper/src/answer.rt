@@ -14,7 +14,7 @@ use reply::{Refusal, Reply};
 use rules::{Answer, Report};
 
 // What is sent: whether columns go out, which rows, and how the reply ends.
-#[derive(Drop)]
+#[derive(Clone, Copy)]
 pub(crate) struct Sends {
     pub columns: bool,
     pub first: u64,
@@ -24,7 +24,7 @@ pub(crate) struct Sends {
 
 // What an Error may name: ids, the index of the first argument that is an object or array, the count of arguments, and
 // the type of that argument.
-#[derive(Drop)]
+#[derive(Clone, Copy)]
 pub(crate) struct Names {
     pub stmt: u64,
     pub cursor: u64,

@@ -19,7 +19,7 @@ use protocol::reason;
 use rules::{Look, Touches};
 use session::{Cursor, MAX_CURSORS, MAX_STMTS, Place, WORDS, Which, find, mask};
 
-#[derive(Drop)]
+#[derive(Clone, Copy)]
 pub struct Inspected {
     pub look: Look,
     pub touches: Touches,

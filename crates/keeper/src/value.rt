@@ -7,7 +7,7 @@ use rules::{Answer, Look, Report};
 use session::Session;
 
 // What a step hands back.
-#[derive(Drop)]
+#[derive(Clone, Copy)]
 pub struct Outcome {
     pub answer: Answer,
     pub session: Session,

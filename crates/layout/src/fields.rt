@@ -11,7 +11,7 @@ use wire::field::Field;
 
 // What a message makes of a field: it is skipped, only counted (a repeated field, whose occurrences are
 // read one by one elsewhere), or kept in the place of an earlier one.
-#[derive(Drop)]
+#[derive(Clone, Copy)]
 pub enum Use {
     Unknown,
     Counted,

@@ -1,4 +1,6 @@
 // Reading a message by the layout table: which fields it has, and where they stand.
+#![tactic(auto)]
+
 pub mod fields;
 pub mod merge;
 pub mod part;

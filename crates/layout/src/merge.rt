@@ -12,7 +12,7 @@ use protocol::wire_type;
 use wire::field::Field;
 
 // Where a part stands, and the place behind it; or there is no more.
-#[derive(Drop)]
+#[derive(Clone, Copy)]
 pub enum NextPart {
     At {
         start: usize,

@@ -9,7 +9,7 @@ use crate::slots::SLOTS;
 
 // The place and length of some bytes of a frame.
 #[repr(C)]
-#[derive(Drop)]
+#[derive(Clone, Copy)]
 pub struct Part {
     pub start: usize,
     pub len: usize,

@@ -6,7 +6,7 @@ pub const SLOTS: usize = 10;
 
 // For each known field number: how often it occurs, and of the occurrence that counts the value and the place and
 // length of its bytes. `good` says that the list is one.
-#[derive(Drop)]
+#[derive(Clone, Copy)]
 pub struct Slots {
     pub good: bool,
     pub count: [u64; SLOTS],

@@ -23,7 +23,7 @@ use protocol::{client, fields, wire_type};
 
 // An Open's cursor id, whether its statement is whole, where it stands, and whether fetch_rows is there and what it is;
 // a statement that is not whole comes in parts. Or the message is bad.
-#[derive(Drop)]
+#[derive(Clone, Copy)]
 pub enum Opening {
     Of {
         id: u64,
@@ -37,7 +37,7 @@ pub enum Opening {
 }
 
 // Where the Execute of an Open's statement stands, or that it stands there more than once; or the statement is bad.
-#[derive(Drop)]
+#[derive(Clone, Copy)]
 pub enum Inner {
     At { start: usize, len: usize },
     Twice,

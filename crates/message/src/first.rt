@@ -9,7 +9,7 @@ use protocol::{fields, wire_type};
 use varint::Varint;
 
 // The id, and the place behind the tag that follows it. Other: the long way reads the message.
-#[derive(Drop)]
+#[derive(Clone, Copy)]
 pub enum First {
     At { id: u64, next: usize },
     Other,

@@ -12,7 +12,7 @@ pub const LENGTH_BYTES: usize = 4;
 pub const MAX_LENGTH: u64 = 65532;
 
 // A whole frame with its type and the place behind its last byte, or a refusal by its number.
-#[derive(Drop)]
+#[derive(Clone, Copy)]
 pub enum Head {
     Frame { kind: u8, end: usize },
     Refused(u64),

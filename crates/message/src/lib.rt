@@ -1,4 +1,6 @@
 // What a frame means: its head, the request that it holds, the chosen body and the arguments.
+#![tactic(auto)]
+
 pub mod execute;
 mod first;
 pub mod frame;

@@ -12,7 +12,7 @@ use wire::value::Value;
 
 // The cursor id, where the statement stands, and whether fetch_rows is there and what it is. Other: the long way reads
 // the message.
-#[derive(Drop)]
+#[derive(Clone, Copy)]
 pub enum Outer {
     Fields {
         id: u64,

@@ -26,7 +26,7 @@ use wire::value::Value;
 
 // A Prepare's id, whether its statement is whole, and where it stands; one that is not comes in parts. Or the message
 // is bad.
-#[derive(Drop)]
+#[derive(Clone, Copy)]
 pub enum Stmt {
     At {
         id: u64,
@@ -39,7 +39,7 @@ pub enum Stmt {
 
 // A statement's type, and where the body that it chooses stands, or that it stands there more than once; or the
 // statement is bad.
-#[derive(Drop)]
+#[derive(Clone, Copy)]
 pub enum Chosen {
     Body {
         operation: u64,

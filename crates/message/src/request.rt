@@ -7,7 +7,7 @@ use layout::part::Part;
 
 // An optional field: whether it is present, and its value (0 where it is not).
 #[repr(C)]
-#[derive(Drop)]
+#[derive(Clone, Copy)]
 pub struct Optional {
     pub present: bool,
     pub value: u64,
@@ -29,7 +29,7 @@ impl Optional {
 // and hardly with their numbers: a number that is put together with a flag goes to memory in pieces.
 
 // A statement to prepare. `operation` is the type of its body, which stands at `body`.
-#[derive(Drop)]
+#[derive(Clone, Copy)]
 pub struct Prepare {
     pub args: Arguments,
     pub stmt: u32,
@@ -38,7 +38,7 @@ pub struct Prepare {
 }
 
 // A statement to run, also the one of an Open. `compact` is compact_metadata.
-#[derive(Drop)]
+#[derive(Clone, Copy)]
 pub struct Execute {
     pub args: Arguments,
     pub stmt: u32,
@@ -46,7 +46,7 @@ pub struct Execute {
 }
 
 // A cursor to open on the statement that `execute` runs; `rows` is fetch_rows, `body` is where the Execute stands.
-#[derive(Drop)]
+#[derive(Clone, Copy)]
 pub struct Open {
     pub execute: Execute,
     pub body: Part,
@@ -55,13 +55,13 @@ pub struct Open {
 }
 
 // Rows to send of a cursor; `rows` is fetch_rows.
-#[derive(Drop)]
+#[derive(Clone, Copy)]
 pub struct Fetch {
     pub rows: Optional,
     pub cursor: u32,
 }
 
-#[derive(Drop)]
+#[derive(Clone, Copy)]
 pub enum Request {
     Reset,
     SessionClose,
@@ -74,7 +74,7 @@ pub enum Request {
 }
 
 // What the bytes of a frame hold. `used` is the frame's length.
-#[derive(Drop)]
+#[derive(Clone, Copy)]
 pub enum Frame {
     NotAllThere,
     BadLength,

@@ -1,1 +1,3 @@
 // Nothing that runs: laws that several crates need, in proofs/.
+#![tactic(auto)]
+

@@ -1,4 +1,6 @@
 // The numbers of the protocol, each under its name.
+#![tactic(auto)]
+
 pub mod anys;
 pub mod client;
 pub mod fields;

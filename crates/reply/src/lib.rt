@@ -1,4 +1,6 @@
 // Replies of the server: which frames each is made of, written into a lent buffer.
+#![tactic(auto)]
+
 ghost use Rattle.std.specs.Prelude.{◌≡◌};
 ghost use Rattle.encode.specs.Put.{put_at, written};
 ghost use Rattle.reply.specs.Frame.{error_frame};
@@ -14,7 +16,7 @@ mod text;
 
 // The refusal that an Error tells: its number, its wire code, and what its text names: an id, index or count and, for
 // an argument, the type of its Any.
-#[derive(Drop)]
+#[derive(Clone, Copy)]
 pub struct Refusal {
     pub reason: u64,
     pub code: u64,
@@ -24,7 +26,7 @@ pub struct Refusal {
 
 // What is replied: no frame; Ok; FetchSuspended or FetchDone, and StmtExecuteOk behind it; StmtExecuteOk alone; an
 // Error.
-#[derive(Drop)]
+#[derive(Clone, Copy)]
 pub enum Reply {
     Nothing,
     Ok,

@@ -1,4 +1,6 @@
 // What a look and a step take and what they answer. Every type is of numbers and bools, so that a host can pass it.
+#![tactic(auto)]
+
 
 // The kinds of an engine report.
 pub const NONE: u64 = 0;
@@ -35,7 +37,7 @@ pub const MIN_BUFFER: usize = 128;
 // An engine report. `placeholders` counts where it is prepared, `columns` and `rows` where it is a result, `code` where
 // it failed.
 #[repr(C)]
-#[derive(Drop)]
+#[derive(Clone, Copy)]
 pub struct Report {
     pub kind: u64,
     pub placeholders: u64,
@@ -47,7 +49,7 @@ pub struct Report {
 // What a look answers: a refusal, or the work wanted, of a Fetch the rows to send, and whether a varint read in the
 // frame is padded.
 #[repr(C)]
-#[derive(Drop)]
+#[derive(Clone, Copy)]
 pub struct Look {
     pub reason: u64,
     pub work: u64,
@@ -59,7 +61,7 @@ pub struct Look {
 // What a step answers: the refusal or 0, the bytes used, the reply's length, whether columns go out, whether a varint
 // read in the frame is padded, and which rows.
 #[repr(C)]
-#[derive(Drop)]
+#[derive(Clone, Copy)]
 pub struct Answer {
     pub reason: u64,
     pub used: usize,
@@ -73,7 +75,7 @@ pub struct Answer {
 // What a request touches in the tables: the place of its statement and of its cursor, the number of places where there
 // is none, and as bits the places of the cursors that it ends once it is accepted.
 #[repr(C)]
-#[derive(Drop)]
+#[derive(Clone, Copy)]
 pub struct Touches {
     pub stmt: usize,
     pub cursor: usize,

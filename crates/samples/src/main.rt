@@ -1,5 +1,7 @@
 // The samples that are run: each record of standard input is read, written or stepped on, as its letter says.
 // What is printed is compared with `stdout`.
+#![tactic(auto)]
+
 mod frame;
 mod given;
 mod out;

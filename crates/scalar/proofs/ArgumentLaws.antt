@@ -11,8 +11,8 @@ use Rattle.scalar.proofs.ZigzagLaws.{zigzag_both_ways}
 
 module _ (f : Format) (n : ℕ) where
   -- with the sign taken off, a NaN's bits are above the infinity's, and no other's
-  pub is_nan : ones f * hid f < n % top f → nan_bits f n ≡ true
-  is_nan h = nan_bits_above f n ∙ lt-ltb (ones f * hid f) (n % top f) h
+  pub is_nan_lem : ones f * hid f < n % top f → nan_bits f n ≡ true
+  is_nan_lem h = nan_bits_above f n ∙ lt-ltb (ones f * hid f) (n % top f) h
 
   pub no_nan : n % top f ≤ ones f * hid f → nan_bits f n ≡ false
   no_nan h = nan_bits_above f n ∙ le-ltb (ones f * hid f) (n % top f) h

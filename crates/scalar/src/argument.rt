@@ -4,7 +4,7 @@ ghost use Rattle.scalar.specs.Argument.{double_of, float_of, signed_of};
 
 // One argument of an Execute, an Open or a StmtExecute. Bytes are a place in the frame and a length.
 // The logic has one NaN, so that a NaN is kept as its bits, in a case of its own.
-#[derive(Drop)]
+#[derive(Clone, Copy)]
 pub enum Argument {
     Signed(i64),
     Unsigned(u64),

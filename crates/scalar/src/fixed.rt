@@ -5,7 +5,7 @@ ghost use Rattle.scalar.specs.Fixed.{little, fixed_at};
 use protocol::uint32;
 
 // What stands at a place: a number and the place behind it, or no whole value.
-#[derive(Drop)]
+#[derive(Clone, Copy)]
 pub enum Fixed {
     Number { value: u64, next: usize },
     Bad,

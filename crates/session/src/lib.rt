@@ -1,4 +1,6 @@
 // A session: words that the host owns, holding the two tables and the closed flag.
+#![tactic(auto)]
+
 ghost use Rattle.std.specs.Prelude.{◌≡◌};
 ghost use Rattle.session.specs.Entry.{passes};
 ghost use Rattle.session.specs.Tables.{fresh, prepared, freed, opened, fetched, ended_by, reset, closed_now};
@@ -21,7 +23,7 @@ pub const CURSOR_WORDS: usize = 5;
 pub const WORDS: usize = words::CLOSED + 1;
 
 // An entry of the statement table. `live` is a flag: 0 for a free place, which then holds zeros.
-#[derive(Drop)]
+#[derive(Clone, Copy)]
 pub struct Stmt {
     pub id: u32,
     pub placeholders: u32,
@@ -29,7 +31,7 @@ pub struct Stmt {
 }
 
 // An entry of the cursor table: the id of its statement, the rows that the engine reported, the rows sent so far.
-#[derive(Drop)]
+#[derive(Clone, Copy)]
 pub struct Cursor {
     pub id: u32,
     pub stmt: u32,
@@ -46,14 +48,14 @@ pub struct Session {
 }
 
 // A place of a table.
-#[derive(Drop)]
+#[derive(Clone, Copy)]
 pub enum Place {
     At(usize),
     Nothing,
 }
 
 // A test on cursors: the live one of an id, a live one on a statement.
-#[derive(Drop)]
+#[derive(Clone, Copy)]
 pub enum Which {
     Id(u32),
     On(u32),

@@ -1,12 +1,14 @@
 // A reader of arrivals: its types here, what it does and what holds of every list of operations in specs/. The
 // functions are those of crate arrivals.
+#![tactic(auto)]
+
 
 // The bytes of a store: the longest frame fills it.
 pub const STORE: usize = 65536;
 
 // The bytes held are those of the store from `start` up to `end`. Two numbers that are no such part hold nothing.
 #[repr(C)]
-#[derive(Drop)]
+#[derive(Clone, Copy)]
 pub struct Reader {
     pub start: usize,
     pub end: usize,
@@ -14,7 +16,7 @@ pub struct Reader {
 
 // What a push answers: the reader after it, what stands first then, and how many bytes were taken.
 #[repr(C)]
-#[derive(Drop)]
+#[derive(Clone, Copy)]
 pub struct Pushed {
     pub reader: Reader,
     pub reason: u64,
@@ -23,7 +25,7 @@ pub struct Pushed {
 
 // A frame handed out, with its place in the store, its length and its type byte; or the reason that there is none.
 #[repr(C)]
-#[derive(Drop)]
+#[derive(Clone, Copy)]
 pub struct NextFrame {
     pub reader: Reader,
     pub reason: u64,

@@ -1,5 +1,7 @@
 // The trace printer: reads standard input, however it arrives, and writes what `trace_line::printer` puts: the
 // header, a line for each record and the end's text. Here bytes are moved, and nothing else.
+#![tactic(auto)]
+
 use encode::put::Put;
 use libc::{STDIN_FILENO, STDOUT_FILENO};
 use session::{Session, WORDS};
@@ -13,7 +15,7 @@ const STORE: usize = MAX_RECORD + CHUNK;
 const OUTPUT: usize = 65536;
 
 // The printer, what stands first among the bytes that it holds, and whether there is more to do.
-#[derive(Drop)]
+#[derive(Clone, Copy)]
 struct Run {
     printer: Printer,
     first: First,

@@ -1,4 +1,6 @@
 // The trace printer's work: a record in, a line out.
+#![tactic(auto)]
+
 ghost use Rattle.std.specs.Prelude.{◌≡◌};
 ghost use Rattle.session.specs.Words.{session_of};
 ghost use Rattle.rules.specs.Step.{step_of};
@@ -15,7 +17,7 @@ pub mod printer;
 pub mod record;
 
 // The place behind a record; or its bytes end before it does, or it has a bad number.
-#[derive(Drop)]
+#[derive(Clone, Copy)]
 pub enum RecordEnd {
     Next(usize),
     Short,
@@ -23,7 +25,7 @@ pub enum RecordEnd {
 }
 
 // The place behind a record, and the place behind its line.
-#[derive(Drop)]
+#[derive(Clone, Copy)]
 pub struct Traced {
     pub place: RecordEnd,
     pub put: Put,

@@ -10,7 +10,7 @@ use protocol::server;
 use reply::decimal::put_decimal;
 
 // What a line prints, in this order.
-#[derive(Drop)]
+#[derive(Clone, Copy)]
 pub struct Line {
     pub n: u64,
     pub reason: u64,

@@ -20,14 +20,14 @@ pub const MAX_LINE: usize = 149;
 pub const MAX_RECORD: usize = 65576;
 
 // The next record is the n-th, and the first `held` bytes of the store are not printed yet.
-#[derive(Drop)]
+#[derive(Clone, Copy)]
 pub struct Printer {
     pub n: u64,
     pub held: usize,
 }
 
 // What stands first among the bytes held: a whole record, one that more bytes may complete, or a bad one.
-#[derive(Drop)]
+#[derive(Clone, Copy)]
 pub enum First {
     Whole,
     Short,
@@ -36,7 +36,7 @@ pub enum First {
 
 // The printer after a call; how many bytes of the chunk were taken, and how many bytes of lines were put; and
 // what stands first in the store then.
-#[derive(Drop)]
+#[derive(Clone, Copy)]
 pub struct Printed {
     pub printer: Printer,
     pub taken: usize,
@@ -45,7 +45,7 @@ pub struct Printed {
 }
 
 // Behind some lines: the number of the next record, its place, and the place behind the lines.
-#[derive(Drop)]
+#[derive(Clone, Copy)]
 pub(crate) struct Walk {
     n: u64,
     at: usize,

@@ -10,7 +10,7 @@ use varint::Varint;
 pub const MAX_FRAME: u64 = 65536;
 
 // A number and the place behind it; or the bytes end within it, or it has more than ten bytes.
-#[derive(Drop)]
+#[derive(Clone, Copy)]
 pub enum Number {
     Value { value: u64, next: usize },
     Short,
@@ -19,7 +19,7 @@ pub enum Number {
 
 // A whole record: where its frame stands, its report and the place behind it; or the bytes end before
 // it does, or it has a bad number.
-#[derive(Drop)]
+#[derive(Clone, Copy)]
 pub enum Record {
     Whole {
         start: usize,

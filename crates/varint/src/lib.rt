@@ -1,13 +1,15 @@
 // Varints of the Protocol Buffers encoding: read at a place of a byte string. Whether one is padded goes into a flag
 // that the caller lends: it is on afterwards where it was on before or the varint is padded. So a reader of many
 // varints asks once, and what is read in one byte, as most are, costs nothing for it.
+#![tactic(auto)]
+
 ghost use Rattle.std.specs.Prelude.{◌≡◌, ◌||◌, ◌^◌, ◌<◌, ◌≤◌};
 ghost use Rattle.varint.specs.Varint.{groups, low64, onto, varint_at};
 ghost use Rattle.varint.specs.Padded.{padded_at};
 ghost use Rattle.varint.specs.private.Behind.{behind_first, padded_behind, padded_tenth};
 
 // What stands at a place: a number and the place behind it, or no varint.
-#[derive(Drop)]
+#[derive(Clone, Copy)]
 pub enum Varint {
     Number { value: u64, next: usize },
     Bad,

@@ -13,7 +13,7 @@ use varint::wide;
 const MAX_DEPTH: u64 = 32;
 
 // What stands at a place: a field and the place behind it, or a bad one.
-#[derive(Drop)]
+#[derive(Clone, Copy)]
 pub enum Field {
     Good {
         number: u64,

@@ -8,7 +8,7 @@ use crate::value::Value;
 use protocol::wire_type;
 
 // The place behind what was skipped, or a bad field on the way.
-#[derive(Drop)]
+#[derive(Clone, Copy)]
 pub enum Skip {
     At(usize),
     Bad,

@@ -8,7 +8,7 @@ use protocol::uint32;
 use varint::{Varint, wide};
 
 // What stands at a place: a field number, a wire type and the place behind the tag, or no tag.
-#[derive(Drop)]
+#[derive(Clone, Copy)]
 pub enum Tag {
     Field { number: u64, wire: u64, next: usize },
     Bad,

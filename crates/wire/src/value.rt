@@ -10,7 +10,7 @@ use varint::Varint;
 
 // What stands at a place: a number (of bytes that follow, for wire type 2), the place and length of
 // the value's bytes and the place behind them, or no value.
-#[derive(Drop)]
+#[derive(Clone, Copy)]
 pub enum Value {
     Good {
         number: u64,

@@ -27,7 +27,7 @@ unfoldable pub use Rattle.args.specs.Padded.{argument_padded, execute_padded}
 pub use Rattle.args.specs.Moved.{moved}
 pub use Rattle.args.specs.declared.arguments.Arguments.{Arguments}
 pub use Rattle.args.proofs.ArgumentsLaws.{type_good}
-pub use Rattle.args.proofs.ArgsFieldLaws.{is_args, no_number}
+pub use Rattle.args.proofs.ArgsFieldLaws.{is_args_lem, no_number}
 pub use Rattle.args.proofs.MovedArgLaws.{field_inside}
 pub use Rattle.message.specs.Head.{max_length, head_of}
 pub use Rattle.message.specs.Operation.{field_of}

@@ -5,7 +5,7 @@ use Rattle.prelude.proofs.Basics.{less_or_not}
 use Rattle.wire.proofs.MovedLaws.{moved_field, field_moved}
 use Rattle.wire.proofs.AgreeLaws.{field_longer}
 use Rattle.args.specs.Value.{argument_in}
-use Rattle.args.proofs.ArgsFieldLaws.{args_number}
+use Rattle.args.proofs.ArgsFieldLaws.{args_number_lem}
 use Rattle.writer.proofs.Names.{Stands, stands_length, field_at, Field, use_of, noted, Use, Slots, Listing}
 use Rattle.writer.proofs.Names.{goes_on_lem, is_args, any_type_of, field_inside, on_arg, args_from, good_stretch}
 use Rattle.writer.proofs.FieldLaws.{Reads}

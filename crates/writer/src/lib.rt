@@ -1,4 +1,6 @@
 // Client messages written into a lent buffer.
+#![tactic(auto)]
+
 ghost use Rattle.std.specs.Prelude.{◌≡◌, length};
 ghost use Rattle.writer.specs.Write.{left_of, sent_of};
 
@@ -15,7 +17,7 @@ mod payload;
 // (fetch_rows, where `hasrows`) for Open and Fetch, `compact` (compact_metadata, where `hascompact`) for
 // Execute and Open, `operation` (the type of the statement) for Prepare.
 #[repr(C)]
-#[derive(Drop)]
+#[derive(Clone, Copy)]
 pub struct Draft {
     pub kind: u64,
     pub stmt: u32,
@@ -29,7 +31,7 @@ pub struct Draft {
 
 // The reason by which a draft is refused, or 0 and the length of the frame that was written.
 #[repr(C)]
-#[derive(Drop)]
+#[derive(Clone, Copy)]
 pub struct Sent {
     pub reason: u64,
     pub len: usize,

@@ -1,0 +1,27 @@
+-- A free place puts nothing, a live one its numbers. Assumes nothing.
+use Rattle.prelude.proofs.Basics.{◌≤◌, arith, length, rules}
+use Rattle.encode.proofs.PutsLaws.{puts_length}
+use Rattle.image_rules.specs.Numbers.{bytes_of}
+use Rattle.image_rules.specs.Listing.{stmt_entry}
+use Rattle.image_rules.specs.Image.{stmt_numbers}
+use Rattle.image_rules.specs.Image.{most_stmt}
+use Rattle.image_rules.specs.private.Parts.{stmt_bytes_at}
+use Rattle.image_rules.proofs.FitLaws.{stmt_short}
+use Rattle.image.proofs.WriteLaws.{number_then, last_number, puts_free, puts_live}
+use Rattle.image.proofs.write.put_stmt.Goals as goal
+
+pub returns : goal.returns
+returns c =
+    let short : length (stmt_bytes_at c.args.place c.args.t) ≤ most_stmt = stmt_short c.args.place c.args.t c.requires (omega arith) (omega arith) in
+    let numbers =
+    number_then c.put_number-at.ensures
+    (number_then c.put_number-at-2.ensures (last_number c.put_number.ensures)) in
+    record { put = puts_live c.if-t-eq0.false numbers.puts; short = short }
+
+pub returns-then-t-eq0 : goal.returns-then-t-eq0
+returns-then-t-eq0 c =
+    let short : length (stmt_bytes_at c.args.place c.args.t) ≤ most_stmt = stmt_short c.args.place c.args.t c.requires (omega arith) (omega arith) in
+    record { put = puts_free (bytes_of (stmt_numbers (stmt_entry c.args.place c.args.t))) c.if-t-eq0.true; short = short }
+
+pub shape_of-buf : goal.shape_of-buf
+shape_of-buf c = puts_length (returns c).put

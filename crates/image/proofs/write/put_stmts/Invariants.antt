@@ -1,0 +1,20 @@
+-- One place a turn, each behind the one before, until no live one is left. Assumes nothing.
+use Rattle.prelude.proofs.Basics.{◌-◌, ◌<◌, arith, cond, ap, ◌∙◌, rules}
+use Rattle.session.specs.Entry.{no_stmt, is_live_stmt}
+use Rattle.session.specs.Tables.{max_stmts}
+use Rattle.session.specs.Words.{stmt_in}
+use Rattle.session.proofs.BuildLaws.{get_d_build}
+use Rattle.session.proofs.SumLaws.{one_le}
+use Rattle.encode.proofs.PutsLaws.{puts_length}
+use Rattle.image_rules.specs.Listing.{stmt_entry}
+use Rattle.image_rules.specs.Image.{stmt_numbers}
+use Rattle.image_rules.specs.Image.{most_stmt}
+use Rattle.image_rules.specs.private.Parts.{stmt_bytes_at}
+use Rattle.image.proofs.WriteLaws.{Filling, fills, within, fills_on, filled}
+use Rattle.image.proofs.write.put_stmts.Given as goal
+
+abbrev pub invariant-loop-left : goal.invariant-loop-left
+invariant-loop-left l = Filling is_live_stmt (stmt_in l.words) (λ k. stmt_bytes_at k (stmt_in l.words k)) most_stmt max_stmts l.initial.buf l.at l.buf l.p l.i l.left
+
+abbrev pub decreases-loop-left : goal.decreases-loop-left
+decreases-loop-left l = max_stmts - l.i

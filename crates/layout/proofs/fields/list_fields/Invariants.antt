@@ -1,0 +1,20 @@
+-- `layout::fields::list_fields` meets its contract: each turn reads the field at the place and notes it by its row.
+-- Assumes nothing.
+-- whatever good slots the arrays held at first
+use Rattle.prelude.proofs.Basics.{◌-◌, ◌<◌, arith, true, ◌≡◌, refl, sym, ◌∙◌, length, rules, or_false}
+use Rattle.wire.proofs.NumberLaws.{field_number}
+use Rattle.layout.proofs.Names.{field_at, Field, fields_onto, nothing_inside, Slots}
+use Rattle.layout.specs.private.Arrays.{Noted}
+use Rattle.layout.proofs.FieldsLaws.{Filling, filling, filled, spoiled, fills_unknown, fills_counted, fills_kept}
+use Rattle.layout.proofs.FieldsLaws.{counted_slot, kept_slot}
+use Rattle.layout.proofs.PaddedLaws.{Marking, marks, marked, marks_bad, marks_on, field_ahead}
+use Rattle.layout.proofs.fields.list_fields.Given as goal
+
+abbrev pub invariant-loop-p : goal.invariant-loop-p
+invariant-loop-p l = ((x : Slots) →
+    x.good ≡ true →
+    Noted x l.initial.times l.initial.values l.initial.starts → Filling l.rows l.s (fields_onto l.rows l.s l.from x) l.p l.times l.values l.starts)
+    × Marking nothing_inside l.s l.from l.p l.initial.padded l.padded
+
+abbrev pub decreases-loop-p : goal.decreases-loop-p
+decreases-loop-p l = length l.s - l.p

@@ -1,0 +1,12 @@
+-- The row that is found decides; a number that no row has is unknown.
+use Rattle.prelude.proofs.Basics.{ℕ, ◌-◌, ◌≤◌, ◌≡◌, sym, ap, ◌∙◌, List, length, drop, rules}
+use Rattle.layout.proofs.Names.{row_for, use_by}
+use Rattle.layout.proofs.RowLaws.{row_hit, row_miss, row_end}
+use Rattle.layout.proofs.FieldsLaws.{use_none}
+use Rattle.layout.proofs.fields.use_of.Given as goal
+
+abbrev pub invariant-loop-i : goal.invariant-loop-i
+invariant-loop-i l = (l.i ≤ length l.rows) × (row_for (drop l.i l.rows) l.number ≡ row_for l.rows l.number)
+
+abbrev pub decreases-loop-i : goal.decreases-loop-i
+decreases-loop-i l = length l.rows - l.i

@@ -1,9 +1,0 @@
--- `layout::rows::fetch_rows` meets its contract: the constant is the table of its message. Assumes nothing.
-use Rattle.prelude.proofs.Basics.{refl}
-use Rattle.layout.proofs.Names.{rows_of}
-use Rattle.layout.proofs.rows.fetch_rows.Statement.{statement}
-use Rattle.layout.proofs.rows.fetch_rows.Tie as tie
-
-pub fetch-rows-spec : {M : Type 1} → statement M
-unfolding rows_of
-fetch-rows-spec = tie.close (tie.spec (λ c. refl))

@@ -1,0 +1,8 @@
+-- `layout::rows::prepare_stmt_rows` meets its contract: the constant is the table of its message. Assumes nothing.
+use Rattle.prelude.proofs.Basics.{refl}
+use Rattle.layout.proofs.Names.{rows_of}
+use Rattle.layout.proofs.rows.prepare_stmt_rows.Goals as goal
+
+pub returns : goal.returns
+unfolding rows_of
+returns c = refl

@@ -1,0 +1,39 @@
+-- A StmtExecute's arguments are found in one pass; of any other body the answer alone counts.
+use Rattle.prelude.proofs.Basics.{arith, true, refl, ◌∙◌, [], rules, not-false, not-true}
+use Rattle.message.proofs.Names.{embedded, held_good, bound_found}
+use Rattle.message.proofs.MessageLaws.{body_list_bad, body_list}
+use Rattle.message.proofs.BoundLaws.{body_lost, body_found}
+use Rattle.message.proofs.prepare.long_body.Goals as goal
+
+pub returns-then-not-b : goal.returns-then-not-b
+returns-then-not-b c =
+    c.bad.ensures
+    ∙ body_lost c.args.s.now c.args.operation c.args.at c.args.n c.if-operation-eq-STMT_EXECUTE.true c.read_bound-b.result
+    c.read_bound-b.ensures.answer
+    (not-true _ c.if-not-b.true)
+
+pub overflow_add-at : goal.overflow_add-at
+overflow_add-at c =
+    let f = bound_found true c.args.s.now c.args.at c.args.n c.read_bound-b.result c.read_bound-b.ensures.answer (not-false _ c.if-not-b.false) in
+    record { fits = omega (arith, f.inside) }
+
+pub returns-then-operation-eq-STMT_EXECUTE : goal.returns-then-operation-eq-STMT_EXECUTE
+returns-then-operation-eq-STMT_EXECUTE c =
+    c.arguments.ensures
+    ∙ body_found c.args.s.now c.args.operation c.args.at c.args.n c.if-operation-eq-STMT_EXECUTE.true
+    c.read_bound-b.result c.read_bound-b.ensures.answer
+    (not-false _ c.if-not-b.false)
+
+pub returns-then-not-fill_part : goal.returns-then-not-fill_part
+returns-then-not-fill_part c =
+    c.bad-then-not-fill_part.ensures
+    ∙ body_list_bad c.args.s.now c.args.operation c.args.at c.args.n (embedded [] c.args.s.now c.args.at c.args.n)
+    c.if-operation-eq-STMT_EXECUTE.false refl
+    (held_good c.fill_part.ensures.holds (c.if-not-fill_part.true))
+
+pub returns : goal.returns
+returns c =
+    c.none.ensures
+    ∙ body_list c.args.s.now c.args.operation c.args.at c.args.n (embedded [] c.args.s.now c.args.at c.args.n)
+    c.if-operation-eq-STMT_EXECUTE.false refl
+    (held_good c.fill_part.ensures.holds (c.if-not-fill_part.false))

@@ -1,0 +1,22 @@
+-- The arrays hold the fields of all parts of the statement.
+use Rattle.prelude.proofs.Basics.{sym, subst, rules, not-false, not-true, get_or}
+use Rattle.message.proofs.Names.{prepare_stmt, rows_of, merged, Holds, held_good, stmt_parts, Chosen}
+use Rattle.message.specs.private.Marks.{Reads, TellsChosen}
+use Rattle.message.specs.private.Parts.{Chooses}
+use Rattle.message.proofs.ArrayLaws.{prepare_spoiled, prepare_held}
+use Rattle.message.proofs.PaddedLaws.{chosen_tells}
+use Rattle.message.proofs.prepare.parted_chosen.Goals as goal
+
+pub returns-then-not-merge_fields : goal.returns-then-not-merge_fields
+returns-then-not-merge_fields c = let s = c.args.s.now in
+    record { answer = prepare_spoiled s (stmt_parts s) (rw c.prepare_stmt_rows-rows.ensures at c.merge_fields.ensures.holds) (c.if-not-merge_fields.true); told = tt }
+
+pub returns : goal.returns
+returns c =
+    let s = c.args.s.now in
+    let ps = stmt_parts s in
+    let good = c.if-not-merge_fields.false in
+    let flag = c.merge_fields.new.padded in
+    let m = c.merge_fields.new.1.1.1.1 in
+    let reads : Reads (rows_of prepare_stmt) s ps c.args.padded.now flag =
+    (c.merge_fields.ensures.told good, held_good (rw c.prepare_stmt_rows-rows.ensures at c.merge_fields.ensures.holds) good) in record { answer = subst (Chooses s ps) (sym c.chosen_of.ensures) (prepare_held s ps (rw c.prepare_stmt_rows-rows.ensures at c.merge_fields.ensures.holds) good); told = chosen_tells s ps c.chosen_of.result c.args.padded.now flag reads }

@@ -1,0 +1,6 @@
+-- What merging the parts answers.
+use Rattle.prelude.proofs.Basics.{rules}
+use Rattle.message.proofs.twice.is_message.Goals as goal
+
+pub returns : goal.returns
+returns c = c.merge_inner.ensures.holds.answer

@@ -1,0 +1,30 @@
+-- The cursors before the place that pass have ended; the others are as they were. Assumes nothing.
+use Rattle.prelude.proofs.Basics.{◌-◌, arith, sym, ◌∙◌, ⊎_elim, rules}
+use Rattle.session.proofs.Names.{passes, max_cursors}
+use Rattle.session.proofs.ChangeLaws.{Ending, begins, all_ended, ends_it, leaves_it}
+use Rattle.session.proofs.change.end.Goals as goal
+use Rattle.session.proofs.change.end.Goals.{then-passes, else-passes}
+
+pub loop-i-init : goal.loop-i-init
+loop-i-init c = begins (passes c.args.which) c.args.words.now
+
+pub passes-requires : goal.passes-requires
+passes-requires c = omega arith
+
+pub overflow_add-i : goal.overflow_add-i
+overflow_add-i c = omega arith
+
+pub loop-i-smaller : goal.loop-i-smaller
+loop-i-smaller c = omega arith
+
+pub loop-i-preserved : goal.loop-i-preserved
+loop-i-preserved c = let state = c.loop-i.invariant in
+    let inside = c.loop-i-test.true in
+    let passing = sym c.passes.ensures in
+    elim c.if-passes.branch [
+      | then-passes w ↦ rw w.words-is (ends_it state inside _ (passing ∙ w.if-passes.true) w.put_cursor.ensures)
+      | else-passes w ↦ rw w.words-is (leaves_it state inside (passing ∙ w.if-passes.false))
+    ]
+
+pub returns : goal.returns
+returns c = all_ended c.loop-i.invariant c.loop-i-test.false

@@ -1,0 +1,14 @@
+-- Inside the table the entry is stored; past it nothing changes. Assumes nothing.
+use Rattle.prelude.proofs.Basics.{ap, ◌∙◌, rules}
+use Rattle.session.proofs.Names.{with_cursors, max_cursors, cursor_in, session_of}
+use Rattle.session.proofs.PutLaws.{put_there, put_past}
+use Rattle.session.proofs.words.put_cursor.Goals as goal
+
+pub returns-then-i-lt-MAX_CURSORS : goal.returns-then-i-lt-MAX_CURSORS
+returns-then-i-lt-MAX_CURSORS c = let w = c.args.words.now in
+    c.store_cursor.ensures ∙ ap (with_cursors (session_of w))
+    (put_there (cursor_in w) max_cursors c.args.place _ c.index-i.ensures c.args.c)
+
+pub returns-else-i-lt-MAX_CURSORS : goal.returns-else-i-lt-MAX_CURSORS
+returns-else-i-lt-MAX_CURSORS c = let w = c.args.words.now in ap (with_cursors (session_of w))
+    (put_past (cursor_in w) max_cursors c.args.place _ c.index-i.ensures c.args.c c.if-i-lt-MAX_CURSORS.false)

@@ -1,0 +1,7 @@
+-- The last word alone is stored. Assumes nothing.
+use Rattle.prelude.proofs.Basics.{rules}
+use Rattle.session.proofs.WordLaws.{closed_stored}
+use Rattle.session.proofs.words.set_closed.Goals as goal
+
+pub returns : goal.returns
+returns c = closed_stored c.args.words.now 1 c.requires

@@ -1,0 +1,7 @@
+-- `wire::field::valued` meets its contract: each arm is one clause of of_value. Assumes nothing.
+use Rattle.prelude.proofs.Basics.{sym, ap, rules}
+use Rattle.wire.proofs.Names.{of_value}
+use Rattle.wire.proofs.field.valued.Goals as goal
+
+pub returns-in-Good : goal.returns-in-Good
+returns-in-Good c = ap (of_value c.args.n c.args.wire) (sym c.in-Good.is)

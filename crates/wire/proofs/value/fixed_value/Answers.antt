@@ -1,0 +1,7 @@
+-- `wire::value::fixed_value` meets its contract: each arm is one clause of of_fixed. Assumes nothing.
+use Rattle.prelude.proofs.Basics.{sym, ap, rules}
+use Rattle.wire.proofs.Names.{of_fixed}
+use Rattle.wire.proofs.value.fixed_value.Goals as goal
+
+pub returns-in-Number : goal.returns-in-Number
+returns-in-Number c = ap (of_fixed c.args.width c.args.at) (sym c.in-Number.is)
