@@ -65,8 +65,10 @@ def clauses_of(root):
                     except ValueError:
                         continue
                     params = [q.split(":")[0].replace("mut ", "").replace("&", "").strip() for q in split_top(text[inside + 1 : opened - 1])]
-                    end = re.compile(r"\n\s*\{\n|\{\s*\}|;").search(text, opened)
-                    head = text[opened : end.start() if end else len(text)]
+                    first, _, after = text[opened:].partition("\n")
+                    head = ""
+                    if not first.rstrip().endswith(("{", "}", ";")):
+                        head = re.split(r"(?m)^\s*\{$", after, maxsplit=1)[0]
                     found = re.finditer(r"\b(requires|ensures)(?: (\w+))? \{", head)
                     kinds = {"requires": [], "ensures": [], "params": params}
                     for c in found:
@@ -184,7 +186,7 @@ def flattened(text):
             d = re.match(rf"(?:(?:pub|abbrev|unfoldable) )*({NAME}) :", line)
             if d:
                 names.add(d.group(1))
-        long = {e.group(1) for e in (re.match(rf"({NAME}) {NAME}(?: [^=]*)? =", line) for line in block) if e and e.group(1) in names}
+        long = {e.group(1) for e in (re.match(rf"({NAME}) (?!=){NAME}(?: [^=]*)? =", line) for line in block) if e and e.group(1) in names}
         call = lambda w: w if w not in names else f"{w} {' '.join(plain)}" if w in long else f"({w} {' '.join(plain)})"
         made = []
         for line in block:
@@ -266,6 +268,8 @@ class Function:
                 return ["args", params[int(rest[0][1:]) - 1], *rest[1:]]
         if label == "requires":
             return ["requires", *self.named("requires", rest, self.path)]
+        if rest[:1] in (["new"], ["last"]):
+            rest = ["new", *rest[1:]]
         for n in range(len(rest), -1, -1):
             key = (label, *rest[:n])
             if key in self.arms:
@@ -436,6 +440,8 @@ class Function:
         way = [w for w in way if w != "before"]
         if len(way) == 1:
             return fold(way[0]) in self.callee or fold(way[0]) in self.loops or way[0].startswith("match")
+        if way[1:2] == ["new"] and len(way) > 2 and set(way[2:]) == {"1"}:
+            return True
         return way[1:2] == ["given"] and len(way) < 4 or way[1:] in (["ensures"], ["requires"])
 
     def place_at(self, text, at, env):
@@ -739,6 +745,12 @@ def convert(root, crate, folder, made, clauses):
     def mend(t):
         t = re.sub(r"\bneeds\b", "rules", t)
         # a test of a negation says today what was negated
+        # a field of a record that is written out
+        def field(m):
+            values = dict(v.split(" = ", 1) for v in m[1].strip().rstrip(";").split("; "))
+            return values.get(m[2], m[0])
+
+        t = re.sub(r"\(record \{ ((?:\w+ = [^{}();]+;? ?)+)\}\)\.(\w+)", field, t)
         called = {c.split("::")[-1] for c in fn.callee.values()}
 
         def negated(m):

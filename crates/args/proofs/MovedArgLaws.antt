@@ -93,10 +93,10 @@ carried_moved : (d : ℕ) (f : Format) (n : ℕ) →
 carried_moved d f n = (chosen_alike (moved d) (nan_bits f n) refl refl, chosen_alike (moved d) (nan_bits f n) refl refl)
 
 module _ {s : List ℕ} {d : ℕ} {t q : List ℕ} (k : Stands s d t q) where
-  bytesOf-moved : (octets : Bool) (x y : Slots) → Alike (rows_of bytes) d (length t) x y →
+  bytes_of_moved : (octets : Bool) (x y : Slots) → Alike (rows_of bytes) d (length t) x y →
       (x.good ≡ true → count_of x 1 ≡ 0 → ⊥) →
       bytes_of octets y ≡ moved d (bytes_of octets x)
-  bytesOf-moved octets x y a h =
+  bytes_of_moved octets x y a h =
       ap (λ (b : Bool). cond b (cond octets (Va.Octets (start_of y 1) (len_of y 1)) (Va.String (start_of y 1) (len_of y 1)))
       bad) a.good
       ∙ go x.good refl
@@ -114,7 +114,7 @@ module _ {s : List ℕ} {d : ℕ} {t q : List ℕ} (k : Stands s d t q) where
   bytes-moved : (octets : Bool) (ps : List Part) → AllWithin (length t) ps →
       bytes_in octets s (moved_parts d ps) ≡ moved d (bytes_in octets t ps)
   bytes-moved octets ps w =
-      bytesOf-moved octets (merged (rows_of bytes) t ps) (merged (rows_of bytes) s (moved_parts d ps))
+      bytes_of_moved octets (merged (rows_of bytes) t ps) (merged (rows_of bytes) s (moved_parts d ps))
       (merged_alike (rows_of bytes) k ps w) (bytes_there t ps)
 
   module _ (ps : List Part) (w : AllWithin (length t) ps) (x y : Slots) (a : Alike (rows_of scalar) d (length t) x y)
@@ -155,9 +155,9 @@ module _ {s : List ℕ} {d : ℕ} {t q : List ℕ} (k : Stands s d t q) where
           (chosen_alike (moved d) (eqb c 7) (number-moved 8 (λ v. Va.Bool (not (eqb v 0))) (λ _. refl))
           (chosen_alike (moved d) (eqb c 8) (part_moved 9 false) refl)))))))
 
-      scalarOf-moved : scalar_of s (moved_parts d ps) y ≡ moved d (scalar_of t ps x)
+      scalar_of_moved : scalar_of s (moved_parts d ps) y ≡ moved d (scalar_of t ps x)
       unfolding scalar_of
-      scalarOf-moved =
+      scalar_of_moved =
           ap (λ (b : Bool). cond b (of_type s (moved_parts d ps) y (low32 (value_of y 1))) bad) a.good
           ∙ chosen_alike (moved d) x.good
           (ap (λ (v : ℕ). of_type s (moved_parts d ps) y (low32 v)) (same-value 1) ∙ type_moved (low32 (value_of x 1)))
@@ -166,7 +166,7 @@ module _ {s : List ℕ} {d : ℕ} {t q : List ℕ} (k : Stands s d t q) where
   scalar-moved : (ps : List Part) → AllWithin (length t) ps →
       scalar_in s (moved_parts d ps) ≡ moved d (scalar_in t ps)
   scalar-moved ps w =
-      scalarOf-moved ps w (merged (rows_of scalar) t ps) (merged (rows_of scalar) s (moved_parts d ps))
+      scalar_of_moved ps w (merged (rows_of scalar) t ps) (merged (rows_of scalar) s (moved_parts d ps))
       (merged_alike (rows_of scalar) k ps w)
 
   module _ (ps : List Part) (w : AllWithin (length t) ps) (x y : Slots) (a : Alike (rows_of any) d (length t) x y) where

@@ -26,7 +26,7 @@ use Rattle.args_writer.specs.Padded.{AppendPadded, AppendedPadded, Made, empty, 
 use Rattle.args_writer.proofs.FixedBackLaws.{fixed_reads, with_fixed, reads_fixed}
 use Rattle.args_writer.proofs.ScalarBackLaws.{Listed, listed, kept-value, scalar_stands, any_listed, scalar_once}
 use Rattle.args_writer.proofs.ScalarBackLaws.{scalar_in_lem, scalar_needed, Carries, octets_carries, string_carries}
-use Rattle.args_writer.proofs.ScalarBackLaws.{inner_place, inner_stands, onlyPart, inner_reads, inner_once}
+use Rattle.args_writer.proofs.ScalarBackLaws.{inner_place, inner_stands, only_part, inner_reads, inner_once}
 use Rattle.args_writer.proofs.ScalarBackLaws.{bit_small, no_value}
 use Rattle.args_writer.proofs.ReadsLaws.{append_reads, not_refused, cut_is}
 
@@ -133,7 +133,7 @@ module _ {s q : List ℕ} {at : ℕ} (small : length s < 2 ^ 64) (src : List ℕ
       scalar_plain c.listed c.low (inner_reads t num bs k c small)
       (c.typed at (at + length (number_field 1 t)) n)
       (says_bytes num c.some c.few (bytes_field 1 bs) (omega (arith, stands_length inner)))
-      (inside (onlyPart t num bs k) n
+      (inside (only_part t num bs k) n
       ∙ ap (parts_padded s) (inner_once t num bs k c small)
       ∙ one_said s (inner_place at t num bs) n
       ∙ says_part (says_bytes 1 (omega arith) (omega arith) bs (omega (arith, stands_length within))) inner)

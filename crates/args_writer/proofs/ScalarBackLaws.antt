@@ -17,7 +17,7 @@ use Rattle.layout.specs.MergedRules.{holds_bytes}
 use Rattle.layout.specs.declared.part.Part.{Part}
 use Rattle.layout.proofs.MergedLaws.{one_part_lem}
 use Rattle.layout.proofs.FieldsLaws.{Listing}
-use Rattle.args.specs.Value.{bytes_of as bytesTaken, bytes_in, of_type, scalar_of, scalar_in, of_any_type, any_of}
+use Rattle.args.specs.Value.{bytes_of as bytes_taken, bytes_in, of_type, scalar_of, scalar_in, of_any_type, any_of}
 use Rattle.args.specs.Value.{scalar_parts}
 use Rattle.writer.proofs.FieldLaws.{reads_then, embedded_good, parts_embedded, parts_inner}
 use Rattle.args_writer.proofs.Names.{Stands, stands_length, stands_next, type_of, zigzag, Argument, scalar}
@@ -193,7 +193,7 @@ bytes_back : {s q : List ℕ} {at : ℕ} (octets : Bool) (bs : List ℕ) → len
     bytes_in octets s (one_part at (length (bytes_field 1 bs)))
     ≡ bytes_case octets (part_start 1 at (length bs)) (length bs)
 bytes_back {s} {q} {at} octets bs short k =
-    ap (bytesTaken octets)
+    ap (bytes_taken octets)
     (one_part_lem (rows_of bytes) s (record { start = at; len = length (bytes_field 1 bs) })
     ∙ embedded_good (reads_bytes (rows_of bytes) 1 bs (kept_bytes (length bs)) (omega arith) (omega arith) short) k
     (sym (bytes_needed at (length bs))))
@@ -285,8 +285,8 @@ module _ {s q : List ℕ} {at : ℕ} (t num : ℕ) (bs : List ℕ)
   bytes-stand = stands_inside 1 bs inner_stands
 
   -- the Scalar in its one part
-  abbrev pub onlyPart : List Part
-  onlyPart = one_part at (length (scalar_bytes t (bytes_field num (bytes_field 1 bs))))
+  abbrev pub only_part : List Part
+  only_part = one_part at (length (scalar_bytes t (bytes_field num (bytes_field 1 bs))))
 
   module _ (c : Carries t num) (small : length s < 2 ^ 64) where
     pub inner_reads : Reads (rows_of scalar) (bytes_field num (bytes_field 1 bs))
@@ -296,7 +296,7 @@ module _ {s q : List ℕ} {at : ℕ} (t num : ℕ) (bs : List ℕ)
         (omega (arith, stands_length inner_stands))
 
     -- and the message with the bytes in its own
-    pub inner_once : parts_in num s onlyPart ≡ one_part (inner_place at t num bs) (length (bytes_field 1 bs))
+    pub inner_once : parts_in num s only_part ≡ one_part (inner_place at t num bs) (length (bytes_field 1 bs))
     inner_once =
         let n = length (bytes_field 1 bs) in
         let p = at + length (number_field 1 t) in
@@ -306,8 +306,8 @@ module _ {s q : List ℕ} {at : ℕ} (t num : ℕ) (bs : List ℕ)
         ∙ c.stands at p n
 
     part-back : (octets : Bool) →
-        bytes_in octets s (parts_in num s onlyPart)
-        ≡ scalar_of s onlyPart (with_bytes num (length (bytes_field 1 bs)) (at + length (number_field 1 t))
+        bytes_in octets s (parts_in num s only_part)
+        ≡ scalar_of s only_part (with_bytes num (length (bytes_field 1 bs)) (at + length (number_field 1 t))
         (with_number 1 t at no_slots)) →
         Taken s at t (bytes_field num (bytes_field 1 bs)) ≡ bytes_case octets (bytes_place at t num bs) (length bs)
     part-back octets taken =
@@ -377,7 +377,7 @@ module _ {s q : List ℕ} {at : ℕ} (small : length s < 2 ^ 64) (src : List ℕ
       record {
         place = p;
         is =
-            part-back t num bs k c small octets (taken (onlyPart t num bs k) (length (bytes_field 1 bs)))
+            part-back t num bs k c small octets (taken (only_part t num bs k) (length (bytes_field 1 bs)))
             ∙ ap (bytes_case octets p) n ∙ is p;
         bytes =
             bytes p ∙ ap (λ (m : ℕ). take m (drop p s)) (sym n) ∙ stands_bytes (bytes-stand t num bs k) ∙ sym own;

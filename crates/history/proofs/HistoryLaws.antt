@@ -18,7 +18,7 @@ use Rattle.message.specs.declared.request.Frame.TheVariants.{Good}
 use Rattle.session.specs.declared.Cursor.{Cursor}
 use Rattle.session.specs.declared.Place.{Place}
 use Rattle.session.specs.Session.{Session}
-use Rattle.session.specs.Lists.{sumBy, how_many, All, change, changed, entry_at}
+use Rattle.session.specs.Lists.{sum_by, how_many, All, change, changed, entry_at}
 use Rattle.session.specs.Entry.{no_cursor, new_cursor, is_live_cursor, is_cursor, raise}
 use Rattle.session.specs.Tables.{fresh, cursor_at, cursor_place, live_cursor, ends}
 use Rattle.session.specs.Sound.{Sound}
@@ -79,7 +79,7 @@ starts s h =
     }
 
 -- what the live openings have still to send, by the weight that is the rows unsent
-owing : (os : List Opening) → openings (λ c. c.rows - c.sent) os ≡ sumBy (λ o. o.rows - sent o) os
+owing : (os : List Opening) → openings (λ c. c.rows - c.sent) os ≡ sum_by (λ o. o.rows - sent o) os
 owing os = sum_same (λ o. o.first + o.rows - (o.first + sent o)) (λ o. o.rows - sent o) (λ o. omega arith) os
 
 -- ---- the cursor that a Fetch is of, in its place
@@ -173,7 +173,7 @@ module _ (s : Session) (t : Tally) (h : Inv s t) where
 
     module _ (o : Opens) (l : Looked s (Open o)) where
       opening_same : (w : Weight) → openings w (added (Open o)).live ≡ table w (session_after s (Open o) r).cursors
-      unfolding session_after ends_it row_count sumBy
+      unfolding session_after ends_it row_count sum_by
       opening_same w =
           let stmt = o.execute.stmt in
           let n = open_count o.rows r.rows in
@@ -214,11 +214,11 @@ module _ (s : Session) (t : Tally) (h : Inv s t) where
             segments = part (Open o) ∷
                 [];
           })
-      unfolding row_count sumBy
+      unfolding row_count sum_by
       opening-all = refl
 
       opening-tells : Says o.cursor (is_done (reply_to s (Open o) r)) (added (Open o)).live
-      unfolding All reply_to row_count first_row sumBy
+      unfolding All reply_to row_count first_row sum_by
       opening-tells =
           let n = open_count o.rows r.rows in
           let z : 0 + n ≡ n + 0 = omega arith in (

@@ -1,25 +1,25 @@
 -- Sums over parts of a list, and properties of their entries. Assumes nothing.
 use Rattle.prelude.proofs.Basics.{ℕ, ◌+◌, ◌≤◌, arith, Bool, true, false, cond, ◌≡◌, refl, ap, List, [], ◌∷◌, ◌++◌, map}
 use Rattle.prelude.proofs.Basics.{get_or, set}
-use Rattle.session.specs.Lists.{sumBy, how_many, All}
+use Rattle.session.specs.Lists.{sum_by, how_many, All}
 use Rattle.session.proofs.PlaceLaws.{Passes}
 use Rattle.session.proofs.SumLaws.{one, sum_set}
 use Rattle.history.specs.Tally.{kept}
 
 module _ {A : Type 0} where
-  pub sum_append : (w : A → ℕ) (xs ys : List A) → sumBy w (xs ++ ys) ≡ sumBy w xs + sumBy w ys
-  unfolding sumBy
+  pub sum_append : (w : A → ℕ) (xs ys : List A) → sum_by w (xs ++ ys) ≡ sum_by w xs + sum_by w ys
+  unfolding sum_by
   sum_append w [] ys = omega arith
   sum_append w (x ∷ xs) ys = omega (arith, sum_append w xs ys)
 
   -- the entries that pass a test, and those that do not
-  pub sum_kept : (p : A → Bool) (w : A → ℕ) (xs : List A) → sumBy w (kept p xs) ≡ sumBy (λ x. cond (p x) (w x) 0) xs
-  unfolding sumBy kept
+  pub sum_kept : (p : A → Bool) (w : A → ℕ) (xs : List A) → sum_by w (kept p xs) ≡ sum_by (λ x. cond (p x) (w x) 0) xs
+  unfolding sum_by kept
   sum_kept p w [] = refl
   sum_kept p w (x ∷ xs) = go (p x) (sum_kept p w xs)
     where
-      go : (b : Bool) → sumBy w (kept p xs) ≡ sumBy (λ x. cond (p x) (w x) 0) xs →
-          sumBy w (cond b (x ∷ kept p xs) (kept p xs)) ≡ cond b (w x) 0 + sumBy (λ x. cond (p x) (w x) 0) xs
+      go : (b : Bool) → sum_by w (kept p xs) ≡ sum_by (λ x. cond (p x) (w x) 0) xs →
+          sum_by w (cond b (x ∷ kept p xs) (kept p xs)) ≡ cond b (w x) 0 + sum_by (λ x. cond (p x) (w x) 0) xs
       go true e = ap (λ (n : ℕ). w x + n) e
       go false e = omega arith
 
@@ -60,33 +60,33 @@ module _ {A : Type 0} where
   all_both P Q (x ∷ xs) h g = ((h.0, g.0), all_both P Q xs h.1 g.1)
 
   -- an entry weighs nothing where all together weigh nothing
-  pub all_zero : (w : A → ℕ) (xs : List A) → sumBy w xs ≡ 0 → All (λ x. w x ≡ 0) xs
-  unfolding All sumBy
+  pub all_zero : (w : A → ℕ) (xs : List A) → sum_by w xs ≡ 0 → All (λ x. w x ≡ 0) xs
+  unfolding All sum_by
   all_zero w [] e = tt
   all_zero w (x ∷ xs) e = (omega arith, all_zero w xs (omega arith))
 
   -- two sums are equal where the entries that have a property weigh alike
   pub sum_all : (P : A → Type 0) (v w : A → ℕ) → ((x : A) → P x → v x ≡ w x) → (xs : List A) → All P xs →
-      sumBy v xs ≡ sumBy w xs
-  unfolding All sumBy
+      sum_by v xs ≡ sum_by w xs
+  unfolding All sum_by
   sum_all P v w h [] l = refl
   sum_all P v w h (x ∷ xs) l = omega (arith, h x l.0, sum_all P v w h xs l.1)
 
   -- what weighs only entries that pass weighs nothing where none passes
   pub sum_absent : (p : A → Bool) (v : A → ℕ) → ((x : A) → p x ≡ false → v x ≡ 0) → (xs : List A) → how_many p xs ≡ 0 →
-      sumBy v xs ≡ 0
-  unfolding sumBy
+      sum_by v xs ≡ 0
+  unfolding sum_by
   sum_absent p v h [] e = refl
   sum_absent p v h (x ∷ xs) e = go (p x) refl (λ f. sum_absent p v h xs f)
     where
-      go : (b : Bool) → p x ≡ b → (how_many p xs ≡ 0 → sumBy v xs ≡ 0) → v x + sumBy v xs ≡ 0
+      go : (b : Bool) → p x ≡ b → (how_many p xs ≡ 0 → sum_by v xs ≡ 0) → v x + sum_by v xs ≡ 0
       go true f more = absurd (omega (arith, ap one f))
       go false f more = omega (arith, h x f, more (omega arith))
 
   -- and where one passes, what that one weighs
   pub sum_only : (p : A → Bool) (v : A → ℕ) → ((x : A) → p x ≡ false → v x ≡ 0) → (d : A) → p d ≡ false →
       (xs : List A) (i : ℕ) →
-      how_many p xs ≤ 1 → Passes p d xs i → sumBy v xs ≡ v (get_or xs i d)
+      how_many p xs ≤ 1 → Passes p d xs i → sum_by v xs ≡ v (get_or xs i d)
   sum_only p v h d e xs i once l =
       let none : how_many p (set xs i d) ≡ 0 =
       omega (arith, sum_set (λ x. one (p x)) d d xs i l.inside, ap one l.passing, ap one e) in

@@ -1,7 +1,7 @@
 -- An opening goes on properly. Assumes nothing.
 use Rattle.prelude.proofs.Basics.{ℕ, zero, suc, ◌+◌, ◌≤◌, ◌<◌, arith, ◌≡◌, refl, sym, ap, ◌∙◌, List, [], ◌∷◌, ◌++◌}
 use Rattle.prelude.proofs.Basics.{append-nil, append_assoc}
-use Rattle.session.specs.Lists.{All, sumBy}
+use Rattle.session.specs.Lists.{All, sum_by}
 use Rattle.history.specs.Tally.{Segment, Opening, sent, unsent, longer}
 use Rattle.history.specs.History.{numbers, row_numbers, Proper, NumbersWithin}
 use Rattle.history.proofs.ListLaws.{sum_append}
@@ -26,7 +26,7 @@ numbers_append (g ∷ gs) hs =
     ∙ sym (append_assoc (numbers g.first g.count) (row_numbers gs) (row_numbers hs))
 
 pub sent_longer : (g : Segment) (o : Opening) → sent (longer g o) ≡ sent o + g.count
-unfolding sumBy
+unfolding sum_by
 sent_longer g o = omega (arith, sum_append (λ g. g.count) o.segments (g ∷ []))
 
 -- the rows of one more step go on where the earlier ones ended
@@ -49,13 +49,13 @@ abbrev unopened : ℕ → ℕ → ℕ → ℕ → Opening
 unopened cursor stmt first rows = record { cursor = cursor; stmt = stmt; first = first; rows = rows; segments = [] }
 
 pub nothing_sent : (cursor stmt first rows : ℕ) → Proper (unopened cursor stmt first rows)
-unfolding row_numbers numbers sumBy
+unfolding row_numbers numbers sum_by
 nothing_sent cursor stmt first rows = record { numbered = refl; within = omega arith }
 
 -- the rows of an Open start at 0
 pub begins : (cursor stmt rows : ℕ) (g : Segment) → g.first ≡ 0 → g.count ≤ rows →
     Proper (longer g (unopened cursor stmt 0 rows))
-unfolding sumBy
+unfolding sum_by
 begins cursor stmt rows g f w =
     goes_on_lem g (unopened cursor stmt 0 rows) (nothing_sent cursor stmt 0 rows) (f ∙ start) (omega arith)
   where
@@ -76,7 +76,7 @@ numbers_proper o h =
     (omega (arith, h.within)))
 
 -- reported rows are sent, or unsent
-pub sent_or_not : (os : List Opening) → All Proper os → sumBy (λ o. o.rows) os ≡ sumBy sent os + sumBy unsent os
-unfolding All sumBy
+pub sent_or_not : (os : List Opening) → All Proper os → sum_by (λ o. o.rows) os ≡ sum_by sent os + sum_by unsent os
+unfolding All sum_by
 sent_or_not [] h = omega arith
 sent_or_not (o ∷ os) h = omega (arith, h.0.within, sent_or_not os h.1)

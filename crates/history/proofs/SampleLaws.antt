@@ -23,7 +23,7 @@ use Rattle.message.specs.Frame.{frame_in, frame_of}
 use Rattle.message.specs.declared.request.Execute.{Execute}
 use Rattle.message.specs.declared.request.Request.{Request}
 use Rattle.message.specs.declared.request.Frame.{Frame}
-use Rattle.session.specs.Lists.{sumBy, first, All}
+use Rattle.session.specs.Lists.{sum_by, first, All}
 use Rattle.session.specs.Session.{Session}
 use Rattle.encode.specs.Field.{number_field, bytes_field}
 use Rattle.reply.specs.Decimal.{digits}
@@ -175,7 +175,7 @@ fed_open x =
     fed_by fetches (fed_by prepares (fed_on x opened.report opened.answer (fed_by prepares empty)))
 
 served_on_strays : (tallied empty served_on).strays ≡ 1
-unfolding tallied fed kept ends_it sumBy frame_of frame_in prepare_frame fetch_frame body_in parts_from parts_in parts_onto
+unfolding tallied fed kept ends_it sum_by frame_of frame_in prepare_frame fetch_frame body_in parts_from parts_in parts_onto
     arguments_within arguments_from place_from next_argument together groups little field_at fields_from has_required row_for
     rows_of
 served_on_strays = ap (λ x. (fed_open x).strays) open_is

@@ -3,7 +3,7 @@ use Rattle.prelude.proofs.Basics.{ℕ, zero, suc, ◌+◌, ◌≤◌, arith, Boo
 use Rattle.prelude.proofs.Basics.{◌∙◌}
 use Rattle.session.specs.declared.Cursor.{Cursor}
 use Rattle.session.specs.Session.{Session, flag}
-use Rattle.session.specs.Lists.{All, sumBy}
+use Rattle.session.specs.Lists.{All, sum_by}
 use Rattle.session.specs.Entry.{new_cursor, is_live_cursor}
 use Rattle.session.specs.Sound.{ProperCursor, Sound}
 use Rattle.session.proofs.SumLaws.{sum_map}
@@ -29,7 +29,7 @@ flag_one (suc n) h e = omega arith
 
 -- its opening is the cursor again: none of the rows left is sent, and its flag is 1
 is_cursor_lem : (c : Cursor) → ProperCursor c → is_live_cursor c ≡ true → as_cursor (opening_of c) ≡ c
-unfolding sumBy
+unfolding sum_by
 is_cursor_lem c p e =
     let none : c.sent + 0 ≡ c.sent = omega arith in
     ap (λ (n : ℕ). new_cursor c.id c.stmt n (c.sent + 0)) (continues c p).to
@@ -63,7 +63,7 @@ start_proper s h =
     (live_proper s h)
 
 pub starts_at_cursors : StartsAtCursors
-unfolding sumBy
+unfolding sum_by
 starts_at_cursors s h =
     record {
       each = all_imp ProperCursor Continues continues (kept is_live_cursor s.cursors) (live_proper s h);

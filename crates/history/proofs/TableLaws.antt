@@ -3,7 +3,7 @@ use Rattle.prelude.proofs.Basics.{ℕ, ◌+◌, ◌≤◌, arith, Bool, true, fa
 use Rattle.prelude.proofs.Basics.{◌∙◌, List, get_or, set, eqb, not-true, both}
 use Rattle.session.specs.declared.Cursor.{Cursor}
 use Rattle.session.specs.declared.Place.{Place}
-use Rattle.session.specs.Lists.{first, or_place, sumBy, how_many, put, changed, change}
+use Rattle.session.specs.Lists.{first, or_place, sum_by, how_many, put, changed, change}
 use Rattle.session.specs.Entry.{no_cursor, new_cursor, is_live_cursor, is_cursor, free_cursor, raise}
 use Rattle.session.specs.Tables.{ends}
 use Rattle.session.proofs.PlaceLaws.{Taken, taken}
@@ -22,14 +22,14 @@ abbrev pub weigh : Weight → Cursor → ℕ
 weigh w c = cond (is_live_cursor c) (w c) 0
 
 abbrev pub table : Weight → List Cursor → ℕ
-table w cs = sumBy (weigh w) cs
+table w cs = sum_by (weigh w) cs
 
 -- an opening as the cursor that it is in the table, and what openings weigh
 abbrev pub as_cursor : Opening → Cursor
 as_cursor o = new_cursor o.cursor o.stmt (o.first + o.rows) (o.first + sent o)
 
 abbrev pub openings : Weight → List Opening → ℕ
-openings w os = sumBy (λ o. w (as_cursor o)) os
+openings w os = sum_by (λ o. w (as_cursor o)) os
 
 -- nothing where a test of the ids passes; nothing where it does not
 abbrev pub off : (ℕ → ℕ → Bool) → Weight → Weight

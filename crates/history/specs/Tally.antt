@@ -7,7 +7,7 @@ use Rattle.message.specs.declared.request.Request.{Request}
 use Rattle.message.specs.declared.request.Request.TheVariants.{Reset, SessionClose, Prepare, Execute, Deallocate, Open}
 use Rattle.message.specs.declared.request.Request.TheVariants.{Close, Fetch}
 use Rattle.message.specs.declared.request.Frame.{Frame}
-use Rattle.session.specs.Lists.{changed, sumBy, how_many}
+use Rattle.session.specs.Lists.{changed, sum_by, how_many}
 use Rattle.rules.specs.declared.Report.{Report}
 use Rattle.rules.specs.declared.Answer.{Answer}
 use Rattle.rules.specs.Kind.{on_good}
@@ -39,14 +39,14 @@ empty = record { live = []; ended = []; strays = 0 }
 -- ---- its numbers
 
 abbrev pub sent : Opening → ℕ
-sent o = sumBy (λ g. g.count) o.segments
+sent o = sum_by (λ g. g.count) o.segments
 
 abbrev pub unsent : Opening → ℕ
 unsent o = o.rows - sent o
 
 -- "Rows reported and sent include those of ended openings." (T7)
 abbrev pub over : (Opening → ℕ) → Tally → ℕ
-over w t = sumBy w t.live + sumBy w t.ended
+over w t = sum_by w t.live + sum_by w t.ended
 
 abbrev pub rows_reported : Tally → ℕ
 rows_reported = over (λ o. o.rows)
@@ -56,7 +56,7 @@ rows_sent = over sent
 
 -- "Rows unsent then are given up": an opening that has ended sends no more (E3, T7)
 abbrev pub rows_given_up : Tally → ℕ
-rows_given_up t = sumBy unsent t.ended
+rows_given_up t = sum_by unsent t.ended
 
 -- ---- one step
 

@@ -7,7 +7,7 @@ use native.Mathlib.Nat.{mul-le-mul_right}
 use Rattle.protocol.specs.Reason as Reason
 use Rattle.varint.specs.Shortest.{varint_bytes}
 use Rattle.session.specs.Session.{flag}
-use Rattle.session.specs.Lists.{sumBy, how_many}
+use Rattle.session.specs.Lists.{sum_by, how_many}
 use Rattle.session.specs.Words.{build}
 use Rattle.encode.specs.declared.put.Put.{Put}
 use Rattle.encode.specs.declared.put.Put.TheVariants.{Next, Full}
@@ -61,7 +61,7 @@ pub record Filling {A : Type 0} (live : A → Bool) (f : ℕ → A) (g : ℕ →
 first_ahead : {A : Type 0} (live : A → Bool) (f : ℕ → A) (i ahead : ℕ) {left : ℕ} →
     left ≡ how_many live (build f i ahead) → 0 < left →
     (k : ℕ) × (ahead ≡ suc k) × (left ≡ cond (live (f i)) 1 0 + how_many live (build f (suc i) k))
-unfolding build sumBy
+unfolding build sum_by
 first_ahead live f i zero e h = absurd (omega (arith, e))
 first_ahead live f i (suc k) e h = (k, refl, e)
 
@@ -94,7 +94,7 @@ module _ {A E : Type 0} (live : A → Bool) (entry : ℕ → A → E) (numbers :
 
   -- places without a live entry put nothing
   none_ahead : (i ahead : ℕ) → how_many live (build f i ahead) ≡ 0 → places_to here i ≡ places_to here (i + ahead)
-  unfolding build sumBy places_to
+  unfolding build sum_by places_to
   none_ahead i zero e = ap (places_to here) (sym (add-zero i))
   none_ahead i (suc k) e =
       let next : suc i + k ≡ i + suc k = omega arith in

@@ -7,7 +7,7 @@ use Rattle.varint.proofs.ShortestLaws.{shortest_at_most}
 use Rattle.session.specs.declared.Stmt.{Stmt}
 use Rattle.session.specs.declared.Cursor.{Cursor}
 use Rattle.session.specs.Session.{Session, is_closed}
-use Rattle.session.specs.Lists.{All, sumBy, how_many}
+use Rattle.session.specs.Lists.{All, sum_by, how_many}
 use Rattle.session.specs.Entry.{is_live_stmt, is_live_cursor}
 use Rattle.session.specs.Tables.{max_stmts, max_cursors, stmt_count, cursor_count}
 use Rattle.session.specs.Words.{build, stmt_in, cursor_in, session_of}
@@ -118,7 +118,7 @@ cursor_short place c h a b d e =
 
 -- no more are counted than there are
 few : {A : Type 0} (p : A → Bool) (xs : List A) → how_many p xs ≤ length xs
-unfolding sumBy
+unfolding sum_by
 few p [] = omega arith
 few p (x ∷ xs) = omega (arith, one_le (p x), few p xs)
 

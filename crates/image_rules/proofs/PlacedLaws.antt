@@ -2,7 +2,7 @@
 use Rattle.prelude.proofs.Basics.{ℕ, zero, suc, ◌+◌, ◌≤◌, ◌<◌, arith, add-zero, Bool, true, false, ◌&&◌, cond}
 use Rattle.prelude.proofs.Basics.{◌≡◌, refl, sym, ap, subst, ◌∙◌, List, [], ◌∷◌, ◌++◌, map, length, get_or, set}
 use Rattle.prelude.proofs.Basics.{eqb, eq-eqb, ne_eqb}
-use Rattle.session.specs.Lists.{All, sumBy, how_many}
+use Rattle.session.specs.Lists.{All, sum_by, how_many}
 use Rattle.session.proofs.SumLaws.{one, sum_same}
 use Rattle.image_rules.specs.Listing.{placed}
 use Rattle.image_rules.specs.Acceptable.{Rising}
@@ -31,14 +31,14 @@ module _ {A E : Type 0} (live : A → Bool) (entry : ℕ → A → E) where
       go false e = f e
 
   pub placed_sum : (w : E → ℕ) (v : A → ℕ) → ((k : ℕ) (x : A) → w (entry k x) ≡ v x) → (k : ℕ) (xs : List A) →
-      sumBy w (placed live entry k xs) ≡ sumBy (λ x. cond (live x) (v x) 0) xs
-  unfolding placed sumBy
+      sum_by w (placed live entry k xs) ≡ sum_by (λ x. cond (live x) (v x) 0) xs
+  unfolding placed sum_by
   placed_sum w v h k [] = refl
   placed_sum w v h k (x ∷ xs) = go (live x) (placed_sum w v h (suc k) xs)
     where
-      go : (b : Bool) → sumBy w (placed live entry (suc k) xs) ≡ sumBy (λ x. cond (live x) (v x) 0) xs →
-          sumBy w (cond b (entry k x ∷ placed live entry (suc k) xs) (placed live entry (suc k) xs))
-          ≡ cond b (v x) 0 + sumBy (λ x. cond (live x) (v x) 0) xs
+      go : (b : Bool) → sum_by w (placed live entry (suc k) xs) ≡ sum_by (λ x. cond (live x) (v x) 0) xs →
+          sum_by w (cond b (entry k x ∷ placed live entry (suc k) xs) (placed live entry (suc k) xs))
+          ≡ cond b (v x) 0 + sum_by (λ x. cond (live x) (v x) 0) xs
       go true more = omega (arith, h k x, more)
       go false more = omega (arith, more)
 
@@ -62,7 +62,7 @@ module _ {A E : Type 0} (live : A → Bool) (entry : ℕ → A → E) where
       cases (All Q) k x (placed live entry (suc k) xs) (λ e. (h k x e l.0, rest)) (λ _. rest)
 
   pub placed_count : (k : ℕ) (xs : List A) → length (placed live entry k xs) ≡ how_many live xs
-  unfolding placed sumBy
+  unfolding placed sum_by
   placed_count k [] = refl
   placed_count k (x ∷ xs) = go (live x) (placed_count (suc k) xs)
     where
@@ -83,7 +83,7 @@ module _ {A E : Type 0} (live : A → Bool) (entry : ℕ → A → E) where
   pub placed_last : (d x : A) → live x ≡ true → (k : ℕ) (xs : List A) (p : ℕ) → p < length xs →
       ((i : ℕ) → p ≤ i → live (get_or xs i d) ≡ false) →
       placed live entry k (set xs p x) ≡ placed live entry k xs ++ (entry (k + p) x ∷ [])
-  unfolding placed sumBy
+  unfolding placed sum_by
   placed_last d x h k [] p within free = absurd (omega arith)
   placed_last d x h k (y ∷ xs) zero within free =
       ap (λ (b : Bool). cond b (entry k x ∷ rest) rest) h

@@ -4,7 +4,7 @@ use Rattle.prelude.proofs.Basics.{◌≡◌, refl, sym, ap, ◌∙◌, List, [],
 use Rattle.session.specs.declared.Stmt.{Stmt}
 use Rattle.session.specs.declared.Cursor.{Cursor}
 use Rattle.session.specs.Session.{Session, flag, is_closed, with_stmts, with_cursors, with_spare, with_closed}
-use Rattle.session.specs.Lists.{All, sumBy, how_many}
+use Rattle.session.specs.Lists.{All, sum_by, how_many}
 use Rattle.session.specs.Entry.{no_stmt, no_cursor, new_stmt, new_cursor, is_live_stmt, is_live_cursor, is_stmt, is_cursor}
 use Rattle.session.specs.Entry.{on_stmt}
 use Rattle.session.specs.Tables.{max_stmts, max_cursors}
@@ -32,7 +32,7 @@ cursors_on_lem stmt s =
 -- each live cursor is counted on its own statement
 own_counted : (cs all : List Cursor) → ((k : ℕ) → how_many (on_stmt k) cs ≤ how_many (on_stmt k) all) →
     All (λ c. is_live_cursor c ≡ true → 1 ≤ how_many (on_stmt c.stmt) all) cs
-unfolding All sumBy
+unfolding All sum_by
 own_counted [] all h = tt
 own_counted (c ∷ cs) all h = (
   λ e.

@@ -7,7 +7,7 @@ use Rattle.session.specs.declared.Stmt.{Stmt}
 use Rattle.session.specs.declared.Cursor.{Cursor}
 use Rattle.session.specs.declared.Place.{Place}
 use Rattle.session.specs.Session.{Session, is_closed}
-use Rattle.session.specs.Lists.{All, first, sumBy, how_many}
+use Rattle.session.specs.Lists.{All, first, sum_by, how_many}
 use Rattle.session.specs.Entry.{no_stmt, no_cursor, new_stmt, new_cursor, is_live_stmt, is_live_cursor, is_stmt, is_cursor}
 use Rattle.session.specs.Entry.{on_stmt}
 use Rattle.session.specs.Tables.{max_stmts, max_cursors}
@@ -48,7 +48,7 @@ module _ {A : Type 0} (live : A → Bool) (d : A) (xs : List A) (p : ℕ) (x : A
 -- no entry is live where none is counted
 pub none_live : {A : Type 0} (live : A → Bool) (d : A) → live d ≡ false → (xs : List A) → how_many live xs ≡ 0 →
     (i : ℕ) → live (get_or xs i d) ≡ false
-unfolding sumBy
+unfolding sum_by
 none_live live d e [] h i = e
 none_live live d e (x ∷ xs) h zero = off (live x) (omega arith)
   where
@@ -136,18 +136,18 @@ pub record TakingStmts (next : ℕ) (x : Session) : Type 0 where
   pub free : (i : ℕ) → next ≤ i → is_live_stmt (get_or x.stmts i no_stmt) ≡ false
 
 module _ (next : ℕ) (e : StmtEntry) (x : Session) (g : TakingStmts next x) (h : TakesStmt next e x) where
-  abbrev newStmts : List Stmt
-  newStmts = set x.stmts e.place (new_stmt e.id e.placeholders)
+  abbrev new_stmts : List Stmt
+  new_stmts = set x.stmts e.place (new_stmt e.id e.placeholders)
 
   stmt-within : e.place < length x.stmts
   stmt-within = omega (arith, h.inside, g.sound.stmt_places)
 
-  stmt-counts : (k : ℕ) → how_many (is_stmt k) newStmts ≡ how_many (is_stmt k) x.stmts + one (eqb e.id k)
+  stmt-counts : (k : ℕ) → how_many (is_stmt k) new_stmts ≡ how_many (is_stmt k) x.stmts + one (eqb e.id k)
   stmt-counts k =
       counts_new is_live_stmt no_stmt x.stmts e.place (new_stmt e.id e.placeholders) stmt-within
       (g.free e.place h.behind) (λ t. t.id) refl k
 
-  stmt_once : (k : ℕ) (b : Bool) → eqb e.id k ≡ b → how_many (is_stmt k) newStmts ≤ 1
+  stmt_once : (k : ℕ) (b : Bool) → eqb e.id k ≡ b → how_many (is_stmt k) new_stmts ≤ 1
   stmt_once k true f =
       let z : e.id ≡ k = eqb-true e.id k f in
       omega (arith, stmt-counts k, ap one f, h.new, ap (λ (n : ℕ). how_many (is_stmt n) x.stmts) z)
@@ -223,7 +223,7 @@ pub record StmtsAhead (next : ℕ) (es : List StmtEntry) (x : Session) : Type 0 
 
 pub stmts_take : (es : List StmtEntry) (next : ℕ) (x : Session) → TakingStmts next x → StmtsAhead next es x →
     Taken stmt_table next es x
-unfolding Taken Rising sumBy All
+unfolding Taken Rising sum_by All
 stmts_take [] next x g h = tt
 stmts_take (e ∷ es) next x g h = (
   stmt_takes next e x t,
@@ -296,20 +296,20 @@ module _ (next : ℕ) (e : CursorEntry) (x : Session) (g : TakingCursors next x)
   abbrev new : Cursor
   new = new_cursor e.id e.stmt e.rows e.sent
 
-  abbrev newCursors : List Cursor
-  newCursors = set x.cursors e.place new
+  abbrev new_cursors : List Cursor
+  new_cursors = set x.cursors e.place new
 
   cursor-within : e.place < length x.cursors
   cursor-within = omega (arith, h.inside, g.sound.cursor_places)
 
   cursor-counts : (num : Cursor → ℕ) (k : ℕ) →
-      how_many (λ c. is_live_cursor c && eqb (num c) k) newCursors
+      how_many (λ c. is_live_cursor c && eqb (num c) k) new_cursors
       ≡ how_many (λ c. is_live_cursor c && eqb (num c) k) x.cursors + one (eqb (num new) k)
   cursor-counts num k =
       counts_new is_live_cursor no_cursor x.cursors e.place new cursor-within (g.free e.place h.behind) num
       refl k
 
-  cursor-once : (k : ℕ) (b : Bool) → eqb e.id k ≡ b → how_many (is_cursor k) newCursors ≤ 1
+  cursor-once : (k : ℕ) (b : Bool) → eqb e.id k ≡ b → how_many (is_cursor k) new_cursors ≤ 1
   cursor-once k true f =
       let z : e.id ≡ k = eqb-true e.id k f in
       omega (
@@ -322,7 +322,7 @@ module _ (next : ℕ) (e : CursorEntry) (x : Session) (g : TakingCursors next x)
   cursor-once k false f = omega (arith, cursor-counts (λ c. c.id) k, ap one f, g.sound.cursor_once k)
 
   still-carried : (k : ℕ) (b : Bool) → eqb e.stmt k ≡ b →
-      how_many (on_stmt k) newCursors ≤ how_many (is_stmt k) x.stmts
+      how_many (on_stmt k) new_cursors ≤ how_many (is_stmt k) x.stmts
   still-carried k true f =
       let z : e.stmt ≡ k = eqb-true e.stmt k f in
       omega (
@@ -422,7 +422,7 @@ pub record CursorsAhead (next : ℕ) (es : List CursorEntry) (x : Session) : Typ
 
 pub cursors_take : (es : List CursorEntry) (next : ℕ) (x : Session) → TakingCursors next x → CursorsAhead next es x →
     Taken cursor_table next es x
-unfolding Taken Rising sumBy All
+unfolding Taken Rising sum_by All
 cursors_take [] next x g h = tt
 cursors_take (e ∷ es) next x g h = (
   cursor_takes next e x t,

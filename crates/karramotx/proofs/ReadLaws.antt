@@ -14,13 +14,13 @@ use Rattle.layout.specs.Table.{rows_of, any, scalar, bytes}
 use Rattle.layout.specs.declared.slots.Slots.{Slots}
 use Rattle.layout.specs.declared.part.Part.{Part}
 use Rattle.layout.specs.Merged.{parts_in, merged}
-use Rattle.layout.specs.Part.{embedded, count_of, value_of as fieldValue, start_of, len_of, low32}
+use Rattle.layout.specs.Part.{embedded, count_of, value_of as field_value, start_of, len_of, low32}
 use Rattle.args.specs.Value.{bad, present, bytes_of, bytes_in, of_type, scalar_of, of_any_type, any_of, scalar_parts}
 use Rattle.args.specs.Arguments.{arg_place, of_place, next_argument, and_more, arguments_from, arguments_at, handed_out}
 use Rattle.args.specs.declared.arguments.ArgPlace.{ArgPlace}
 use Rattle.args.specs.declared.arguments.NextArgument.{NextArgument}
 use Rattle.message.specs.Request.{args_of}
-use Rattle.message.specs.Frame.{argument_in as argumentFrom, argument_of, frame_of}
+use Rattle.message.specs.Frame.{argument_in as argument_from, argument_of, frame_of}
 use Rattle.message.specs.declared.request.Frame.{Frame}
 use Rattle.message.specs.declared.request.Frame.TheVariants.{NotAllThere, BadLength, UnknownType, BadPayload}
 use Rattle.message.specs.declared.request.Frame.TheVariants.{BodyTwice, Good}
@@ -137,9 +137,9 @@ module _ (s : List ℕ) where
   unfolding of_type
   type-number ps x t small =
       both Exact (eqb t 1) _ _
-      (λ _. present_number (count_of x 2) (signed_of (fieldValue x 2)) (signed_fits (fieldValue x 2) small))
+      (λ _. present_number (count_of x 2) (signed_of (field_value x 2)) (signed_fits (field_value x 2) small))
       (λ _.
-      both Exact (eqb t 2) _ _ (λ _. present_number (count_of x 3) (Va.Unsigned (fieldValue x 3)) tt)
+      both Exact (eqb t 2) _ _ (λ _. present_number (count_of x 3) (Va.Unsigned (field_value x 3)) tt)
       (λ _.
       both Exact (eqb t 3) _ _ (λ _. tt)
       (λ _.
@@ -147,13 +147,13 @@ module _ (s : List ℕ) where
       (λ _. present_number (count_of x 5) (bytes_in true s (parts_in 5 s ps))
       (bytes_number true (merged (rows_of bytes) s (parts_in 5 s ps))))
       (λ _.
-      both Exact (eqb t 5) _ _ (λ _. present_number (count_of x 6) (double_of (fieldValue x 6))
-      (double_number (fieldValue x 6)))
+      both Exact (eqb t 5) _ _ (λ _. present_number (count_of x 6) (double_of (field_value x 6))
+      (double_number (field_value x 6)))
       (λ _.
       both Exact (eqb t 6) _ _
-      (λ _. present_number (count_of x 7) (float_of (low32 (fieldValue x 7))) (float_number (low32 (fieldValue x 7))))
+      (λ _. present_number (count_of x 7) (float_of (low32 (field_value x 7))) (float_number (low32 (field_value x 7))))
       (λ _.
-      both Exact (eqb t 7) _ _ (λ _. present_number (count_of x 8) (Va.Bool (not (eqb (fieldValue x 8) 0))) tt)
+      both Exact (eqb t 7) _ _ (λ _. present_number (count_of x 8) (Va.Bool (not (eqb (field_value x 8) 0))) tt)
       (λ _.
       both Exact (eqb t 8) _ _
       (λ _. present_number (count_of x 9) (bytes_in false s (parts_in 9 s ps))
@@ -163,7 +163,7 @@ module _ (s : List ℕ) where
   scalar-number : (ps : List Part) (x : Slots) → Small x → Exact (scalar_of s ps x)
   unfolding scalar_of
   scalar-number ps x small =
-      both Exact x.good _ bad (λ _. type-number ps x (low32 (fieldValue x 1)) small) (λ _. tt)
+      both Exact x.good _ bad (λ _. type-number ps x (low32 (field_value x 1)) small) (λ _. tt)
 
   any-type-number : (ps : List Part) (x : Slots) (t : ℕ) → Exact (of_any_type s ps x t)
   unfolding of_any_type
@@ -176,7 +176,7 @@ module _ (s : List ℕ) where
 
   any-number : (ps : List Part) (x : Slots) → Exact (any_of s ps x)
   unfolding any_of
-  any-number ps x = both Exact x.good _ bad (λ _. any-type-number ps x (low32 (fieldValue x 1))) (λ _. tt)
+  any-number ps x = both Exact x.good _ bad (λ _. any-type-number ps x (low32 (field_value x 1))) (λ _. tt)
 
   place-number : (p : ArgPlace) → NextExact (of_place s p)
   place-number (ArgPlace.At start len next) = any-number (scalar_parts s start len) (embedded (rows_of any) s start len)
@@ -197,7 +197,7 @@ module _ (s : List ℕ) where
 handed_out_number : (a : Argument) → Exact a → Exact (handed_out a)
 handed_out_number a h = both Exact (eqb (reason_of a) 0) a (Va.Refused (reason_of a)) (λ _. h) (λ _. tt)
 
-argument_number : (s : List ℕ) (index : ℕ) (x : Frame) → Exact (argumentFrom s index x)
+argument_number : (s : List ℕ) (index : ℕ) (x : Frame) → Exact (argument_from s index x)
 argument_number s index NotAllThere = tt
 argument_number s index BadLength = tt
 argument_number s index (UnknownType used) = tt
@@ -226,7 +226,7 @@ handed_out_again a =
     (λ e. sym (yes a (Va.Refused (reason_of a)) e)) (λ _. sym (refused_back (reason_of a)))
 
 -- an argument by its index is as it is handed out
-as_handed_out : (s : List ℕ) (index : ℕ) (x : Frame) → handed_out (argumentFrom s index x) ≡ argumentFrom s index x
+as_handed_out : (s : List ℕ) (index : ℕ) (x : Frame) → handed_out (argument_from s index x) ≡ argument_from s index x
 as_handed_out s index NotAllThere = refl
 as_handed_out s index BadLength = refl
 as_handed_out s index (UnknownType used) = refl

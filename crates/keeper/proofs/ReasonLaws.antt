@@ -120,13 +120,13 @@ first_split false false true d e = refl
 first_split false false false d e = refl
 
 module _ (s : Session) (o : Open) where
-  abbrev bindingOf : ℕ
-  bindingOf = binding_reason (live_stmt s o.execute.stmt) o.execute.args
+  abbrev binding_of : ℕ
+  binding_of = binding_reason (live_stmt s o.execute.stmt) o.execute.args
 
   abbrev opening_of : ℕ
   opening_of = cursor_reason o.cursor (carried s o.execute.stmt) (cursor_place s o.cursor)
 
-  open-split : or_else bindingOf opening_of ≡ request_reason s (Request.Open o)
+  open-split : or_else binding_of opening_of ≡ request_reason s (Request.Open o)
   unfolding request_reason binding_reason cursor_reason
   open-split =
       let t = live_stmt s o.execute.stmt in

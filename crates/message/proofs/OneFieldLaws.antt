@@ -118,11 +118,11 @@ module _ (f g : List ℕ) where
       absurd
       (no_one o (ap (λ (r : Request). (args_of r).end) (sym (frame_inv true true b n kind used p q e).3) ∙ z))
 
-  execShape : ℕ → Execute → Frame
-  execShape n x = cond x.args.good (Frame.Good n (Request.Execute x)) (Frame.BadPayload n Client.execute)
+  exec_shape : ℕ → Execute → Frame
+  exec_shape n x = cond x.args.good (Frame.Good n (Request.Execute x)) (Frame.BadPayload n Client.execute)
 
   execute_one : Same (execute_frame f) (execute_frame g)
-  unfolding execute_frame execShape
+  unfolding execute_frame exec_shape
   execute_one used q e o =
       let n = length f - payload in
       let x = execute_in f payload n in
@@ -131,7 +131,7 @@ module _ (f g : List ℕ) where
       let place = execute_place f payload n inv.2 in
       let at = ap (λ (a : Arguments). a.start) args ∙ place.0 in
       let o' = one-as at (ap (λ (a : Arguments). a.end) args ∙ place.1) o in (
-        ap₂ execShape o.same.size
+        ap₂ exec_shape o.same.size
             (ap (λ (k : ℕ). execute_in g payload (k - payload)) o.same.size ∙ one-execute f g payload n o'),
         omega (arith, at, (one_inside o).0),
       )
@@ -221,17 +221,17 @@ module _ (f g : List ℕ) where
             (u.own (rows_of Client.open'))
             ∙ ap (λ (y : Slots). open_shape (length g) x y.good (opens_by g x (execute_parts g)))
             (ap (merged (rows_of open_stmt) g) (u.parts 4) ∙ u.fields (rows_of open_stmt))
-            ∙ ap (λ (es : List Part). open_shape (length g) x (stmtGood f) (opens_by g x es))
+            ∙ ap (λ (es : List Part). open_shape (length g) x (stmt_good f) (opens_by g x es))
             (ap (parts_in 2 g) (u.parts 4) ∙ u.inner 2 ∙ is)
-            ∙ ap₂ (λ (n : ℕ) (y : Execute). open_shape n x (stmtGood f) (opened n x r y)) o.same.size
+            ∙ ap₂ (λ (n : ℕ) (y : Execute). open_shape n x (stmt_good f) (opened n x r y)) o.same.size
             (one-execute f g r.start r.len o')
-            ∙ ap (λ (es : List Part). open_shape (length f) x (stmtGood f) (opens_by f x es)) (sym is)
+            ∙ ap (λ (es : List Part). open_shape (length f) x (stmt_good f) (opens_by f x es)) (sym is)
             ∙ sym (open_shape_lem f),
         only-in 4 2 f g r o' is,
       )
     where
-      stmtGood : List ℕ → Bool
-      stmtGood l = (merged (rows_of open_stmt) l (open_parts l)).good
+      stmt_good : List ℕ → Bool
+      stmt_good l = (merged (rows_of open_stmt) l (open_parts l)).good
 
       opened : ℕ → Slots → Part → Execute → Frame
       opened n x body y =

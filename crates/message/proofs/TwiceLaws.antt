@@ -75,25 +75,25 @@ module _ {f g : Part → Bool} {k : ℕ} {s : List ℕ} {from p : ℕ} {padded�
 -- ---- the arguments of each
 
 module _ (s : List ℕ) where
-  abbrev pub ownGood : Part → Bool
-  ownGood p = (arguments_within s p.start p.len).good
+  abbrev pub own_good : Part → Bool
+  own_good p = (arguments_within s p.start p.len).good
 
   abbrev pub own_padded : Part → Bool
   own_padded p = execute_padded s p.start p.len
 
-  pub own_good : (ps : List Part) → every_part ownGood ps ≡ arguments_good s ps
+  pub own_good_lem : (ps : List Part) → every_part own_good ps ≡ arguments_good s ps
   unfolding every_part arguments_good
-  own_good [] = refl
-  own_good (p ∷ ps) = ap (λ (b : Bool). ownGood p && b) (own_good ps)
+  own_good_lem [] = refl
+  own_good_lem (p ∷ ps) = ap (λ (b : Bool). own_good p && b) (own_good_lem ps)
 
-  pub own_padded : (ps : List Part) → some_part own_padded ps ≡ executes_padded s ps
+  pub own_padded_lem : (ps : List Part) → some_part own_padded ps ≡ executes_padded s ps
   unfolding some_part executes_padded
-  own_padded [] = refl
-  own_padded (p ∷ ps) = or_same (own_padded p) (own_padded ps)
+  own_padded_lem [] = refl
+  own_padded_lem (p ∷ ps) = or_same (own_padded p) (own_padded_lem ps)
 
   -- in bytes cut off behind the part
   module _ (p : Part) (inside : end_of p ≤ length s) where
-    pub own_there : (arguments_in (take (end_of p) s) p.start).good ≡ ownGood p
+    pub own_there : (arguments_in (take (end_of p) s) p.start).good ≡ own_good p
     own_there = ap (λ (a : Arguments). a.good) (within_there s p.start p.len inside)
 
     pub own_flag : bound_padded (take (end_of p) s) p.start ≡ own_padded p
@@ -111,8 +111,8 @@ module _ (s : List ℕ) where
   unfolding arguments_good
   good-then [] ys = refl
   good-then (x ∷ xs) ys =
-      sym (and_assoc (ownGood s x) (arguments_good s xs) (arguments_good s ys))
-      ∙ ap (λ (b : Bool). ownGood s x && b) (good-then xs ys)
+      sym (and_assoc (own_good s x) (arguments_good s xs) (arguments_good s ys))
+      ∙ ap (λ (b : Bool). own_good s x && b) (good-then xs ys)
 
   padded_then : (xs ys : List Part) → (executes_padded s xs || executes_padded s ys) ≡ executes_padded s (xs ++ ys)
   unfolding executes_padded
@@ -125,23 +125,23 @@ module _ (s : List ℕ) where
     abbrev pub inside : Part → List Part
     inside p = parts_of k (take (end_of p) s) p.start
 
-    abbrev pub innerGood : Part → Bool
-    innerGood p = arguments_good s (inside p)
+    abbrev pub inner_good : Part → Bool
+    inner_good p = arguments_good s (inside p)
 
     abbrev pub inner_padded : Part → Bool
     inner_padded p = executes_padded s (inside p)
 
-    pub inner_good : (ps : List Part) → every_part innerGood ps ≡ arguments_good s (parts_in k s ps)
+    pub inner_good_lem : (ps : List Part) → every_part inner_good ps ≡ arguments_good s (parts_in k s ps)
     unfolding every_part parts_in arguments_good
-    inner_good [] = refl
-    inner_good (p ∷ ps) =
-        ap (λ (b : Bool). innerGood p && b) (inner_good ps) ∙ good-then (inside p) (parts_in k s ps)
+    inner_good_lem [] = refl
+    inner_good_lem (p ∷ ps) =
+        ap (λ (b : Bool). inner_good p && b) (inner_good_lem ps) ∙ good-then (inside p) (parts_in k s ps)
 
-    pub inner_padded : (ps : List Part) → some_part inner_padded ps ≡ executes_padded s (parts_in k s ps)
+    pub inner_padded_lem : (ps : List Part) → some_part inner_padded ps ≡ executes_padded s (parts_in k s ps)
     unfolding some_part parts_in executes_padded
-    inner_padded [] = refl
-    inner_padded (p ∷ ps) =
-        or_same (inner_padded p) (inner_padded ps) ∙ padded_then (inside p) (parts_in k s ps)
+    inner_padded_lem [] = refl
+    inner_padded_lem (p ∷ ps) =
+        or_same (inner_padded p) (inner_padded_lem ps) ∙ padded_then (inside p) (parts_in k s ps)
 
 -- ---- bytes that were cut off behind a part
 
@@ -172,7 +172,7 @@ module _ (s : List ℕ) (e : ℕ) (few : e ≤ length s) where
   padded_cut (p ∷ ps) w = ap₂ ◌||◌ (flag-cut p w.0) (padded_cut ps w.1)
 
 module _ (s : List ℕ) (k : ℕ) (p : Part) (within : end_of p ≤ length s) where
-  pub inner_there : arguments_good (take (end_of p) s) (inside s k p) ≡ innerGood s k p
+  pub inner_there : arguments_good (take (end_of p) s) (inside s k p) ≡ inner_good s k p
   inner_there = good-cut s (end_of p) within (inside s k p) (parts_by k s p.start (end_of p))
 
   pub inner_flag : executes_padded (take (end_of p) s) (inside s k p) ≡ inner_padded s k p

@@ -9,7 +9,7 @@ use Rattle.message.specs.declared.request.Open.{Open as Opening}
 use Rattle.message.specs.declared.request.Fetch.{Fetch as Fetching}
 use Rattle.message.specs.declared.request.Request.TheVariants.{Reset, SessionClose, Prepare, Execute, Deallocate, Open}
 use Rattle.message.specs.declared.request.Request.TheVariants.{Close, Fetch}
-use Rattle.session.specs.Lists.{change, sumBy, index_of, mask_of}
+use Rattle.session.specs.Lists.{change, sum_by, index_of, mask_of}
 use Rattle.session.specs.Entry.{new_stmt}
 use Rattle.session.proofs.PlaceLaws.{Passes}
 use Rattle.session.proofs.SumLaws.{counted}
@@ -62,7 +62,7 @@ module _ {A : Type 0} (d : A) where
 
     -- the only one that passes is found
     only-from : (xs : List A) (i k : ℕ) → how_many p xs ≤ 1 → p (get_or xs i d) ≡ true → first p xs k ≡ Place.At (k + i)
-    unfolding first sumBy
+    unfolding first sum_by
     only-from [] i k once e = absurd (true≢false (sym e ∙ empty))
     only-from (x ∷ xs) zero k once e = let z : k ≡ k + 0 = omega arith in rw e (ap Place.At z)
     only-from (x ∷ xs) (suc i) k once e = go (p x) refl (only-from xs i (suc k))
@@ -277,8 +277,8 @@ standing s Reset r l =
       cursor = λ e. absurd (false≢true e);
       prepared = λ e. absurd (false≢true e);
       opened = λ e. absurd (false≢true e);
-      overStmt = λ e. absurd (false≢true e);
-      overCursor = λ e. absurd (false≢true e);
+      over_stmt = λ e. absurd (false≢true e);
+      over_cursor = λ e. absurd (false≢true e);
     }
 standing s SessionClose r l =
     record {
@@ -286,8 +286,8 @@ standing s SessionClose r l =
       cursor = λ e. absurd (false≢true e);
       prepared = λ e. absurd (false≢true e);
       opened = λ e. absurd (false≢true e);
-      overStmt = λ e. absurd (false≢true e);
-      overCursor = λ e. absurd (false≢true e);
+      over_stmt = λ e. absurd (false≢true e);
+      over_cursor = λ e. absurd (false≢true e);
     }
 standing s (Prepare p) r l =
     record {
@@ -298,11 +298,11 @@ standing s (Prepare p) r l =
           (eq-eqb p.stmt p.stmt refl)
           s.stmts no_stmt_place l.stmt_placed;
       opened = λ e. absurd (false≢true e);
-      overStmt = λ _.
+      over_stmt = λ _.
           over-own no_stmt (is_stmt p.stmt) is_live_stmt free_stmt
           (λ t. both_hold (is_live_stmt t) (eqb t.id p.stmt))
           (λ t. neither (is_live_stmt t) (eqb t.id p.stmt)) s.stmts no_stmt_place l.stmt_placed;
-      overCursor = λ e. absurd (false≢true e);
+      over_cursor = λ e. absurd (false≢true e);
     }
 standing s (Execute x) r l =
     record {
@@ -310,8 +310,8 @@ standing s (Execute x) r l =
       cursor = λ e. absurd (false≢true e);
       prepared = λ e. absurd (false≢true e);
       opened = λ e. absurd (false≢true e);
-      overStmt = λ e. absurd (false≢true e);
-      overCursor = λ e. absurd (false≢true e);
+      over_stmt = λ e. absurd (false≢true e);
+      over_cursor = λ e. absurd (false≢true e);
     }
 standing s (Deallocate stmt) r l =
     record {
@@ -319,8 +319,8 @@ standing s (Deallocate stmt) r l =
       cursor = λ e. absurd (false≢true e);
       prepared = λ e. absurd (false≢true e);
       opened = λ e. absurd (false≢true e);
-      overStmt = λ e. absurd (false≢true e);
-      overCursor = λ e. absurd (false≢true e);
+      over_stmt = λ e. absurd (false≢true e);
+      over_cursor = λ e. absurd (false≢true e);
     }
 standing s (Open o) r l =
     record {
@@ -331,8 +331,8 @@ standing s (Open o) r l =
           put-stands no_cursor (is_cursor o.cursor) free_cursor
           (new_cursor o.cursor o.execute.stmt r.rows (row_count s (Open o) r))
           (eq-eqb o.cursor o.cursor refl) s.cursors no_cursor_place l.cursor_placed;
-      overStmt = λ e. absurd (false≢true e);
-      overCursor = λ _.
+      over_stmt = λ e. absurd (false≢true e);
+      over_cursor = λ _.
           over-own no_cursor (is_cursor o.cursor) is_live_cursor free_cursor
           (λ c. both_hold (is_live_cursor c) (eqb c.id o.cursor))
           (λ c. neither (is_live_cursor c) (eqb c.id o.cursor)) s.cursors no_cursor_place l.cursor_placed;
@@ -343,8 +343,8 @@ standing s (Close cursor) r l =
       cursor = λ _. cursor_stands s (cursor) no_cursor_place l.cursor_live;
       prepared = λ e. absurd (false≢true e);
       opened = λ e. absurd (false≢true e);
-      overStmt = λ e. absurd (false≢true e);
-      overCursor = λ e. absurd (false≢true e);
+      over_stmt = λ e. absurd (false≢true e);
+      over_cursor = λ e. absurd (false≢true e);
     }
 standing s (Fetch f) r l =
     record {
@@ -352,8 +352,8 @@ standing s (Fetch f) r l =
       cursor = λ _. cursor_stands s f.cursor no_cursor_place l.cursor_live;
       prepared = λ e. absurd (false≢true e);
       opened = λ e. absurd (false≢true e);
-      overStmt = λ e. absurd (false≢true e);
-      overCursor = λ e. absurd (false≢true e);
+      over_stmt = λ e. absurd (false≢true e);
+      over_cursor = λ e. absurd (false≢true e);
     }
 
 pub places_told : PlacesTold

@@ -143,26 +143,26 @@ fetch_read v rows = record {
 
 -- an Execute, also the one in an Open
 record Short (x : Execute) : Type 0 where
-  stmtShort : x.stmt ≤ max_number
-  argsFew : Few max_number x.args
+  stmt_short : x.stmt ≤ max_number
+  args_few : Few max_number x.args
 
 execute_read : (x : Execute) → Short x → Read (Request.Execute x)
 execute_read x h =
     record {
-      stmt_small = h.stmtShort;
+      stmt_small = h.stmt_short;
       cursor_small = omega arith;
-      index_small = h.argsFew.index;
-      count_small = h.argsFew.count;
+      index_small = h.args_few.index;
+      count_small = h.args_few.count;
     }
 
 open_read : (v : ℕ) (rows : Optional) (body : Part) (x : Execute) → Short x →
     Read (Request.Open (record { cursor = low32 v; rows = rows; body = body; execute = x }))
 open_read v rows body x h =
     record {
-      stmt_small = h.stmtShort;
+      stmt_small = h.stmt_short;
       cursor_small = low v;
-      index_small = h.argsFew.index;
-      count_small = h.argsFew.count;
+      index_small = h.args_few.index;
+      count_small = h.args_few.count;
     }
 
 prepare_read_lem : (v operation : ℕ) (body : Part) (args : Arguments) → Few max_number args →
@@ -172,14 +172,14 @@ prepare_read_lem v operation body args h =
 
 module _ (s : List ℕ) (long : length s ≤ max_number) where
   bad-short : Short bad_execute
-  bad-short = record { stmtShort = omega arith; argsFew = bad_few max_number }
+  bad-short = record { stmt_short = omega arith; args_few = bad_few max_number }
 
   execute_short : (x : Slots) (a : Arguments) → Few max_number a → Short (execute_of x a)
   execute_short x a h =
       both Short x.good _ bad_execute
       (λ _. both Short a.good (record { stmt = low32 (value_of x 1); compact = truth_of (optional_of x 3); args = a })
       bad_execute
-      (λ _. record { stmtShort = low (value_of x 1); argsFew = h }) (λ _. bad-short))
+      (λ _. record { stmt_short = low (value_of x 1); args_few = h }) (λ _. bad-short))
       (λ _. bad-short)
 
   in-short : (at n : ℕ) → Short (execute_in s at n)

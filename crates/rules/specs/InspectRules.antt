@@ -67,9 +67,9 @@ pub record Stands (s : Session) (q : Request) (after : Session) : Type 0 where
   pub cursor : one_of close fetch q ≡ true → is_cursor (cursor_of q) (cursor_there s (touches_of s q).cursor) ≡ true
   pub prepared : is_a prepare q ≡ true → is_stmt (stmt_of q) (stmt_there after (touches_of s q).stmt) ≡ true
   pub opened : is_a open' q ≡ true → is_cursor (cursor_of q) (cursor_there after (touches_of s q).cursor) ≡ true
-  pub overStmt :
+  pub over_stmt :
       is_a prepare q ≡ true → let t = stmt_there s (touches_of s q).stmt in is_live_stmt t ≡ is_stmt (stmt_of q) t
-  pub overCursor :
+  pub over_cursor :
       is_a open' q ≡ true → let c = cursor_there s (touches_of s q).cursor in is_live_cursor c ≡ is_cursor (cursor_of q) c
 
 abbrev pub PlacesTold : Type 0

@@ -2,7 +2,7 @@
 use Rattle.prelude.proofs.Basics.{ℕ, zero, suc, ◌+◌, ◌-◌, ◌*◌, ◌^◌, ◌≤◌, ◌<◌, arith, add-one, Bool, true, false, cond}
 use Rattle.prelude.proofs.Basics.{◌≡◌, refl, sym, ap, ◌∙◌, List, [], ◌∷◌, map, length, get_or, set, drop}
 use Rattle.prelude.proofs.Basics.{drop_of_length-le, length-drop, drop-cons}
-use Rattle.session.proofs.Names.{or_place, first, sumBy, build, Place}
+use Rattle.session.proofs.Names.{or_place, first, sum_by, build, Place}
 use Rattle.session.specs.Lists.{mask_of}
 use Rattle.session.proofs.BuildLaws.{length_build, get_d_build}
 
@@ -52,19 +52,19 @@ module _ {r p : Place} (found : r ≡ p) (q : Place) where
 -- a sum over a table of n entries, each at most `most`, stands at i
 pub record Summing {A : Type 0} (v : A → ℕ) (most : ℕ) (f : ℕ → A) (n i sum : ℕ) : Type 0 where
   pub small : sum ≤ i * most
-  pub rest : sum + sumBy v (drop i (build f 0 n)) ≡ sumBy v (build f 0 n)
+  pub rest : sum + sum_by v (drop i (build f 0 n)) ≡ sum_by v (build f 0 n)
 
 module _ {A : Type 0} {v : A → ℕ} {most : ℕ} {f : ℕ → A} {n : ℕ} where
   pub sums : Summing v most f n 0 0
   sums = record { small = omega arith; rest = omega arith }
 
   module _ {i sum : ℕ} (l : Summing v most f n i sum) where
-    pub summed : n ≤ i → sum ≡ sumBy v (build f 0 n)
-    unfolding sumBy
+    pub summed : n ≤ i → sum ≡ sum_by v (build f 0 n)
+    unfolding sum_by
     summed h = omega (arith, rw (none_left f n i h) at l.rest)
 
     pub sums_on : (r : ℕ) → i < n → r ≡ v (f i) → r ≤ most → Summing v most f n (i + 1) (sum + r)
-    unfolding sumBy
+    unfolding sum_by
     sums_on r h e b =
         record { small = omega arith; rest = rw add-one (omega (arith, rw (one_left f n i h) at l.rest)) }
 

@@ -2,13 +2,13 @@
 -- nothing.
 use Rattle.prelude.proofs.Basics.{ℕ, zero, suc, ◌≤◌, arith, Bool, true, false, cond, ◌≡◌, refl, sym, ap, List, [], ◌∷◌}
 use Rattle.prelude.proofs.Basics.{get_or, set}
-use Rattle.session.proofs.Names.{first, put, entry_at, changed, sumBy, how_many, Place}
+use Rattle.session.proofs.Names.{first, put, entry_at, changed, sum_by, how_many, Place}
 use Rattle.session.proofs.PlaceLaws.{Passes, found, none_from}
 use Rattle.session.proofs.SumLaws.{one, counted}
 
 module _ {A : Type 0} (p : A → Bool) (f : A → A) where
   pub none_changed : (xs : List A) → how_many p xs ≡ 0 → changed p f xs ≡ xs
-  unfolding sumBy
+  unfolding sum_by
   none_changed [] e = refl
   none_changed (x ∷ xs) e = go (p x) refl (λ g. none_changed xs g)
     where
@@ -20,7 +20,7 @@ module _ {A : Type 0} (p : A → Bool) (f : A → A) where
     -- an entry put where the only one that passes stands
     pub put_changed : (y : A) (xs : List A) (i : ℕ) → how_many p xs ≤ 1 → Passes p d xs i →
         set (changed p f xs) i y ≡ set xs i y
-    unfolding sumBy
+    unfolding sum_by
     put_changed y [] i once l = refl
     put_changed y (x ∷ xs) zero once l = ap (λ ys. y ∷ ys) (none_changed xs (omega (arith, ap one l.passing)))
     put_changed y (x ∷ xs) (suc i) once l = go (p x) refl (λ g. put_changed y xs i g rest)
@@ -36,7 +36,7 @@ module _ {A : Type 0} (p : A → Bool) (f : A → A) where
     -- the change of the only one that passes, made where it stands
     at-changed : (xs : List A) (i : ℕ) → how_many p xs ≤ 1 → Passes p d xs i →
         set xs i (f (get_or xs i d)) ≡ changed p f xs
-    unfolding sumBy
+    unfolding sum_by
     at-changed [] i once l = refl
     at-changed (x ∷ xs) zero once l = go (p x) l.passing
       where

@@ -1,7 +1,7 @@
 -- What a search found, and that it found nothing. Assumes nothing.
 use Rattle.prelude.proofs.Basics.{ℕ, suc, ◌+◌, ◌<◌, arith, Bool, true, false, cond, ◌≡◌, refl, sym, ap, subst, ◌∙◌}
 use Rattle.prelude.proofs.Basics.{List, [], ◌∷◌, length, get_or}
-use Rattle.session.proofs.Names.{or_place, first, sumBy, how_many, Place}
+use Rattle.session.proofs.Names.{or_place, first, sum_by, how_many, Place}
 
 -- the entry at a place inside the list passes
 pub record Passes {A : Type 0} (p : A → Bool) (d : A) (xs : List A) (i : ℕ) : Type 0 where
@@ -37,7 +37,7 @@ module _ {A : Type 0} (p : A → Bool) where
       subst (λ (j : ℕ). Passes p d xs j) h l.2
 
   pub none_from : (xs : List A) (k : ℕ) → first p xs k ≡ Place.Nothing → how_many p xs ≡ 0
-  unfolding first sumBy
+  unfolding first sum_by
   none_from [] k e = refl
   none_from (x ∷ xs) k e = go (p x) refl (λ g. none_from xs (suc k) g) e
     where
@@ -47,7 +47,7 @@ module _ {A : Type 0} (p : A → Bool) where
       go false h more g = rw h (omega (arith, more g))
 
   pub none_back : (xs : List A) (k : ℕ) → how_many p xs ≡ 0 → first p xs k ≡ Place.Nothing
-  unfolding first sumBy
+  unfolding first sum_by
   none_back [] k e = refl
   none_back (x ∷ xs) k e = go (p x) refl (λ h. none_back xs (suc k) h) e
     where

@@ -4,7 +4,7 @@ use Rattle.prelude.proofs.Basics.{ℕ, zero, suc, ◌+◌, ◌≤◌, ◌<◌, a
 use Rattle.prelude.proofs.Basics.{◌≡◌, refl, sym, ap, subst, ◌∙◌, List, [], ◌∷◌, ◌++◌, map, length, get_or, set, replicate}
 use Rattle.prelude.proofs.Basics.{length-set, eqb, eqb-true, not-true, both}
 use native.Mathlib.Nat.{le_refl, le_of_eq}
-use Rattle.session.proofs.Names.{or_place, first, put, change, changed, sumBy, how_many, Place}
+use Rattle.session.proofs.Names.{or_place, first, put, change, changed, sum_by, how_many, Place}
 use Rattle.session.specs.Lists.{All}
 use Rattle.session.proofs.PlaceLaws.{Passes, Taken, taken, At-nothing, none_from, none_back}
 use Rattle.session.proofs.PlaceLaws.Taken.{own, new}
@@ -26,57 +26,57 @@ one_mono true b h = le_of_eq (ap one (sym (h refl)))
 one_mono false b h = omega arith
 
 module _ {A : Type 0} where
-  pub sum_le : (v w : A → ℕ) → ((x : A) → v x ≤ w x) → (xs : List A) → sumBy v xs ≤ sumBy w xs
-  unfolding sumBy
+  pub sum_le : (v w : A → ℕ) → ((x : A) → v x ≤ w x) → (xs : List A) → sum_by v xs ≤ sum_by w xs
+  unfolding sum_by
   sum_le v w h [] = omega arith
   sum_le v w h (x ∷ xs) = omega (arith, h x, sum_le v w h xs)
 
-  pub sum_same : (v w : A → ℕ) → ((x : A) → v x ≡ w x) → (xs : List A) → sumBy v xs ≡ sumBy w xs
-  unfolding sumBy
+  pub sum_same : (v w : A → ℕ) → ((x : A) → v x ≡ w x) → (xs : List A) → sum_by v xs ≡ sum_by w xs
+  unfolding sum_by
   sum_same v w h [] = refl
   sum_same v w h (x ∷ xs) = omega (arith, h x, sum_same v w h xs)
 
-  pub sum_none : (w : A → ℕ) → ((x : A) → w x ≡ 0) → (xs : List A) → sumBy w xs ≡ 0
-  unfolding sumBy
+  pub sum_none : (w : A → ℕ) → ((x : A) → w x ≡ 0) → (xs : List A) → sum_by w xs ≡ 0
+  unfolding sum_by
   sum_none w h [] = refl
   sum_none w h (x ∷ xs) = omega (arith, h x, sum_none w h xs)
 
-  sum_ones : (w : A → ℕ) → ((x : A) → w x ≡ 1) → (xs : List A) → sumBy w xs ≡ length xs
-  unfolding sumBy
+  sum_ones : (w : A → ℕ) → ((x : A) → w x ≡ 1) → (xs : List A) → sum_by w xs ≡ length xs
+  unfolding sum_by
   sum_ones w h [] = refl
   sum_ones w h (x ∷ xs) = omega (arith, h x, sum_ones w h xs)
 
-  pub sum_add : (u v : A → ℕ) (xs : List A) → sumBy (λ x. u x + v x) xs ≡ sumBy u xs + sumBy v xs
-  unfolding sumBy
+  pub sum_add : (u v : A → ℕ) (xs : List A) → sum_by (λ x. u x + v x) xs ≡ sum_by u xs + sum_by v xs
+  unfolding sum_by
   sum_add u v [] = omega arith
   sum_add u v (x ∷ xs) = omega (arith, sum_add u v xs)
 
-  pub sum_map : {B : Type 0} (w : B → ℕ) (f : A → B) (xs : List A) → sumBy w (map f xs) ≡ sumBy (λ x. w (f x)) xs
-  unfolding sumBy
+  pub sum_map : {B : Type 0} (w : B → ℕ) (f : A → B) (xs : List A) → sum_by w (map f xs) ≡ sum_by (λ x. w (f x)) xs
+  unfolding sum_by
   sum_map w f [] = refl
   sum_map w f (x ∷ xs) = ap (λ (m : ℕ). w (f x) + m) (sum_map w f xs)
 
-  pub sum_at : (w : A → ℕ) (d : A) (xs : List A) (i : ℕ) → i < length xs → w (get_or xs i d) ≤ sumBy w xs
-  unfolding sumBy
+  pub sum_at : (w : A → ℕ) (d : A) (xs : List A) (i : ℕ) → i < length xs → w (get_or xs i d) ≤ sum_by w xs
+  unfolding sum_by
   sum_at w d [] i h = absurd (omega arith)
   sum_at w d (x ∷ xs) zero h = omega arith
   sum_at w d (x ∷ xs) (suc i) h = omega (arith, sum_at w d xs i (omega arith))
 
   -- an entry x put at i weighs what it weighs, and the entry that was there does not any more
   pub sum_set : (w : A → ℕ) (x d : A) (xs : List A) (i : ℕ) → i < length xs →
-      sumBy w (set xs i x) + w (get_or xs i d) ≡ sumBy w xs + w x
-  unfolding sumBy
+      sum_by w (set xs i x) + w (get_or xs i d) ≡ sum_by w xs + w x
+  unfolding sum_by
   sum_set w x d [] i h = absurd (omega arith)
   sum_set w x d (y ∷ xs) zero h = omega arith
   sum_set w x d (y ∷ xs) (suc i) h = omega (arith, sum_set w x d xs i (omega arith))
 
-  sum-set-le : (w : A → ℕ) (x : A) (xs : List A) (i : ℕ) → sumBy w (set xs i x) ≤ sumBy w xs + w x
-  unfolding sumBy
+  sum-set-le : (w : A → ℕ) (x : A) (xs : List A) (i : ℕ) → sum_by w (set xs i x) ≤ sum_by w xs + w x
+  unfolding sum_by
   sum-set-le w x [] i = omega arith
   sum-set-le w x (y ∷ xs) zero = omega arith
   sum-set-le w x (y ∷ xs) (suc i) = omega (arith, sum-set-le w x xs i)
 
-  pub sum_put_le : (w : A → ℕ) (x : A) (xs : List A) (at : Place) → sumBy w (put xs at x) ≤ sumBy w xs + w x
+  pub sum_put_le : (w : A → ℕ) (x : A) (xs : List A) (at : Place) → sum_by w (put xs at x) ≤ sum_by w xs + w x
   sum_put_le w x xs (Place.At i) = sum-set-le w x xs i
   sum_put_le w x xs Place.Nothing = omega arith
 
@@ -84,8 +84,8 @@ module _ {A : Type 0} where
   length_put xs (Place.At i) x = length-set xs i x
   length_put xs Place.Nothing x = refl
 
-  pub sum_replicate : (w : A → ℕ) (n : ℕ) (x : A) → w x ≡ 0 → sumBy w (replicate n x) ≡ 0
-  unfolding sumBy
+  pub sum_replicate : (w : A → ℕ) (n : ℕ) (x : A) → w x ≡ 0 → sum_by w (replicate n x) ≡ 0
+  unfolding sum_by
   sum_replicate w zero x h = refl
   sum_replicate w (suc n) x h = omega (arith, h, sum_replicate w n x h)
 
@@ -104,20 +104,20 @@ module _ {A : Type 0} where
     change-is P x t g = both P (p x) (f x) x t g
 
     pub sum_changed_le : (w : A → ℕ) → ((x : A) → p x ≡ true → w (f x) ≤ w x) → (xs : List A) →
-        sumBy w (changed p f xs) ≤ sumBy w xs
+        sum_by w (changed p f xs) ≤ sum_by w xs
     sum_changed_le w h xs =
         rw (sum_map w (change p f) xs)
         (sum_le (λ x. w (change p f x)) w (λ x. change-is (λ y. w y ≤ w x) x (h x) (λ e. le_refl (w x))) xs)
 
     pub sum_changed_same : (w : A → ℕ) → ((x : A) → p x ≡ true → w (f x) ≡ w x) → (xs : List A) →
-        sumBy w (changed p f xs) ≡ sumBy w xs
+        sum_by w (changed p f xs) ≡ sum_by w xs
     sum_changed_same w h xs =
         sum_map w (change p f) xs
         ∙ sum_same (λ x. w (change p f x)) w (λ x. change-is (λ y. w y ≡ w x) x (h x) (λ e. refl)) xs
 
     -- nothing weighs where what passes and what does not weigh nothing
     pub sum_changed_none : (w : A → ℕ) → ((x : A) → p x ≡ true → w (f x) ≡ 0) → ((x : A) → p x ≡ false → w x ≡ 0) →
-        (xs : List A) → sumBy w (changed p f xs) ≡ 0
+        (xs : List A) → sum_by w (changed p f xs) ≡ 0
     sum_changed_none w h g xs =
         sum_map w (change p f) xs ∙ sum_none (λ x. w (change p f x)) (λ x. change-is (λ y. w y ≡ 0) x (h x) (g x)) xs
 

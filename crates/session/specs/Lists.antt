@@ -39,9 +39,9 @@ module _ {A : Type 0} where
   abbrev pub always : A → Bool
   always x = true
 
-  unfoldable pub sumBy : (A → ℕ) → List A → ℕ
-  sumBy w [] = 0
-  sumBy w (x ∷ xs) = w x + sumBy w xs
+  unfoldable pub sum_by : (A → ℕ) → List A → ℕ
+  sum_by w [] = 0
+  sum_by w (x ∷ xs) = w x + sum_by w xs
 
   -- every entry has a property
   unfoldable pub All : (A → Type 0) → List A → Type 0
@@ -50,7 +50,7 @@ module _ {A : Type 0} where
 
   -- how many entries pass
   abbrev pub how_many : (A → Bool) → List A → ℕ
-  how_many p xs = sumBy (λ x. cond (p x) 1 0) xs
+  how_many p xs = sum_by (λ x. cond (p x) 1 0) xs
 
   -- the places whose entries pass, as bits: the lowest is that of the first place
   unfoldable pub mask_of : (A → Bool) → List A → ℕ

@@ -5,7 +5,7 @@ use Rattle.session.specs.declared.Stmt.{Stmt}
 use Rattle.session.specs.declared.Cursor.{Cursor}
 use Rattle.session.specs.declared.Place.{Place}
 use Rattle.session.specs.Session.{Session, with_stmts, with_cursors, with_spare, with_closed}
-use Rattle.session.specs.Lists.{first, put, entry_at, changed, always, sumBy, how_many, or_place}
+use Rattle.session.specs.Lists.{first, put, entry_at, changed, always, sum_by, how_many, or_place}
 use Rattle.session.specs.Entry.{no_stmt, no_cursor, new_stmt, new_cursor, is_stmt, free_stmt, is_cursor, on_stmt}
 use Rattle.session.specs.Entry.{free_cursor, raise, owes, is_live_stmt, is_live_cursor}
 
@@ -132,7 +132,7 @@ closed_now s = with_closed (reset s) 1
 
 -- "Owed is reported less sent, summed over the cursor table." (T8)
 abbrev pub owed : Session → ℕ
-owed s = sumBy owes s.cursors
+owed s = sum_by owes s.cursors
 
 -- how many statements and cursors are live
 abbrev pub stmt_count : Session → ℕ

@@ -12,7 +12,7 @@ use Rattle.streams.specs.declared.Reader.{Reader}
 use Rattle.streams.specs.declared.NextFrame.{NextFrame}
 use Rattle.streams.specs.Reader.{Push, stands_first, bad_first, start_over, is_part, part, held, push_of, next_of}
 use Rattle.streams.specs.ReaderRules.{kept, frame_at, Pushes, Hands, HandsNone, Whole}
-use Rattle.streams.specs.Reading.{Operation, push, nextFrame, restart, Reading, left, pushed_by, handed_by, operate}
+use Rattle.streams.specs.Reading.{Operation, push, next_frame, restart, Reading, left, pushed_by, handed_by, operate}
 use Rattle.streams.specs.Reading.{operated, from_start, reading}
 use Rattle.streams.specs.Stream.{joined, Stream, stream, less_dropped}
 use Rattle.streams.specs.Arrivals.{Always, Conserved, HandsOutFrames, Drained, ReadInOrder, goes_on, Refuses}
@@ -153,7 +153,7 @@ operate_sound : (o : Operation) (x : Reading) → Sound x → Sound (operate o x
 unfolding operate
 operate_sound (push arrival) x s =
     pushed-sound x arrival (push_of x.reader arrival x.store) (pushes_behind x.reader arrival x.store) s
-operate_sound nextFrame x s =
+operate_sound next_frame x s =
     handed_sound x (next_of x.reader x.store) (head_of (left x)) refl (hands_first x.reader x.store) s
 operate_sound restart x s =
     record {
@@ -229,7 +229,7 @@ module _ (x : Reading) (s : Stuck x) where
         rest = none-pushed x arrival after p s.settled s.bad;
       }
 
-  next-unmoved : Unmoved x (operate nextFrame x)
+  next-unmoved : Unmoved x (operate next_frame x)
   unfolding operate
   next-unmoved =
       record {
@@ -258,9 +258,9 @@ stays [] g x s = record { refuses = refuses x s; taken = refl; frames = refl; re
 stays (push arrival ∷ os) g x s =
     let u = push-unmoved x s arrival in
     stays_on u (stays os g (operate (push arrival) x) (stuck_on u s))
-stays (nextFrame ∷ os) g x s =
+stays (next_frame ∷ os) g x s =
     let u = next-unmoved x s in
-    stays_on u (stays os g (operate nextFrame x) (stuck_on u s))
+    stays_on u (stays os g (operate next_frame x) (stuck_on u s))
 stays (restart ∷ os) g x s = absurd (let z : ◌≡◌ {A = ℕ} 0 1 = cc in omega arith)
 
 pub stays_bad : StaysBad
@@ -273,11 +273,11 @@ kept_short : (b : List ℕ) → length (kept b) ≤ length b
 kept_short b =
     kept_both (λ l. length l ≤ length b) b (λ _. omega (arith, length-take length_bytes b)) (λ _. omega arith)
 
-stays_drained : (n : ℕ) (x : Reading) → Drained x → Drained (operated (replicate n nextFrame) x)
+stays_drained : (n : ℕ) (x : Reading) → Drained x → Drained (operated (replicate n next_frame) x)
 unfolding operated operate
 stays_drained zero x none = none
 stays_drained (suc n) x none =
-    stays_drained n (operate nextFrame x) (λ z. none (stands_kept (left x) ∙ ap stands_first (sym same.left) ∙ z))
+    stays_drained n (operate next_frame x) (λ z. none (stands_kept (left x) ∙ ap stands_first (sym same.left) ∙ z))
   where
     same : HandsNone x.reader x.store (stands_first (left x)) (next_of x.reader x.store)
     same = rw (refusal (left x) none) at (hands_first x.reader x.store)
@@ -285,19 +285,19 @@ stays_drained (suc n) x none =
 -- a hand-out leaves no frame, or fewer bytes
 drains_on : (n : ℕ) (x : Reading) → length (left x) ≤ suc n → (t : Head) → head_of (left x) ≡ t →
     Hands x.reader x.store (next_of x.reader x.store) t →
-    (length (left (operate nextFrame x)) ≤ n → Drained (operated (replicate n nextFrame) (operate nextFrame x))) →
-    Drained (operated (replicate (suc n) nextFrame) x)
+    (length (left (operate next_frame x)) ≤ n → Drained (operated (replicate n next_frame) (operate next_frame x))) →
+    Drained (operated (replicate (suc n) next_frame) x)
 unfolding operated operate
 drains_on n x h (Head.Frame kind end) e p again =
     let s = frame_told (left x) e in
     again (omega (arith, ap length p.left, kept_short (drop end (left x)), length-drop end (left x), s.ends))
 drains_on n x h (Head.Refused reason) e p again = stays_drained (suc n) x (refused_none (left x) e)
 
-drains_in : (n : ℕ) (x : Reading) → length (left x) ≤ n → Drained (operated (replicate n nextFrame) x)
+drains_in : (n : ℕ) (x : Reading) → length (left x) ≤ n → Drained (operated (replicate n next_frame) x)
 unfolding operated
 drains_in zero x h = λ z. omega (arith, (whole_told (left x) z).known)
 drains_in (suc n) x h =
-    drains_on n x h (head_of (left x)) refl (hands_first x.reader x.store) (drains_in n (operate nextFrame x))
+    drains_on n x h (head_of (left x)) refl (hands_first x.reader x.store) (drains_in n (operate next_frame x))
 
 pub drains : Drains
 drains x = drains_in (length (left x)) x (omega arith)

@@ -5,7 +5,7 @@ use Rattle.session.specs.Lists.{All}
 use Rattle.message.specs.Head.{length_bytes}
 use Rattle.streams.specs.ReaderRules.{Whole}
 use Rattle.streams.specs.Reader.{stands_first, bad_first, push_of, next_of}
-use Rattle.streams.specs.Reading.{Operation, push, nextFrame, restart, Reading, left, handed_out, operated}
+use Rattle.streams.specs.Reading.{Operation, push, next_frame, restart, Reading, left, handed_out, operated}
 use Rattle.streams.specs.Reading.{reading}
 use Rattle.streams.specs.Stream.{joined, stream}
 
@@ -58,7 +58,7 @@ FramesArrive =
 
 -- as many hand-outs as bytes are left leave no held frame, so that a host's loop ends (N17)
 abbrev pub Drains : Type 0
-Drains = (x : Reading) → Drained (operated (replicate (length (left x)) nextFrame) x)
+Drains = (x : Reading) → Drained (operated (replicate (length (left x)) next_frame) x)
 
 -- ---- a bad length stays
 
@@ -66,7 +66,7 @@ Drains = (x : Reading) → Drained (operated (replicate (length (left x)) nextFr
 abbrev pub goes_on : List Operation → Bool
 goes_on [] = true
 goes_on (push arrival ∷ os) = goes_on os
-goes_on (nextFrame ∷ os) = goes_on os
+goes_on (next_frame ∷ os) = goes_on os
 goes_on (restart ∷ os) = false
 
 -- it "takes 0 and gives no frame" (N11)

@@ -10,7 +10,7 @@ use Rattle.streams.specs.ReaderRules.{frame_at}
 -- a push of an arrival, a next_frame, a start_over
 pub data Operation : Type 0 where
   push : List ℕ → Operation
-  nextFrame : Operation
+  next_frame : Operation
   restart : Operation
 
 -- the reader and its store, and what the answers told
@@ -58,7 +58,7 @@ restarted x = record { reader = start_over; store = x.store; taken = []; frames 
 
 unfoldable pub operate : Operation → Reading → Reading
 operate (push arrival) x = pushed_by x arrival (push_of x.reader arrival x.store)
-operate nextFrame x = handed_by x (next_of x.reader x.store)
+operate next_frame x = handed_by x (next_of x.reader x.store)
 operate restart x = restarted x
 
 -- ---- a list of operations

@@ -12,7 +12,7 @@ use Rattle.message.specs.Prepare.{prepare_frame, body_in}
 use Rattle.message.specs.Execute.{open_frame, execute_in, arguments_within}
 use Rattle.message.specs.Simple.{reset_frame, fetch_frame}
 use Rattle.message.specs.Frame.{frame_in}
-use Rattle.session.specs.Lists.{sumBy, first}
+use Rattle.session.specs.Lists.{sum_by, first}
 use Rattle.encode.specs.Field.{number_field, bytes_field}
 use Rattle.reply.specs.Decimal.{digits}
 use Rattle.reply.specs.Text.{text}
@@ -28,7 +28,7 @@ use Rattle.trace_line.specs.Samples.{SamplesShown, ExampleShown}
 pub samples_shown : SamplesShown
 unfolding header lines_from end_text record_at frame_at kind_at report_at number_at groups line_of mark_of digits step_on
     decision_of look_reason report_reason session_after reply_to first_row row_count sends_columns refused_reply frame_of
-    frame_in reset_frame little fields_from has_required reply_bytes sumBy
+    frame_in reset_frame little fields_from has_required reply_bytes sum_by
 samples_shown = refl
 
 pub example_shown : ExampleShown
@@ -36,5 +36,5 @@ unfolding header lines_from end_text record_at frame_at kind_at report_at prepar
     line_of mark_of digits step_on decision_of look_reason report_reason session_after reply_to first_row row_count
     sends_columns refused_reply wire_code named named_kind frame_of frame_in prepare_frame fetch_frame open_frame execute_in
     body_in parts_from parts_in parts_onto arguments_within arguments_from place_from next_argument together little field_at
-    fields_from has_required row_for rows_of first reply_bytes sumBy text error_payload number_field bytes_field shortest
+    fields_from has_required row_for rows_of first reply_bytes sum_by text error_payload number_field bytes_field shortest
 example_shown = refl

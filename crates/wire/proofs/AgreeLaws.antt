@@ -200,21 +200,21 @@ group_keeps s t m (suc depth) number p a =
 -- ---- fields
 
 module _ (s t : List ℕ) (m : ℕ) where
-  ofValue-keeps : (n w : ℕ) (x y : Value) → KeepsValue w m (length t) x y →
+  of_value_keeps : (n w : ℕ) (x y : Value) → KeepsValue w m (length t) x y →
       KeepsField m (length t) (of_value n w x) (of_value n w y)
-  ofValue-keeps n w (Value.Good v start len next) y k = λ h l. ap (of_value n w) (k h l)
-  ofValue-keeps n w Value.Bad y k = tt
+  of_value_keeps n w (Value.Good v start len next) y k = λ h l. ap (of_value n w) (k h l)
+  of_value_keeps n w Value.Bad y k = tt
 
-  ofGroup-keeps : (n at : ℕ) (x y : Skip) → KeepsSkip m x y → KeepsField m (length t) (of_group n at x) (of_group n at y)
-  ofGroup-keeps n at (Skip.At next) y k = λ h l. ap (of_group n at) (k h)
-  ofGroup-keeps n at Skip.Bad y k = tt
+  of_group_keeps : (n at : ℕ) (x y : Skip) → KeepsSkip m x y → KeepsField m (length t) (of_group n at x) (of_group n at y)
+  of_group_keeps n at (Skip.At next) y k = λ h l. ap (of_group n at) (k h)
+  of_group_keeps n at Skip.Bad y k = tt
 
-  fieldOf-keeps : (n w at : ℕ) → Agree s t at m → KeepsField m (length t) (field_of s n w at) (field_of t n w at)
-  fieldOf-keeps n w at a =
+  field_of_keeps : (n w at : ℕ) → Agree s t at m → KeepsField m (length t) (field_of s n w at) (field_of t n w at)
+  field_of_keeps n w at a =
       either (KeepsField m (length t)) (eqb w 3)
       (λ _.
-      ofGroup-keeps n at (group_end max_depth s at n) (group_end max_depth t at n) (group_keeps s t m max_depth n at a))
-      (λ _. ofValue-keeps n w (value_at s w at) (value_at t w at) (value_keeps s t m w a))
+      of_group_keeps n at (group_end max_depth s at n) (group_end max_depth t at n) (group_keeps s t m max_depth n at a))
+      (λ _. of_value_keeps n w (value_at s w at) (value_at t w at) (value_keeps s t m w a))
 
   -- what is read of a field goes up to its tag's end at least
   abbrev Behind : ℕ → Field → Type 0
@@ -224,33 +224,33 @@ module _ (s t : List ℕ) (m : ℕ) where
   reach-past : (w at start next : ℕ) → at ≤ start → at ≤ next → at ≤ reach w start next
   reach-past w at start next h g = both (λ (k : ℕ). at ≤ k) (eqb w 2) start next (λ _. h) (λ _. g)
 
-  ofValue-behind : (n w at : ℕ) (x : Value) → PastValue at (length s) x → Behind at (of_value n w x)
-  ofValue-behind n w at (Value.Good v start len next) h = reach-past w at start next h.0 h.2
-  ofValue-behind n w at Value.Bad h = tt
+  of_value_behind : (n w at : ℕ) (x : Value) → PastValue at (length s) x → Behind at (of_value n w x)
+  of_value_behind n w at (Value.Good v start len next) h = reach-past w at start next h.0 h.2
+  of_value_behind n w at Value.Bad h = tt
 
-  ofGroup-behind : (n at : ℕ) (x : Skip) → PastSkip at (length s) x → Behind at (of_group n at x)
-  ofGroup-behind n at (Skip.At next) h = h.0
-  ofGroup-behind n at Skip.Bad h = tt
+  of_group_behind : (n at : ℕ) (x : Skip) → PastSkip at (length s) x → Behind at (of_group n at x)
+  of_group_behind n at (Skip.At next) h = h.0
+  of_group_behind n at Skip.Bad h = tt
 
-  fieldOf-behind : (n w at : ℕ) → Behind at (field_of s n w at)
-  fieldOf-behind n w at =
-      both (Behind at) (eqb w 3) _ _ (λ _. ofGroup-behind n at (group_end max_depth s at n) (group_past max_depth s at n))
-      (λ _. ofValue-behind n w at (value_at s w at) (value_past s w at))
+  field_of_behind : (n w at : ℕ) → Behind at (field_of s n w at)
+  field_of_behind n w at =
+      both (Behind at) (eqb w 3) _ _ (λ _. of_group_behind n at (group_end max_depth s at n) (group_past max_depth s at n))
+      (λ _. of_value_behind n w at (value_at s w at) (value_past s w at))
 
-  ofTag-keeps : (p : ℕ) → Agree s t p m → (x y : Tag) → KeepsTag m x y → PastTag p (length s) x →
+  of_tag_keeps : (p : ℕ) → Agree s t p m → (x y : Tag) → KeepsTag m x y → PastTag p (length s) x →
       KeepsField m (length t) (of_tag s x) (of_tag t y)
-  ofTag-keeps p a (Tag.Field n w at) y k h =
-      go (field_of s n w at) (fieldOf-keeps n w at (agree_later a at (omega arith))) (fieldOf-behind n w at)
+  of_tag_keeps p a (Tag.Field n w at) y k h =
+      go (field_of s n w at) (field_of_keeps n w at (agree_later a at (omega arith))) (field_of_behind n w at)
     where
       go : (z : Field) → KeepsField m (length t) z (field_of t n w at) → Behind at z →
           KeepsField m (length t) z (of_tag t y)
       go (Field.Good n' w' v start len next) kz b = λ r l. ap (of_tag t) (k (omega arith)) ∙ kz r l
       go Field.Bad kz b = tt
-  ofTag-keeps p a Tag.Bad y k h = tt
+  of_tag_keeps p a Tag.Bad y k h = tt
 
   pub field_keeps : (p : ℕ) → Agree s t p m → KeepsField m (length t) (field_at s p) (field_at t p)
   unfolding field_at
-  field_keeps p a = ofTag-keeps p a (tag_at s p) (tag_at t p) (tag-keeps s t m a) (tag_past s p)
+  field_keeps p a = of_tag_keeps p a (tag_at s p) (tag_at t p) (tag-keeps s t m a) (tag_past s p)
 
 -- what is read of a field lies within the bytes
 field_read : (s : List ℕ) (p : ℕ) {n w v start len next : ℕ} → field_at s p ≡ Field.Good n w v start len next →

@@ -77,15 +77,15 @@ module _ {s : List ℕ} {d : ℕ} {t : List ℕ} (k : Tail s d t) where
 
   -- ---- tags and values
 
-  tagOf-moved : (x : Varint) → tag_of (moved_varint d x) ≡ moved_tag d (tag_of x)
-  tagOf-moved (Varint.Number v next) =
+  tag_of_moved : (x : Varint) → tag_of (moved_varint d x) ≡ moved_tag d (tag_of x)
+  tag_of_moved (Varint.Number v next) =
       chosen_alike (moved_tag d) (ltb v 4294967296)
       (chosen_alike (moved_tag d) (ltb v 8) refl (chosen_alike (moved_tag d) (ltb (v % 8) 6) refl refl))
       refl
-  tagOf-moved Varint.Bad = refl
+  tag_of_moved Varint.Bad = refl
 
   pub tag_moved : (at : ℕ) → tag_at s (d + at) ≡ moved_tag d (tag_at t at)
-  tag_moved at = ap tag_of (varint_moved at) ∙ tagOf-moved (varint_at t at)
+  tag_moved at = ap tag_of (varint_moved at) ∙ tag_of_moved (varint_at t at)
 
   number-moved : (at : ℕ) (x : Varint) → of_varint (d + at) (moved_varint d x) ≡ moved_value d (of_varint at x)
   number-moved at (Varint.Number v next) =
@@ -197,25 +197,25 @@ module _ {s : List ℕ} {d : ℕ} {t : List ℕ} (k : Tail s d t) where
 
   -- ---- fields
 
-  ofValue-moved : (n w : ℕ) (v : Value) → of_value n w (moved_value d v) ≡ moved_field d (of_value n w v)
-  ofValue-moved n w (Value.Good v start len next) = refl
-  ofValue-moved n w Value.Bad = refl
+  of_value_moved : (n w : ℕ) (v : Value) → of_value n w (moved_value d v) ≡ moved_field d (of_value n w v)
+  of_value_moved n w (Value.Good v start len next) = refl
+  of_value_moved n w Value.Bad = refl
 
-  ofGroup-moved : (n at : ℕ) (x : Skip) → of_group n (d + at) (moved_skip d x) ≡ moved_field d (of_group n at x)
-  ofGroup-moved n at (Skip.At next) =
+  of_group_moved : (n at : ℕ) (x : Skip) → of_group n (d + at) (moved_skip d x) ≡ moved_field d (of_group n at x)
+  of_group_moved n at (Skip.At next) =
       let e : d + next - (d + at) ≡ next - at = omega arith in
       ap (λ (m : ℕ). Field.Good n 3 0 (d + at) m (d + next)) e
-  ofGroup-moved n at Skip.Bad = refl
+  of_group_moved n at Skip.Bad = refl
 
-  ofTag-moved : (x : Tag) → of_tag s (moved_tag d x) ≡ moved_field d (of_tag t x)
-  ofTag-moved (Tag.Field n w at) =
+  of_tag_moved : (x : Tag) → of_tag s (moved_tag d x) ≡ moved_field d (of_tag t x)
+  of_tag_moved (Tag.Field n w at) =
       chosen_alike (moved_field d) (eqb w 3)
-      (ap (of_group n (d + at)) (group_moved max_depth at n) ∙ ofGroup-moved n at (group_end max_depth t at n))
-      (ap (of_value n w) (value_moved w at) ∙ ofValue-moved n w (value_at t w at))
-  ofTag-moved Tag.Bad = refl
+      (ap (of_group n (d + at)) (group_moved max_depth at n) ∙ of_group_moved n at (group_end max_depth t at n))
+      (ap (of_value n w) (value_moved w at) ∙ of_value_moved n w (value_at t w at))
+  of_tag_moved Tag.Bad = refl
 
   pub field_moved : (at : ℕ) → field_at s (d + at) ≡ moved_field d (field_at t at)
   field_moved at =
       field_tagged s (d + at) (moved_tag d (tag_at t at)) (tag_moved at)
-      ∙ ofTag-moved (tag_at t at)
+      ∙ of_tag_moved (tag_at t at)
       ∙ sym (ap (moved_field d) (field_tagged t at (tag_at t at) refl))

@@ -76,18 +76,18 @@ module _ (inner : ℕ → ℕ → Skip) (s : List ℕ) (number : ℕ) (inner-pas
         (λ _. and_then_past next (length s) (inner n next) more (inner-past n next) m)
         (λ _. and_then_past next (length s) (skip_value s w next) more (skip_past s w next) m))
 
-    groupField-past : (more : ℕ → Skip) → ((q : ℕ) → PastSkip q (length s) (more q)) → (at : ℕ) (t : Tag) →
+    group_field_past : (more : ℕ → Skip) → ((q : ℕ) → PastSkip q (length s) (more q)) → (at : ℕ) (t : Tag) →
         PastTag at (length s) t → PastSkip at (length s) (group_field inner more s number t)
-    groupField-past more m at (Tag.Field n w next) h =
+    group_field_past more m at (Tag.Field n w next) h =
         further at next (length s) (omega arith) (group_field inner more s number (Tag.Field n w next))
         (tagged_past more m n w next h.1)
-    groupField-past more m at Tag.Bad h = tt
+    group_field_past more m at Tag.Bad h = tt
 
     pub group_fields_past : (most at : ℕ) → PastSkip at (length s) (group_fields inner most s at number)
     unfolding group_fields
     group_fields_past zero at = tt
     group_fields_past (suc most) at =
-        groupField-past (λ q. group_fields inner most s q number) (group_fields_past most) at (tag_at s at) (tag_past s at)
+        group_field_past (λ q. group_fields inner most s q number) (group_fields_past most) at (tag_at s at) (tag_past s at)
 
 pub group_past : (depth : ℕ) (s : List ℕ) (at number : ℕ) → PastSkip at (length s) (group_end depth s at number)
 unfolding group_end

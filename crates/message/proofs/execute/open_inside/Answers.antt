@@ -19,14 +19,14 @@ returns-in-At c =
     subst (λ (r : Inner). TellsInner s ps r c.args.padded.now c.find_execute.new.padded)
     c.in-At.is
     c.find_execute.ensures.told in record {
-      answer = c.open_from.ensures.answer.0
+      answer = c.open_from.ensures.answer
           ∙ ap (of_inner s ps c.args.id (optional_by c.args.has c.args.asked)) (sym c.in-At.is)
           ∙ c.find_execute.ensures.answer c.args.id (optional_by c.args.has c.args.asked);
       told = tells_as c.open_from.result c.open_from.new.padded
           (or_then c.args.padded.now (parts_padded s ps)
           (execute_padded s c.in-At.start c.in-At.len) told.0.0 refl
           (execute_flag s ps told.1))
-          c.open_from.ensures.answer.1;
+          c.open_from.ensures.told;
     }
 
 pub returns-in-Twice : goal.returns-in-Twice

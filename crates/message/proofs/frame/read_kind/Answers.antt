@@ -8,42 +8,42 @@ use Rattle.message.proofs.frame.read_kind.Goals as goal
 pub returns-in-6 : goal.returns-in-6
 unfolding frame_in kind_padded
 returns-in-6 c = let whole = as_kind c.args.s.now c.read_reset.result _
-    c.in-6.is c.read_reset.ensures in record { answer = whole.0; told = whole.1 }
+    c.in-6.is (c.read_reset.ensures.answer, c.read_reset.ensures.told) in record { answer = whole.0; told = whole.1 }
 
 pub returns-in-7 : goal.returns-in-7
 unfolding frame_in kind_padded
 returns-in-7 c = let whole = as_kind c.args.s.now c.read_session_close.result _
-    c.in-7.is c.read_session_close.ensures in record { answer = whole.0; told = whole.1 }
+    c.in-7.is (c.read_session_close.ensures.answer, c.read_session_close.ensures.told) in record { answer = whole.0; told = whole.1 }
 
 pub returns-in-40 : goal.returns-in-40
 unfolding frame_in kind_padded
 returns-in-40 c = let whole = as_kind c.args.s.now c.read_prepare.result _
-    c.in-40.is c.read_prepare.ensures in record { answer = whole.0; told = whole.1 }
+    c.in-40.is (c.read_prepare.ensures.answer, c.read_prepare.ensures.told) in record { answer = whole.0; told = whole.1 }
 
 pub returns-in-41 : goal.returns-in-41
 unfolding frame_in kind_padded
 returns-in-41 c = let whole = as_kind c.args.s.now c.read_execute.result _
-    c.in-41.is c.read_execute.ensures in record { answer = whole.0; told = whole.1 }
+    c.in-41.is (c.read_execute.ensures.answer, c.read_execute.ensures.told) in record { answer = whole.0; told = whole.1 }
 
 pub returns-in-42 : goal.returns-in-42
 unfolding frame_in kind_padded
 returns-in-42 c = let whole = as_kind c.args.s.now c.read_deallocate.result _
-    c.in-42.is c.read_deallocate.ensures in record { answer = whole.0; told = whole.1 }
+    c.in-42.is (c.read_deallocate.ensures.answer, c.read_deallocate.ensures.told) in record { answer = whole.0; told = whole.1 }
 
 pub returns-in-43 : goal.returns-in-43
 unfolding frame_in kind_padded
 returns-in-43 c = let whole = as_kind c.args.s.now c.read_open.result _
-    c.in-43.is c.read_open.ensures in record { answer = whole.0; told = whole.1 }
+    c.in-43.is (c.read_open.ensures.answer, c.read_open.ensures.told) in record { answer = whole.0; told = whole.1 }
 
 pub returns-in-44 : goal.returns-in-44
 unfolding frame_in kind_padded
 returns-in-44 c = let whole = as_kind c.args.s.now c.read_close.result _
-    c.in-44.is c.read_close.ensures in record { answer = whole.0; told = whole.1 }
+    c.in-44.is (c.read_close.ensures.answer, c.read_close.ensures.told) in record { answer = whole.0; told = whole.1 }
 
 pub returns-in-45 : goal.returns-in-45
 unfolding frame_in kind_padded
 returns-in-45 c = let whole = as_kind c.args.s.now c.read_fetch.result _
-    c.in-45.is c.read_fetch.ensures in record { answer = whole.0; told = whole.1 }
+    c.in-45.is (c.read_fetch.ensures.answer, c.read_fetch.ensures.told) in record { answer = whole.0; told = whole.1 }
 
 pub returns-in_default : goal.returns-in_default
 unfolding frame_in kind_padded

@@ -5,12 +5,12 @@ use Rattle.prelude.proofs.Basics.{not-true, or_same}
 use Rattle.layout.specs.private.NextPart.{Found, Tells}
 use Rattle.layout.proofs.PartsLaws.{parts_end}
 use Rattle.message.proofs.Names.{parts_of, Part, payload}
-use Rattle.message.proofs.TwiceLaws.{Judging, judging, judged, judged_flag, judged_bad, judged_good, ownGood}
-use Rattle.message.proofs.TwiceLaws.{own_padded, own_there, own_flag, own_good, own_padded}
+use Rattle.message.proofs.TwiceLaws.{Judging, judging, judged, judged_flag, judged_bad, judged_good, own_good}
+use Rattle.message.proofs.TwiceLaws.{own_padded, own_there, own_flag, own_good_lem}
 use Rattle.message.proofs.twice.good_parts.Given as goal
 
 abbrev pub invariant-loop-p : goal.invariant-loop-p
-invariant-loop-p l = Judging (ownGood l.s) (own_padded l.s) l.k l.s l.from l.p l.initial.padded l.padded
+invariant-loop-p l = Judging (own_good l.s) (own_padded l.s) l.k l.s l.from l.p l.initial.padded l.padded
 
 abbrev pub decreases-loop-p : goal.decreases-loop-p
 decreases-loop-p l = length l.s - l.p
