@@ -757,7 +757,7 @@ def convert(root, crate, folder, made, clauses):
             what = m[2].split("-in-")[0].split("-then-")[0].split("-else-")[0]
             return ("(" if m[0][0] == "(" else "") + m[1] if re.sub(r"-\d+$", "", what) in called else m[0]
 
-        return re.sub(r"\(?\bnot-(?:true|false) _ (c\.if-not-([^ ().]*)\.(?:true|false))\b", negated, t)
+        return re.sub(r"\(?\bnot-(?:true|false) _\s+(c\.if-not-([^ ().]*)\.(?:true|false))\b", negated, t)
 
     if answers:
         text = "\n".join([*comments, *uses, f"use {fn.module()}.Goals as goal", "", "\n\n".join([*kept, *answers]), ""])

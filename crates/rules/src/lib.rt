@@ -1,7 +1,6 @@
 // What a look and a step take and what they answer. Every type is of numbers and bools, so that a host can pass it.
 #![tactic(auto)]
 
-
 // The kinds of an engine report.
 pub const NONE: u64 = 0;
 

@@ -61,8 +61,8 @@ between_written store start end bytes a b =
 -- ---- which readers are parts of the store
 
 module _ (size : ℕ) (r : Reader) where
-  pub is_part : r.start ≤ r.end → r.end ≤ size → is_part size r ≡ true
-  is_part a b = rw (le-leb r.start r.end a, le-leb r.end size b)
+  pub is_part_lem : r.start ≤ r.end → r.end ≤ size → is_part size r ≡ true
+  is_part_lem a b = rw (le-leb r.start r.end a, le-leb r.end size b)
 
   pub is_reversed : r.end < r.start → is_part size r ≡ false
   is_reversed a = rw (lt-leb r.start r.end a)
@@ -118,11 +118,11 @@ module _ (store : List ℕ) (r : Reader) (p : Part store r) where
       let h = four-there t in
       let e : r.start + length_bytes - r.start ≡ length_bytes = omega arith in
       held_part store (reader r.start (r.start + length_bytes))
-      (is_part (length store) (reader r.start (r.start + length_bytes)) (omega arith) (omega (arith, p.within)))
+      (is_part_lem (length store) (reader r.start (r.start + length_bytes)) (omega arith) (omega (arith, p.within)))
       ∙ ap (λ (k : ℕ). take k (drop r.start store)) e
       ∙ sym (take-take length_bytes (r.end - r.start) (drop r.start store) (omega arith))
       ∙ sym (kept_bad (part store r) t))
-      (λ t. held_part store r (is_part (length store) r p.ordered p.within) ∙ sym (kept_good (part store r) t))
+      (λ t. held_part store r (is_part_lem (length store) r p.ordered p.within) ∙ sym (kept_good (part store r) t))
 
 -- the number of what stands first is that of what is kept
 pub stands_kept : (b : List ℕ) → stands_first b ≡ stands_first (kept b)

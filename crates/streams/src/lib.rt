@@ -2,7 +2,6 @@
 // functions are those of crate arrivals.
 #![tactic(auto)]
 
-
 // The bytes of a store: the longest frame fills it.
 pub const STORE: usize = 65536;
 

@@ -5,7 +5,7 @@ use Rattle.protocol.specs.Client as Client
 use Rattle.args.specs.Value.{argument_in}
 use Rattle.args.proofs.ArgsFieldLaws.{no_wire}
 use Rattle.message.specs.Operation as Operation
-use Rattle.writer.proofs.Names.{field_at, PastField, Field, field_past, is_args, any_type_of, is_args, no_number}
+use Rattle.writer.proofs.Names.{field_at, PastField, Field, field_past, is_args, any_type_of, is_args_lem, no_number}
 use Rattle.writer.proofs.Names.{is_good, on_arg, args_from, good_stretch, is_type, good_prepare, accepted_as}
 
 -- where the loop stands: what is left at p answers for the whole stretch
@@ -65,7 +65,7 @@ module _ {s : List ℕ} {p : ℕ} (k : Judging s p) (inside : p < length s) wher
     pub bad_argument : number ≡ 2 → wire ≡ 2 → any_type_of (argument_in s start len) ≡ 0 → false ≡ good_stretch s
     bad_argument h g b =
         without (args_from (k.most - 1) s next) false (ap not (eq-eqb (any_type_of (argument_in s start len)) 0 b))
-        ∙ by_args true (is_args number wire v h g)
+        ∙ by_args true (is_args_lem number wire v h g)
 
     pub goes_on_lem : number ≡ 2 → wire ≡ 2 → (any_type_of (argument_in s start len) ≡ 0 → ⊥) → Judging s next
     goes_on_lem h g b =
@@ -74,7 +74,7 @@ module _ {s : List ℕ} {p : ℕ} (k : Judging s p) (inside : p < length s) wher
           enough = omega (arith, k.enough, advances);
           whole =
               yes (args_from (k.most - 1) s next) false (ap not (ne_eqb (any_type_of (argument_in s start len)) 0 b))
-              ∙ by_args true (is_args number wire v h g);
+              ∙ by_args true (is_args_lem number wire v h g);
         }
 
 -- a type of a Prepare's statement that is none of the five

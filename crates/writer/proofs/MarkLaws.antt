@@ -12,7 +12,7 @@ use Rattle.args.specs.Padded.{bound_padded}
 use Rattle.args.proofs.MovedFlagLaws.{argument_flag_moved}
 use Rattle.writer.proofs.Names.{varint_bytes, Tail, tail_length, Stands, stands_length, stands_cut, tail_stands}
 use Rattle.writer.proofs.Names.{stands_first, stands_next, field_at, field_padded, Field, Tag, padded_from, is_args}
-use Rattle.writer.proofs.Names.{inside_args, argument_padded, execute_padded, is_args, no_number, field_inside}
+use Rattle.writer.proofs.Names.{inside_args, argument_padded, execute_padded, is_args_lem, no_number, field_inside}
 use Rattle.writer.proofs.Names.{number_field, optional_field, bytes_field, stretch_padded}
 use Rattle.writer.proofs.FieldLaws.{tag_reads, behind_tag, number_reads, bytes_reads, stands_inside}
 use Rattle.writer.proofs.StretchLaws.{Stretch, done, more, there}
@@ -212,7 +212,7 @@ says_args bs h inner =
             m - 1,
             omega arith,
             one_field (inside_args s) s at m e l (bytes-plain 2 at s q (omega arith) (omega arith) bs h k)
-                (sym (yes (argument_padded s start (length bs)) false (sym (is_args 2 2 (length bs) refl refl)))
+                (sym (yes (argument_padded s start (length bs)) false (sym (is_args_lem 2 2 (length bs) refl refl)))
                 ∙ ap (λ (p : ℕ). argument_padded s p (length bs)) place
                 ∙ argument_flag_moved (stands_inside 2 bs k) 0 (length bs) (omega arith)
                 ∙ inner),

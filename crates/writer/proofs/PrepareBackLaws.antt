@@ -320,7 +320,7 @@ module _ (stmt t : ℕ) (body : List ℕ) (small : stmt < 2 ^ 32) (is-type : is_
   stmt_listed short =
       let k = listed t is-type in
       embedded_good
-      (reads_then (reads_number (rows_of prepare_stmt) 1 t k.type-kept (omega arith) (omega arith)
+      (reads_then (reads_number (rows_of prepare_stmt) 1 t k.type_kept (omega arith) (omega arith)
       (omega (arith, k.small)))
       (reads_bytes (rows_of prepare_stmt) (Operation.field_of t) body (k.body_kept (length body)) k.some k.few
       short))

@@ -30,7 +30,7 @@ module _ (a : List ℕ) where
           cond b (cond (not z) (args_from m a next) false) false ≡ true → Stretch a i
       go true eb false ez h =
           let inside = field_inside a i e in
-          let two = args_number n w v eb in
+          let two = args_number_lem n w v eb in
           let args : Field.Good n w v st ln next ≡ Field.Good 2 2 v st ln next = rw (two.0, two.1) in
           more (e ∙ args) (eqb-false (any_type_of (argument_in a st ln)) 0 ez) (on next inside.1 inside.2 h)
       go true eb true ez h = absurd (let z : ◌≡◌ {A = ℕ} 0 1 = cc in omega arith)

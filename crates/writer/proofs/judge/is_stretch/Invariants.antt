@@ -1,0 +1,12 @@
+-- What is left from the place on answers for the whole stretch.
+use Rattle.prelude.proofs.Basics.{◌-◌, arith, sym, ap, ◌∙◌, length, rules}
+use Rattle.writer.proofs.Names.{any_type_of}
+use Rattle.writer.proofs.JudgeLaws.{Judging, starts, ends, no_field, advances, other_number, other_wire}
+use Rattle.writer.proofs.JudgeLaws.{bad_argument, goes_on_lem}
+use Rattle.writer.proofs.judge.is_stretch.Given as goal
+
+abbrev pub invariant-loop-p : goal.invariant-loop-p
+invariant-loop-p l = Judging l.s l.p
+
+abbrev pub decreases-loop-p : goal.decreases-loop-p
+decreases-loop-p l = length l.s - l.p

@@ -1,0 +1,8 @@
+-- The id and fetch_rows, one behind the other. Assumes nothing.
+use Rattle.prelude.proofs.Basics.{rules}
+use Rattle.writer.proofs.Names.{puts_then, fetch_payload}
+use Rattle.writer.proofs.payload.put_fetch.Goals as goal
+
+pub returns : goal.returns
+unfolding fetch_payload
+returns c = puts_then c.put_number-p.ensures c.put_optional.ensures

@@ -1,0 +1,14 @@
+-- The cursor id, the statement with its length before it and fetch_rows, one behind the other. Assumes nothing.
+use Rattle.prelude.proofs.Basics.{rules}
+use Rattle.writer.proofs.Names.{puts_then, puts_counted, open_stmt_payload, open_payload}
+use Rattle.writer.proofs.payload.put_open.Goals as goal
+
+pub returns : goal.returns
+unfolding open_payload
+returns c =
+    puts_then
+    (puts_then c.put_number-p.ensures
+    (puts_counted 4 (open_stmt_payload c.args.draft c.args.args.now) c.open_stmt_len.ensures
+    c.put_prefix-q.ensures
+    c.put_open_stmt-rows_at.ensures))
+    c.put_optional.ensures
