@@ -260,8 +260,11 @@ class Function:
         if not way:
             return []
         label, rest = fold(way[0]), way[1:]
+        label = label.strip("«»")
         if label not in self.label and label.lower() in self.label:
             label = label.lower()
+        if label not in self.label and label.endswith("_lem") and label[:-4] in self.label:
+            label = label[:-4]
         if label == "args" and rest and re.fullmatch(r"t[1-9]", rest[0]):
             params = self.clauses.get(self.path, {}).get("params", [])
             if int(rest[0][1:]) <= len(params):
@@ -398,6 +401,7 @@ class Function:
                 return None
             if text[at] in OPEN:
                 end = close_of(text, at)
+                end = re.compile(rf"(?:\.{NAME})*").match(text, end).end()
             else:
                 m = re.compile(rf"{NAME}(?:\.{NAME})*").match(text, at)
                 if not m:
@@ -490,7 +494,7 @@ def answer_body(fn, text, want):
         if len(names) == len(want):
             return "record { " + "; ".join(f"{n} = {body}.{q}" for n, q in zip(want, names)) + " }"
     if not body.endswith(")"):
-        return f"let whole = {body} in record {{ " + "; ".join(f"{n} = whole.{i}" for i, n in enumerate(want)) + " }"
+        return taken_apart(body, want)
     depth, at = 0, len(body) - 1
     while at >= 0:
         if body[at] in CLOSE:
@@ -521,10 +525,16 @@ def answer_body(fn, text, want):
         within = answer_body(fn, inside.strip(), want)
         return None if within is None else front + within
     if front.strip() and not re.search(r"(\bin|=)\s*$", front):
-        return f"let whole = {body} in record {{ " + "; ".join(f"{n} = whole.{i}" for i, n in enumerate(want)) + " }"
+        return taken_apart(body, want)
     if len(parts) != len(want):
         return None
     return front + "record { " + "; ".join(f"{n} = {p.strip()}" for n, p in zip(want, parts)) + " }"
+
+
+def taken_apart(body, want):
+    """A pair of pairs that is not written out: each clause is one of its parts."""
+    ways = [".1" * i + (".0" if i < len(want) - 1 else "") for i in range(len(want))]
+    return f"let whole = {body} in record {{ " + "; ".join(f"{n} = whole{w}" for n, w in zip(want, ways)) + " }"
 
 
 def answer_parts(text):
@@ -631,7 +641,7 @@ def convert(root, crate, folder, made, clauses):
             if m and len(re.findall(rf"(?m)^{re.escape(d.name)} ", p[3])) == 1:
                 fn.inline[d.name] = (m.group(1).split(), p[3][m.end() :].strip())
                 one = re.match(rf"\(({NAME}) : tie\.[^)]*\)\s*(→\s*|(?=\())(.*)$", p[1].strip(), re.S)
-                if one and "abbrev" not in p[0] and (one.group(2) or one.group(3).startswith("(")):
+                if one and "abbrev" not in p[0] and not re.match(r"[{]", one.group(3)) and (one.group(2) or one.group(3).startswith("(")):
                     fn.typed[d.name] = (one.group(1), one.group(3))
                 one = re.match(rf"\(({NAME}) : tie\.[^)]*\)\s*→\s*(.*)$", p[1].strip(), re.S)
                 if one and len(fn.inline[d.name][0]) == 1:

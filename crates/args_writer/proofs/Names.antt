@@ -6,7 +6,7 @@ pub use Rattle.varint.proofs.TailLaws.{Stands, stands_length, stands_first, stan
 pub use Rattle.scalar.specs.Argument.{type_of}
 pub use Rattle.scalar.specs.Zigzag.{zigzag}
 pub use Rattle.scalar.specs.declared.argument.Argument.{Argument}
-pub use Rattle.scalar.proofs.ArgumentLaws.{is_nan, no_nan}
+pub use Rattle.scalar.proofs.ArgumentLaws.{is_nan_lem, no_nan}
 pub use Rattle.wire.specs.Value.{as_fixed, value_at}
 unfoldable pub use Rattle.wire.specs.Field.{field_at}
 pub use Rattle.wire.specs.declared.field.Field.{Field}

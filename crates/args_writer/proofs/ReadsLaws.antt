@@ -48,7 +48,7 @@ judged a (suc m) i h (more {v = v} {st = st} {ln = ln} {next = next} e b g) =
     rw (ne_eqb (any_type_of (argument_in a st ln)) 0 b) (judged a m next (omega arith) g) in
     rw (lt-ltb i (length a) (omega arith), e)
     (sym
-    (yes (cond (is_good (argument_in a st ln)) (args_from m a next) false) false (sym (is_args 2 2 v refl refl)))
+    (yes (cond (is_good (argument_in a st ln)) (args_from m a next) false) false (sym (is_args_lem 2 2 v refl refl)))
     ∙ rest)
 
 module _ (s f : List ℕ) where

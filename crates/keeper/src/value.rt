@@ -7,7 +7,7 @@ use rules::{Answer, Look, Report};
 use session::Session;
 
 // What a step hands back.
-#[derive(Clone, Copy)]
+#[derive(Drop)]
 pub struct Outcome {
     pub answer: Answer,
     pub session: Session,
