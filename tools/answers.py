@@ -229,6 +229,7 @@ class Function:
         self.place_of_loop = {}
         self.helpers, self.inline, self.results = {}, {}, {}
         self.typed, self.lets, self.variable = {}, {}, "c"
+        self.opens, self.opened = {}, []
 
     def module(self):
         return f"Rattle.{self.crate}.proofs." + self.folder.replace("/", ".")
@@ -271,7 +272,7 @@ class Function:
                 return ["args", params[int(rest[0][1:]) - 1], *rest[1:]]
         if label == "requires":
             return ["requires", *self.named("requires", rest, self.path)]
-        if rest[:1] in (["new"], ["last"]):
+        if rest[:1] in (["new"], ["last"]) and label != "args":
             rest = ["new", *rest[1:]]
         for n in range(len(rest), -1, -1):
             key = (label, *rest[:n])
@@ -284,6 +285,8 @@ class Function:
         older = {"inv": "invariant", "taken": "true", "left": "false", "last": "new"}
         if rest and rest[0] in older and (label in self.label or label in self.loops):
             rest = [older[rest[0]], *rest[1:]]
+        if label == "well_formed":
+            return [label, *rest]
         if label == "pre":
             return ["requires", *self.named("requires", rest, self.path)]
         new = self.label.get(label, way[0])
@@ -416,6 +419,7 @@ class Function:
             self.let(name)
             rest = "".join(" " + self.turn(a, env) for a in found[1:])
             return f"({name}{rest})" if rest else name, at
+        self.opened += [u for u in self.opens.get(name, []) if u not in self.opened]
         turned = self.turn(body, {params[0]: (base, [])})
         for q, arg in zip(params[1:], found[1:]):
             arg = self.turn(arg, env)
@@ -443,7 +447,8 @@ class Function:
         """A path that goes on by numbers where names stand today: it is written out where it is used."""
         way = [w for w in way if w != "before"]
         if len(way) == 1:
-            return fold(way[0]) in self.callee or fold(way[0]) in self.loops or way[0].startswith("match")
+            label = fold(way[0])
+            return label in self.callee or label in self.loops or label.startswith("match") or any(k[0] == label for k in self.arms)
         if way[1:2] == ["new"] and len(way) > 2 and set(way[2:]) == {"1"}:
             return True
         return way[1:2] == ["given"] and len(way) < 4 or way[1:] in (["ensures"], ["requires"])
@@ -636,12 +641,13 @@ def convert(root, crate, folder, made, clauses):
 
     for d in decls:
         p = d.parts()
-        if p and d.name not in fn.helpers and not p[2] and re.match(rf"(?:\(({NAME}) : )?tie\.(?!Need)[A-Z]", p[1].strip()):
+        if p and d.name not in fn.helpers and re.match(rf"(?:\(({NAME}) : )?tie\.(?!Need)[A-Z]", p[1].strip()):
             m = re.match(rf"{re.escape(d.name)}((?: {NAME})+?) =\s*", p[3])
             if m and len(re.findall(rf"(?m)^{re.escape(d.name)} ", p[3])) == 1:
                 fn.inline[d.name] = (m.group(1).split(), p[3][m.end() :].strip())
+                fn.opens[d.name] = p[2]
                 one = re.match(rf"\(({NAME}) : tie\.[^)]*\)\s*(→\s*|(?=\())(.*)$", p[1].strip(), re.S)
-                if one and "abbrev" not in p[0] and not re.match(r"[{]", one.group(3)) and (one.group(2) or one.group(3).startswith("(")):
+                if one and "abbrev" not in p[0] and not p[2] and not re.match(r"[{]", one.group(3)) and (one.group(2) or one.group(3).startswith("(")):
                     fn.typed[d.name] = (one.group(1), one.group(3))
                 one = re.match(rf"\(({NAME}) : tie\.[^)]*\)\s*→\s*(.*)$", p[1].strip(), re.S)
                 if one and len(fn.inline[d.name][0]) == 1:
@@ -685,9 +691,10 @@ def convert(root, crate, folder, made, clauses):
             continue
         if more:
             body = f"λ {' '.join(more)}. {body}"
-        fn.lets, fn.variable = {}, variable
+        fn.lets, fn.variable, fn.opened = {}, variable, []
         turned = fn.turn(body, {variable: (variable, [])})
         lets = "".join(f"\n    {t}" for t in fn.lets.values())
+        unfolding = [*unfolding, *[u for u in fn.opened if u not in unfolding]]
         if want:
             recorded = answer_body(fn, turned, want)
             if recorded is None:

@@ -1,0 +1,6 @@
+-- A blank message with its id.
+use Rattle.prelude.proofs.Basics.{rules}
+use Rattle.karramotx.proofs.told.close_told.Goals as goal
+
+pub returns : goal.returns
+returns c = rw c.blank-m.ensures
