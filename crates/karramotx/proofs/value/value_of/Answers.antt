@@ -8,7 +8,7 @@ use Rattle.karramotx.proofs.ValueLaws.{bool_byte_lem}
 use Rattle.karramotx.proofs.value.value_of.Goals as goal
 
 pub returns-in-Signed : goal.returns-in-Signed
-returns-in-Signed c = let fits : SFits w64 c.in-Signed.v = record { sfits = c.type_inv.v } in
+returns-in-Signed c = let fits : SFits w64 c.in-Signed.v = search rules in
     c.numbered.ensures
     ∙ ap (numbered 1) (c.to_bits.ensures ∙ same_bits c.in-Signed.v fits)
     ∙ ap value_of (sym c.in-Signed.is)
