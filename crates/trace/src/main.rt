@@ -3,8 +3,10 @@
 #![tactic(auto)]
 
 use encode::put::Put;
-use libc::{STDIN_FILENO, STDOUT_FILENO};
-use session::{Session, WORDS};
+use session::Session;
+use std::io;
+use std::io::{Read, Write};
+use std::process::ExitCode;
 use trace_line::printer::{First, MAX_RECORD, Printer};
 
 const CHUNK: usize = 65536;
@@ -14,12 +16,27 @@ const STORE: usize = MAX_RECORD + CHUNK;
 
 const OUTPUT: usize = 65536;
 
+// The session that the records step on, the bytes that are not printed yet, and the lines that go out.
+#[derive(Drop)]
+struct Tables {
+    session: Session,
+    store: [u8; STORE],
+    lines: [u8; OUTPUT],
+}
+
 // The printer, what stands first among the bytes that it holds, and whether there is more to do.
 #[derive(Clone, Copy)]
 struct Run {
     printer: Printer,
     first: First,
     going: bool,
+}
+
+// The call that failed, and why.
+#[derive(Clone, Copy)]
+enum Failure {
+    Read(io::Error),
+    Write(io::Error),
 }
 
 fn stopped(printer: Printer) -> Run {
@@ -30,110 +47,121 @@ fn stopped(printer: Printer) -> Run {
     }
 }
 
-// Writes the first n bytes, and tells whether all were written. Where not, it says so on standard error.
-fn write_front(out: &[u8], n: usize) -> bool {
-    if out.len() < n {
-        return false;
+// Writes the first n bytes, and tells whether there are so many.
+fn write_front(output: &mut impl Write, lines: &[u8], n: usize) -> Result<bool, Failure> {
+    if lines.len() < n {
+        return Ok(false);
     }
-    let wrote = io::write_all(STDOUT_FILENO, &out[..n]);
-    if !wrote {
-        os::fail(b"trace: write");
-    }
-    wrote
+    output.write_all(&lines[..n]).map_err(Failure::Write)?;
+    Ok(true)
 }
 
 // Writes what was put at the front.
-fn write_put(out: &[u8], put: Put) -> bool {
+fn write_put(output: &mut impl Write, lines: &[u8], put: Put) -> Result<bool, Failure> {
     match put {
-        Put::Next(n) => write_front(out, n),
-        Put::Full => false,
+        Put::Next(n) => write_front(output, lines, n),
+        Put::Full => Ok(false),
     }
 }
 
 // A chunk into the store, and the lines out.
 fn feed(
+    output: &mut impl Write,
     printer: Printer,
-    words: &mut [u32; WORDS],
-    store: &mut [u8],
+    tables: &mut Tables,
     chunk: &[u8],
-    out: &mut [u8],
-) -> Run {
-    let r = trace_line::printer::print_chunk(printer, words, store, chunk, out);
-    let printer = r.printer;
-    let first = r.first;
-    let going = write_front(out, r.put);
-    Run {
+) -> Result<Run, Failure> {
+    let printed = trace_line::printer::print_chunk(
         printer,
-        first,
+        &mut tables.session.words,
+        &mut tables.store,
+        chunk,
+        &mut tables.lines,
+    );
+    let going = write_front(output, &tables.lines, printed.put)?;
+    Ok(Run {
+        printer: printed.printer,
+        first: printed.first,
         going,
-    }
+    })
 }
 
-fn finish(printer: Printer, out: &mut [u8]) -> Run {
-    let put = trace_line::printer::put_end(printer, out, 0);
-    write_put(out, put);
-    stopped(printer)
+fn finish(output: &mut impl Write, printer: Printer, tables: &mut Tables) -> Result<Run, Failure> {
+    let put = trace_line::printer::put_end(printer, &mut tables.lines, 0);
+    write_put(output, &tables.lines, put)?;
+    Ok(stopped(printer))
 }
 
-// The next chunk, or the end of the input. An error is not the end: it says so on standard error, and the end's
-// text is not written.
+// The next chunk, or the end of the input. An error is not the end: the end's text is not written.
 fn read_on(
+    input: &mut impl Read,
+    output: &mut impl Write,
     printer: Printer,
-    words: &mut [u32; WORDS],
-    store: &mut [u8],
-    input: &mut [u8],
-    out: &mut [u8],
-) -> Run {
-    let got = libc::read(STDIN_FILENO, input);
-    if got < 0 {
-        os::fail(b"trace: read");
-        return stopped(printer);
-    }
-    let n = io::count(got, input);
+    tables: &mut Tables,
+    chunk: &mut [u8],
+) -> Result<Run, Failure> {
+    let n = input.read(chunk).map_err(Failure::Read)?;
     if n == 0 {
-        return finish(printer, out);
+        return finish(output, printer, tables);
     }
-    feed(printer, words, store, &input[..n], out)
+    feed(output, printer, tables, &chunk[..n])
 }
 
 // More lines of what is held, more input, or the end.
 fn turn(
+    input: &mut impl Read,
+    output: &mut impl Write,
     run: Run,
-    words: &mut [u32; WORDS],
-    store: &mut [u8],
-    input: &mut [u8],
-    out: &mut [u8],
-) -> Run {
-    let printer = run.printer;
-    let first = run.first;
-    match first {
-        First::Whole => feed(printer, words, store, b"", out),
-        First::Short => read_on(printer, words, store, input, out),
-        First::Bad => finish(printer, out),
+    tables: &mut Tables,
+    chunk: &mut [u8],
+) -> Result<Run, Failure> {
+    match run.first {
+        First::Whole => feed(output, run.printer, tables, b""),
+        First::Short => read_on(input, output, run.printer, tables, chunk),
+        First::Bad => finish(output, run.printer, tables),
     }
 }
 
-fn main() {
-    let mut bytes = [0u8; CHUNK];
-    let mut held = [0u8; STORE];
-    let mut lines = [0u8; OUTPUT];
-    let input: &mut [u8] = &mut bytes;
-    let store: &mut [u8] = &mut held;
-    let out: &mut [u8] = &mut lines;
-    let session = Session::fresh();
-    let mut words = session.words;
-    let put = trace_line::printer::put_header(out, 0);
+fn print_trace(input: &mut impl Read, output: &mut impl Write) -> Result<(), Failure> {
+    let mut chunk = [0u8; CHUNK];
+    let mut tables = Tables {
+        session: Session::fresh(),
+        store: [0; STORE],
+        lines: [0; OUTPUT],
+    };
+    let put = trace_line::printer::put_header(&mut tables.lines, 0);
     let mut run = Run {
         printer: trace_line::printer::start(),
         first: First::Short,
-        going: write_put(out, put),
+        going: write_put(output, &tables.lines, put)?,
     };
-    let mut left = u64::MAX;
-    while left > 0 {
-        left -= 1;
+    for _ in 0..u64::MAX {
         if !run.going {
-            return;
+            break;
         }
-        run = turn(run, &mut words, store, input, out);
+        run = turn(input, output, run, &mut tables, &mut chunk)?;
     }
+    Ok(())
+}
+
+// The system's text of an error, without its number, which std writes behind it.
+fn without_number(text: &str) -> &str {
+    match text.split_once(" (os error ") {
+        Some((reason, _)) => reason,
+        None => text,
+    }
+}
+
+fn tell(rt: &(impl Eprint + AllocGlobal), call: &str, error: io::Error) -> io::Result<()> {
+    let text = format!(in rt.alloc(); "{error}")?;
+    eprintln!(rt; "trace: {call}: {}", without_number(text.as_str()))
+}
+
+fn main(rt: HostRuntime) -> io::Result<ExitCode> {
+    match print_trace(&mut rt.stdin(), &mut rt.stdout()) {
+        Ok(()) => return Ok(ExitCode::SUCCESS),
+        Err(Failure::Read(error)) => tell(&rt, "read", error)?,
+        Err(Failure::Write(error)) => tell(&rt, "write", error)?,
+    }
+    Ok(ExitCode::FAILURE)
 }
