@@ -71,31 +71,15 @@ pub const TEXT: u64 = 29;
 fn find(s: &[u8], number: u64) -> Field {
     let mut unread = false;
     let mut p = 0;
-    let mut left = s.len();
-    while left > 0 {
-        left -= 1;
-        match wire::field::long_field(s, p, &mut unread) {
+    for _ in 0..s.len() {
+        let field = wire::field::long_field(s, p, &mut unread);
+        match field {
             Field::Good {
                 number: n,
-                wire,
-                value,
-                start,
-                len,
                 next,
-            } => {
-                if n == number {
-                    return Field::Good {
-                        number,
-                        wire,
-                        value,
-                        start,
-                        len,
-                        next,
-                    };
-                }
-                p = next;
-            }
-            Field::Bad => return Field::Bad,
+                ..
+            } if n != number => p = next,
+            _ => return field,
         }
     }
     Field::Bad
@@ -103,14 +87,7 @@ fn find(s: &[u8], number: u64) -> Field {
 
 pub(crate) fn number(s: &[u8], number: u64) -> u64 {
     match find(s, number) {
-        Field::Good {
-            number: _,
-            wire: _,
-            value,
-            start: _,
-            len: _,
-            next: _,
-        } => value,
+        Field::Good { value, .. } => value,
         Field::Bad => 0,
     }
 }
@@ -121,14 +98,7 @@ pub(crate) fn small(s: &[u8], number: u64) -> u32 {
 
 pub(crate) fn bytes(s: &[u8], number: u64) -> &[u8] {
     match find(s, number) {
-        Field::Good {
-            number: _,
-            wire: _,
-            value: _,
-            start,
-            len,
-            next: _,
-        } => part(s, start, len),
+        Field::Good { start, len, .. } => part(s, start, len),
         Field::Bad => &s[..0],
     }
 }

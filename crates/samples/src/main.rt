@@ -5,16 +5,21 @@
 mod frame;
 mod given;
 mod out;
-mod phrase;
 mod reading;
 mod record;
 mod steps;
 mod writing;
 
-use libc::STDIN_FILENO;
+use std::io;
+use std::io::{BufWriter, Read, Write};
 
-fn main() {
-    let mut input = io::large_buffer();
-    let n = io::read_full(STDIN_FILENO, &mut input);
-    record::print_records(&input[..n]);
+// What stands behind these bytes is not read.
+const LONGEST_INPUT: u64 = 65536;
+
+fn main(rt: HostRuntime) -> io::Result<()> {
+    let mut input = Vec::new(rt.alloc());
+    rt.reader().take(LONGEST_INPUT).read_to_end(&mut input)?;
+    let mut output = BufWriter::new(rt.alloc(), io::writer(&rt))?;
+    record::print_records(&mut output, &input)?;
+    output.flush()
 }

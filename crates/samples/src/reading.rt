@@ -1,40 +1,36 @@
 // What reading makes of a record: V a varint, Z a zigzag number, F a list of fields, M a frame.
-use crate::{frame, out, phrase};
+use crate::frame;
+use std::io;
+use std::io::Write;
 use varint::Varint;
 use wire::field::Field;
 
-fn print_varint(s: &[u8]) {
+fn print_varint(output: &mut impl Write, s: &[u8]) -> io::Result<()> {
     let mut unread = false;
     match varint::read_varint(s, 0, &mut unread) {
-        Varint::Number { value, next } => phrase::print(phrase::VARINT, value, next as u64),
-        Varint::Bad => phrase::print(phrase::BAD, 0, 0),
+        Varint::Number { value, next } => writeln!(output, " {value} next {next}"),
+        Varint::Bad => writeln!(output, " bad"),
     }
 }
 
-fn print_zigzag(s: &[u8]) {
+fn print_zigzag(output: &mut impl Write, s: &[u8]) -> io::Result<()> {
     let mut unread = false;
     match varint::read_varint(s, 0, &mut unread) {
         Varint::Number { value, next: _ } => {
-            out::signed(
-                phrase::PLUS,
-                phrase::MINUS,
-                scalar::zigzag::zigzag_decode(value),
-            );
+            writeln!(output, " {}", scalar::zigzag::zigzag_decode(value))
         }
-        Varint::Bad => phrase::print(phrase::BAD, 0, 0),
+        Varint::Bad => writeln!(output, " bad"),
     }
 }
 
 // Each field of the list: number, wire type, value, place and length.
-fn print_fields(s: &[u8]) {
+fn print_fields(output: &mut impl Write, s: &[u8]) -> io::Result<()> {
     let mut unread = false;
     let mut p = 0;
-    let mut left = s.len();
-    while left > 0 {
+    for _ in 0..s.len() {
         if s.len() <= p {
-            return phrase::print(phrase::LINE, 0, 0);
+            break;
         }
-        left -= 1;
         match wire::field::long_field(s, p, &mut unread) {
             Field::Good {
                 number,
@@ -44,24 +40,22 @@ fn print_fields(s: &[u8]) {
                 len,
                 next,
             } => {
-                phrase::print(phrase::FIELD, number, wire);
-                phrase::print(phrase::FIELD_VALUE, value, 0);
-                phrase::print(phrase::PLACE, start as u64, len as u64);
+                write!(output, " {number}:{wire}={value}@{start}+{len}")?;
                 p = next;
             }
-            Field::Bad => return phrase::print(phrase::BAD, 0, 0),
+            Field::Bad => return writeln!(output, " bad"),
         }
     }
-    phrase::print(phrase::LINE, 0, 0);
+    writeln!(output)
 }
 
-pub fn print(letter: u8, s: &[u8]) {
-    phrase::letter(letter);
+pub fn print(output: &mut impl Write, letter: u8, s: &[u8]) -> io::Result<()> {
+    output.write_all(&[letter])?;
     match letter {
-        b'V' => print_varint(s),
-        b'Z' => print_zigzag(s),
-        b'F' => print_fields(s),
-        b'M' => frame::print(s),
-        _ => {}
+        b'V' => print_varint(output, s),
+        b'Z' => print_zigzag(output, s),
+        b'F' => print_fields(output, s),
+        b'M' => frame::print(output, s),
+        _ => Ok(()),
     }
 }

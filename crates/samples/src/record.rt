@@ -1,54 +1,68 @@
-// The records of the input, one after the other. A record is a letter, two bytes of length, least first, and its bytes.
+// The records of the input, one after the other. A record is a letter, two bytes of length, least first, and its
+// bytes.
 ghost use Rattle.std.specs.Prelude.{◌<◌};
 
 use crate::{given, reading, steps, writing};
-use libc::STDOUT_FILENO;
 use session::{Session, WORDS};
+use std::io;
+use std::io::Write;
 
 // The largest buffer, with room for a frame of the greatest length, and what it holds before.
 const SPACE: usize = 65540;
 
 const FILL: u8 = 7;
 
-// The bytes in front of a record's own.
-const HEAD: usize = 3;
-
 // A heading, a step, a look, a reply, a message, an argument or two.
-fn print(letter: u8, s: &[u8], words: &mut [u32; WORDS], buf: &mut [u8]) {
+fn print(
+    output: &mut impl Write,
+    letter: u8,
+    s: &[u8],
+    words: &mut [u32; WORDS],
+    buf: &mut [u8],
+) -> io::Result<()> {
     match letter {
-        b'h' => {
-            io::write_all(STDOUT_FILENO, given::bytes(s, given::TEXT));
-        }
-        b's' => steps::print_step(s, words, buf),
-        b'l' => steps::print_look(s, words),
-        b'r' => writing::print_reply(s, buf),
-        b'm' => writing::print_message(s, buf),
-        b'a' => writing::print_argument(s, buf),
-        b'p' => writing::print_pair(s, buf),
-        _ => {}
+        b'h' => output.write_all(given::bytes(s, given::TEXT)),
+        b's' => steps::print_step(output, s, words, buf),
+        b'l' => steps::print_look(output, s, words),
+        b'r' => writing::print_reply(output, s, buf),
+        b'm' => writing::print_message(output, s, buf),
+        b'a' => writing::print_argument(output, s, buf),
+        b'p' => writing::print_pair(output, s, buf),
+        _ => Ok(()),
     }
 }
 
-fn print_in(letter: u8, s: &[u8], words: &mut [u32; WORDS], space: &mut [u8]) {
+fn print_in(
+    output: &mut impl Write,
+    letter: u8,
+    s: &[u8],
+    words: &mut [u32; WORDS],
+    space: &mut [u8],
+) -> io::Result<()> {
     let n = given::number(s, given::ROOM) as usize;
     if n <= space.len() {
-        print(letter, s, words, &mut space[0..n]);
+        print(output, letter, s, words, &mut space[0..n])?;
     }
+    Ok(())
 }
 
 // Capital letters stand for what is read. The session goes on from one record to the next, until one that starts
 // another.
-fn print_record(letter: u8, s: &[u8], mut session: Session) -> Session {
+fn print_record(
+    output: &mut impl Write,
+    letter: u8,
+    s: &[u8],
+    session: &mut Session,
+) -> io::Result<()> {
     if letter < b'a' {
-        reading::print(letter, s);
-        return session;
+        return reading::print(output, letter, s);
     }
     if letter == b'n' {
-        return Session::fresh();
+        *session = Session::fresh();
+        return Ok(());
     }
     let mut space = [FILL; SPACE];
-    print_in(letter, s, &mut session.words, &mut space);
-    session
+    print_in(output, letter, s, &mut session.words, &mut space)
 }
 
 fn wide(b: u8) -> usize
@@ -57,21 +71,16 @@ fn wide(b: u8) -> usize
     b as usize
 }
 
-pub fn print_records(s: &[u8]) {
+pub fn print_records(output: &mut impl Write, s: &[u8]) -> io::Result<()> {
     let mut session = Session::fresh();
-    let mut p = 0;
-    while p < s.len() {
-        if s.len() - p < HEAD {
-            return;
-        }
-        let letter = s[p];
-        let from = p + HEAD;
-        let len = wide(s[p + 1]) + 256 * wide(s[p + 2]);
-        if s.len() - from < len {
-            return;
-        }
-        let end = from + len;
-        session = print_record(letter, &s[from..end], session);
-        p = end;
+    let mut rest = s;
+    while let [letter, low, high, behind @ ..] = rest {
+        let len = wide(*low) + 256 * wide(*high);
+        let Some((record, next)) = behind.split_at_checked(len) else {
+            break;
+        };
+        print_record(output, *letter, record, &mut session)?;
+        rest = next;
     }
+    Ok(())
 }

@@ -1,20 +1,24 @@
 // Steps as a host takes them. A line for each: reason, bytes used, reply length, columns, first row, row
 // count, and the reply in hex. A line of a look: reason, work, first row, row count.
-use crate::{given, out, phrase};
+use crate::{given, out};
 use rules::{Answer, Report};
 use session::WORDS;
+use std::io;
+use std::io::Write;
 
-fn print_answer(a: Answer, buf: &[u8]) {
-    phrase::print(phrase::SPACED, a.reason, 0);
-    phrase::print(phrase::SPACED, a.used as u64, 0);
-    phrase::print(phrase::SPACED, a.reply as u64, 0);
-    phrase::print(phrase::SPACED, a.columns as u64, 0);
-    phrase::print(phrase::SPACED, a.first, 0);
-    phrase::print(phrase::SPACED, a.count, 0);
-    out::line(buf, a.reply);
+fn print_answer(output: &mut impl Write, a: Answer, buf: &[u8]) -> io::Result<()> {
+    let columns = a.columns as u64;
+    write!(output, "{} {} {} {columns} ", a.reason, a.used, a.reply)?;
+    write!(output, "{} {} ", a.first, a.count)?;
+    out::line(output, buf, a.reply)
 }
 
-pub fn print_step(s: &[u8], words: &mut [u32; WORDS], buf: &mut [u8]) {
+pub fn print_step(
+    output: &mut impl Write,
+    s: &[u8],
+    words: &mut [u32; WORDS],
+    buf: &mut [u8],
+) -> io::Result<()> {
     let report = Report {
         kind: given::number(s, given::CASE),
         placeholders: given::number(s, given::PLACEHOLDERS),
@@ -23,13 +27,10 @@ pub fn print_step(s: &[u8], words: &mut [u32; WORDS], buf: &mut [u8]) {
         code: given::number(s, given::CODE),
     };
     let a = keeper::step::step(words, given::bytes(s, given::FRAME), report, buf);
-    print_answer(a, buf);
+    print_answer(output, a, buf)
 }
 
-pub fn print_look(s: &[u8], words: &[u32; WORDS]) {
+pub fn print_look(output: &mut impl Write, s: &[u8], words: &[u32; WORDS]) -> io::Result<()> {
     let l = keeper::look::look(words, given::bytes(s, given::FRAME));
-    phrase::print(phrase::SPACED, l.reason, 0);
-    phrase::print(phrase::SPACED, l.work, 0);
-    phrase::print(phrase::SPACED, l.first, 0);
-    phrase::print(phrase::COUNT, l.count, 0);
+    writeln!(output, "{} {} {} {}", l.reason, l.work, l.first, l.count)
 }

@@ -1,10 +1,12 @@
 // What is written of a record: the length, and the bytes in hex. In front of them stands the reason for a message and
 // for an argument, which may be refused.
-use crate::{given, out, phrase};
+use crate::{given, out};
 use encode::put::Put;
 use protocol::{scalars, server};
 use reply::{Refusal, Reply};
 use scalar::argument::{Argument, double_argument, float_argument, signed_argument};
+use std::io;
+use std::io::Write;
 use writer::{Draft, Sent};
 
 // The cases of an argument beside the types of a Scalar: no scalar, a double that is a NaN, and the bits of one.
@@ -46,25 +48,32 @@ fn reply(s: &[u8]) -> Reply {
 }
 
 // A reply that finds no room leaves the buffer as it was.
-pub fn print_reply(s: &[u8], buf: &mut [u8]) {
+pub fn print_reply(output: &mut impl Write, s: &[u8], buf: &mut [u8]) -> io::Result<()> {
     match reply::write_reply(buf, reply(s)) {
-        Put::Next(n) => out::front(buf, n, n),
+        Put::Next(n) => out::front(output, buf, n, n),
         Put::Full => {
-            phrase::print(phrase::FULL, 0, 0);
-            out::front(buf, buf.len(), buf.len());
+            writeln!(output, "full")?;
+            out::front(output, buf, buf.len(), buf.len())
         }
     }
 }
 
-fn print_sent(s: &[u8], r: Sent, buf: &[u8]) {
-    phrase::print(phrase::SPACED, r.reason, 0);
-    out::front(buf, r.len, given::number(s, given::SHOWN) as usize);
+fn print_sent(output: &mut impl Write, s: &[u8], r: Sent, buf: &[u8]) -> io::Result<()> {
+    write!(output, "{} ", r.reason)?;
+    out::front(output, buf, r.len, given::number(s, given::SHOWN) as usize)?;
     if given::number(s, given::WHOLE) == 1 {
-        out::line(buf, buf.len());
+        out::line(output, buf, buf.len())?;
     }
+    Ok(())
 }
 
-fn print_draft(s: &[u8], body: &[u8], args: &[u8], buf: &mut [u8]) {
+fn print_draft(
+    output: &mut impl Write,
+    s: &[u8],
+    body: &[u8],
+    args: &[u8],
+    buf: &mut [u8],
+) -> io::Result<()> {
     let draft = Draft {
         kind: given::number(s, given::CASE),
         stmt: given::small(s, given::STMT),
@@ -76,21 +85,27 @@ fn print_draft(s: &[u8], body: &[u8], args: &[u8], buf: &mut [u8]) {
         operation: given::number(s, given::OPERATION),
     };
     let r = writer::write_message(draft, body, args, buf);
-    print_sent(s, r, buf);
+    print_sent(output, s, r, buf)
 }
 
 // The body is put in front of zeros.
-fn print_with(s: &[u8], body: &mut [u8], buf: &mut [u8]) {
+fn print_with(
+    output: &mut impl Write,
+    s: &[u8],
+    body: &mut [u8],
+    buf: &mut [u8],
+) -> io::Result<()> {
     encode::put::put_slice(body, 0, given::bytes(s, given::BODY));
     let n = given::number(s, given::SIZE) as usize;
     if n <= body.len() {
-        print_draft(s, &body[0..n], given::bytes(s, given::ARGS), buf);
+        print_draft(output, s, &body[0..n], given::bytes(s, given::ARGS), buf)?;
     }
+    Ok(())
 }
 
-pub fn print_message(s: &[u8], buf: &mut [u8]) {
+pub fn print_message(output: &mut impl Write, s: &[u8], buf: &mut [u8]) -> io::Result<()> {
     let mut body = [0u8; BODY_SPACE];
-    print_with(s, &mut body, buf);
+    print_with(output, s, &mut body, buf)
 }
 
 fn argument(s: &[u8]) -> Argument {
@@ -119,16 +134,15 @@ fn append(s: &[u8], buf: &mut [u8], at: usize) -> Sent {
     args_writer::append_argument(argument(s), given::bytes(s, given::SOURCE), buf, at)
 }
 
-pub fn print_argument(s: &[u8], buf: &mut [u8]) {
+pub fn print_argument(output: &mut impl Write, s: &[u8], buf: &mut [u8]) -> io::Result<()> {
     let r = append(s, buf, given::number(s, given::AT) as usize);
-    print_sent(s, r, buf);
+    print_sent(output, s, r, buf)
 }
 
 // Two arguments are appended, the second behind the first, and fill the stretch.
-pub fn print_pair(s: &[u8], buf: &mut [u8]) {
-    let mut space = [0u8; PAIR];
-    let args: &mut [u8] = &mut space;
-    let first = append(given::bytes(s, given::FIRST), args, 0);
-    append(given::bytes(s, given::SECOND), args, first.len);
-    print_draft(s, b"", args, buf);
+pub fn print_pair(output: &mut impl Write, s: &[u8], buf: &mut [u8]) -> io::Result<()> {
+    let mut args = [0u8; PAIR];
+    let first = append(given::bytes(s, given::FIRST), &mut args, 0);
+    append(given::bytes(s, given::SECOND), &mut args, first.len);
+    print_draft(output, s, b"", &args, buf)
 }
