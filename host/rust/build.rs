@@ -1,4 +1,4 @@
-//! Links the archive that `rt staticlib karramotx` writes.
+//! Links the archive that `tools/build karramotx` writes.
 //!
 //! It is looked for in the folder that KARRAMOTX_LIB_DIR names, or else in this repository's
 //! `target/staticlib`.
@@ -17,7 +17,7 @@ fn main() {
     println!("cargo:rerun-if-changed={}", archive.display());
     if !archive.exists() {
         panic!(
-            "{} is not there: run `rt staticlib karramotx` first, or set KARRAMOTX_LIB_DIR",
+            "{} is not there: run `tools/build karramotx` first, or set KARRAMOTX_LIB_DIR",
             archive.display()
         );
     }

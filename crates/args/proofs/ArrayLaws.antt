@@ -1,11 +1,10 @@
 -- The value of an argument from the arrays that hold its messages. Assumes nothing.
 use Rattle.prelude.proofs.Basics.{ℕ, Bool, true, false, cond, ◌≡◌, refl, sym, ap, ◌∙◌, List, get_or}
-use Rattle.scalar.specs.declared.argument.Argument.TheVariants as Va
-use Rattle.layout.specs.private.Arrays.{Holds, up_to_two}
+use Rattle.layout.specs.private.Arrays.{Holds}
 use Rattle.layout.proofs.ArrayLaws.{held_value, held_start, held_none}
 use Rattle.layout.proofs.MergedPlaceLaws.{merged_long}
-use Rattle.args.proofs.Names.{Argument, scalar, bytes, rows_of, row_for, merged, count_of, value_of, start_of, len_of}
-use Rattle.args.proofs.Names.{low32, Part, Slots, bad, present, bytes_of, bytes_in, of_type, scalar_of, scalar_in}
+use Rattle.args.proofs.Names.{Argument, scalar, bytes, rows_of, row_for, merged, count_of, value_of, len_of}
+use Rattle.args.proofs.Names.{low32, Part, Slots, bad, present, bytes_in, of_type, scalar_in}
 use Rattle.args.specs.private.Parts.{chosen_bytes}
 use Rattle.args.proofs.ValueLaws.{bytes_bad, scalar_bad, scalar_good}
 

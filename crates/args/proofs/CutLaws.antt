@@ -1,12 +1,12 @@
 -- An argument reads alike in bytes that are cut off behind it. Assumes nothing.
-use Rattle.prelude.proofs.Basics.{ℕ, ◌+◌, ◌≤◌, ◌<◌, arith, Bool, true, false, ◌||◌, cond, ◌≡◌, refl, sym, ap, ap₂, ◌∙◌}
-use Rattle.prelude.proofs.Basics.{List, length, take, take-take, eqb, leb, lt-leb}
+use Rattle.prelude.proofs.Basics.{ℕ, ◌+◌, ◌≤◌, ◌<◌, arith, Bool, true, false, ◌||◌, cond, ◌≡◌, sym, ap, ap₂, ◌∙◌}
+use Rattle.prelude.proofs.Basics.{List, length, take, take-take, lt-leb}
 use Rattle.layout.proofs.MergeLaws.{flags_cut}
-use Rattle.args.proofs.Names.{Argument, any, scalar, bytes, rows_of, embedded, count_of, value_of, low32, one_part}
+use Rattle.args.proofs.Names.{Argument, any, scalar, bytes, rows_of, embedded, value_of, low32, one_part}
 use Rattle.args.proofs.Names.{parts_of, parts_in, merged, parts_padded, Part, Slots, AllWithin, one_part_lem, parts_by}
-use Rattle.args.proofs.Names.{one_within, inner_within, inner_cut, merged_cut, bad, present, bytes_of, bytes_in}
+use Rattle.args.proofs.Names.{one_within, inner_within, inner_cut, merged_cut, bad, bytes_of, bytes_in}
 use Rattle.args.proofs.Names.{of_type, scalar_of, scalar_in, of_any_type, any_of, scalar_parts, argument_in}
-use Rattle.args.proofs.Names.{bytes_padded, inside_scalar, scalar_padded}
+use Rattle.args.proofs.Names.{inside_scalar, scalar_padded}
 use Rattle.args.proofs.ValueLaws.{any_bad}
 
 module _ (s : List ℕ) (e : ℕ) (few : e ≤ length s) where

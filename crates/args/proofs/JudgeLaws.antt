@@ -1,8 +1,8 @@
 -- Whether every argument of a message is good, field by field. Assumes nothing.
-use Rattle.prelude.proofs.Basics.{ℕ, ◌-◌, ◌≤◌, ◌<◌, arith, Bool, true, false, cond, ◌≡◌, refl, sym, ap, ◌∙◌, List, []}
+use Rattle.prelude.proofs.Basics.{ℕ, ◌≤◌, ◌<◌, arith, Bool, true, false, cond, ◌≡◌, refl, sym, ap, ◌∙◌, List, []}
 use Rattle.prelude.proofs.Basics.{◌∷◌, length, eqb, eq-eqb, eqb-false, ne_eqb}
-use Rattle.args.proofs.Names.{Argument, field_at, Field, argument_in, arguments_from, arguments_at, any_type_of}
-use Rattle.args.proofs.Names.{no_arguments, bad_arguments, with_type, together, arguments_in, bad, Arguments}
+use Rattle.args.proofs.Names.{Argument, field_at, Field, argument_in, arguments_at, any_type_of}
+use Rattle.args.proofs.Names.{no_arguments, bad_arguments, with_type, together, arguments_in, Arguments}
 use Rattle.args.proofs.Names.{ArgPlace}
 use Rattle.args.specs.private.Bound.{tests_args}
 use Rattle.args.proofs.PlaceLaws.{starts, no_field, next_end, next_placed}

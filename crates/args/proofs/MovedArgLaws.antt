@@ -1,9 +1,9 @@
 -- Arguments read in bytes and in a byte string that holds these bytes: the same, moved. Assumes nothing.
 use Rattle.prelude.proofs.Basics.{ℕ, zero, suc, ◌+◌, ◌≤◌, ◌<◌, arith, Bool, true, false, not, cond, ◌≡◌, refl, sym}
-use Rattle.prelude.proofs.Basics.{ap, ap₂, ◌∙◌, List, ◌∷◌, map, length, get_or, take, length-take-le, eqb, leb, eq-eqb}
+use Rattle.prelude.proofs.Basics.{ap, ap₂, ◌∙◌, List, ◌∷◌, map, length, get_or, take, length-take-le, eqb, eq-eqb}
 use Rattle.prelude.proofs.Basics.{eqb-false}
 use Rattle.prelude.proofs.Basics.{eqb-true, less_or_not}
-use lib.Ieee.{Float, Format, binary32, binary64, nan_bits}
+use lib.Ieee.{Format, binary32, binary64, nan_bits}
 use Rattle.varint.proofs.TailLaws.{chosen_alike, Tail, tail_length, tail_stands, stands_length, stands_take}
 use Rattle.scalar.specs.Argument.{carried}
 use Rattle.scalar.specs.declared.argument.Argument.TheVariants as Va

@@ -3,7 +3,7 @@ use Rattle.prelude.proofs.Basics.{ℕ, ◌+◌, ◌≤◌, Bool, false, ◌||◌
 use Rattle.prelude.proofs.Basics.{eqb}
 use Rattle.layout.proofs.MovedFlagLaws.{part_flag_moved, parts_flag_moved}
 use Rattle.layout.proofs.MergedPlaceLaws.{moved_parts, merged_alike, inner_moved}
-use Rattle.args.proofs.Names.{Stands, any, scalar, rows_of, embedded, value_of, low32, parts_in, merged}
+use Rattle.args.proofs.Names.{Stands, any, scalar, rows_of, value_of, low32, parts_in, merged}
 use Rattle.args.proofs.Names.{parts_padded, Part, Slots, Alike, AllWithin, inner_within, scalar_parts, bytes_padded}
 use Rattle.args.proofs.Names.{inside_scalar, scalar_padded, inside_any, argument_padded}
 use Rattle.args.proofs.MovedArgLaws.{embedded_alike, parted_moved, parted_within}

@@ -1,18 +1,18 @@
 -- What the functions that read scalars, octets and strings in parts hand on: where the parts stand, and what the arrays
 -- that hold them say. Assumes nothing.
-use Rattle.prelude.proofs.Basics.{ℕ, ◌+◌, ◌-◌, ◌≤◌, ◌<◌, arith, Bool, true, false, ◌||◌, cond, ◌≡◌, refl, sym, ap, ap₂}
-use Rattle.prelude.proofs.Basics.{subst, ◌∙◌, List, [], ◌++◌, append-nil, length, get_or, take, take-length}
+use Rattle.prelude.proofs.Basics.{ℕ, ◌+◌, ◌-◌, ◌≤◌, arith, Bool, true, false, ◌||◌, ◌≡◌, refl, sym, ap}
+use Rattle.prelude.proofs.Basics.{subst, ◌∙◌, List, append-nil, length, get_or, take, take-length}
 use Rattle.prelude.proofs.Basics.{length-take-le}
-use Rattle.prelude.proofs.Basics.{eqb, ne_eqb, no, or_false, or_same}
+use Rattle.prelude.proofs.Basics.{ne_eqb, no, or_false}
 use Rattle.layout.specs.private.Arrays.{Holds}
 use Rattle.layout.specs.private.Counted.{Counted}
 use Rattle.layout.specs.MergedRules.{holds_bytes}
 use Rattle.layout.proofs.CountLaws.{good_list}
-use Rattle.layout.proofs.CountedLaws.{merged_counted, fields_counted, counted_one}
-use Rattle.args.proofs.Names.{Argument, any, scalar, bytes, len, rows_of, wire_of, row_for, fields_at, embedded}
+use Rattle.layout.proofs.CountedLaws.{merged_counted, fields_counted}
+use Rattle.args.proofs.Names.{Argument, any, scalar, len, rows_of, wire_of, row_for, embedded}
 use Rattle.args.proofs.Names.{one_part, parts_of, parts_in, merged, part_padded, parts_padded, Part, Slots}
 use Rattle.args.proofs.Names.{part_within}
-use Rattle.args.proofs.Names.{one_part_lem, parts_by, one_within, merged_cut, bad, present, bytes_in, scalar_in}
+use Rattle.args.proofs.Names.{one_part_lem, parts_by, one_within, merged_cut, bad, present, scalar_in}
 use Rattle.args.proofs.Names.{scalar_parts, scalar_padded, inside_scalar}
 use Rattle.args.specs.private.Parts.{scalar_by}
 use Rattle.args.proofs.CutLaws.{scalar_cut, scalar_flag_cut, inside_cut}

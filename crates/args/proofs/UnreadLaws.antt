@@ -1,6 +1,6 @@
 -- What an Any and a Scalar do not choose is not read. Assumes nothing.
 use Rattle.prelude.proofs.Basics.{ℕ, zero, suc, ◌+◌, ◌-◌, ◌≤◌, ◌<◌, arith, Bool, true, false, cond, ◌≡◌, refl, sym, ap}
-use Rattle.prelude.proofs.Basics.{ap₂, subst, ◌∙◌, inl, inr, List, [], ◌∷◌, length, get_or, take, drop}
+use Rattle.prelude.proofs.Basics.{ap₂, subst, ◌∙◌, inl, List, [], ◌∷◌, length, get_or, take, drop}
 use Rattle.prelude.proofs.Basics.{List·getD-eq-default, length-drop, length-take, take-append-drop, get_or-drop}
 use Rattle.prelude.proofs.Basics.{get_or-take, take-take, eqb, leb, eqb-true, ne_eqb}
 use Rattle.prelude.proofs.Basics.{less_or_not}

@@ -20,7 +20,7 @@ use Rattle.writer.proofs.PaddedLaws.{one_said, written_padded}
 use Rattle.args_writer.proofs.Names.{varint_bytes, Stands, stands_length, stands_first, type_of, zigzag, Argument}
 use Rattle.args_writer.proofs.Names.{as_fixed, value_at, scalar, rows_of, no_slots, Slots, field_inside, number_field}
 use Rattle.args_writer.proofs.Names.{bytes_field, fixed_field, fixed_bytes, good_stretch, args_from, behind_tag, Reads}
-use Rattle.args_writer.proofs.Names.{with_number, with_bytes, reads_number, reads_bytes, stands_inside, stretch_of}
+use Rattle.args_writer.proofs.Names.{with_number, with_bytes, reads_number, stands_inside, stretch_of}
 use Rattle.args_writer.proofs.Names.{writable, value_field, scalar_bytes, any_bytes, arg_field, Sized}
 use Rattle.args_writer.specs.Padded.{AppendPadded, AppendedPadded, Made, empty, append, MadePlain, FramePlain}
 use Rattle.args_writer.proofs.FixedBackLaws.{fixed_reads, with_fixed, reads_fixed}

@@ -1,7 +1,6 @@
 -- What is reached is sound, so its image gives it back. Assumes nothing.
 use Rattle.prelude.proofs.Basics.{ℕ, suc, ◌+◌, ◌≤◌, arith, Bool, true, false, cond, ◌≡◌, refl, sym, ap, subst, ◌∙◌}
 use Rattle.prelude.proofs.Basics.{List, [], ◌∷◌, map}
-use Rattle.protocol.specs.Reason as Reason
 use Rattle.session.specs.declared.Cursor.{Cursor}
 use Rattle.session.specs.Session.{Session}
 use Rattle.session.specs.Entry.{is_live_cursor}

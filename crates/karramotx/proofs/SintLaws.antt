@@ -1,5 +1,5 @@
 -- The number of a sint field has 64 bits, since only a varint is kept for it. Assumes nothing.
-use Rattle.prelude.proofs.Basics.{ℕ, zero, suc, ◌+◌, ◌^◌, ◌<◌, arith, mod-lt, Bool, true, false, cond, ◌≡◌, refl, sym}
+use Rattle.prelude.proofs.Basics.{ℕ, zero, suc, ◌^◌, ◌<◌, arith, mod-lt, Bool, true, false, cond, ◌≡◌, refl, sym}
 use Rattle.prelude.proofs.Basics.{ap, subst, List, [], ◌∷◌, length, get_or, set, take, eqb, leb, ltb, eqb-true, both}
 use Rattle.varint.specs.declared.Varint.{Varint}
 use Rattle.varint.specs.Varint.{groups, low64}

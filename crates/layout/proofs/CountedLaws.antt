@@ -1,8 +1,8 @@
 -- The arrays of a message tell how many parts each of its fields with bytes has. Assumes nothing.
 use Rattle.prelude.proofs.Basics.{ℕ, suc, arith, Bool, true, ◌≡◌, refl, sym, ap, ap₂, ◌∙◌, List, [], ◌∷◌}
 use Rattle.prelude.proofs.Basics.{length, get_or, ne_eqb}
-use Rattle.layout.proofs.Names.{len, row_for, wire_of, fields_at, start_of, parts_of, parts_in, Part, Slots}
-use Rattle.layout.specs.Part.{count_of, value_of, len_of}
+use Rattle.layout.proofs.Names.{len, row_for, wire_of, fields_at, parts_of, parts_in, Part, Slots}
+use Rattle.layout.specs.Part.{value_of, len_of}
 use Rattle.layout.specs.Merged.{one_part, merged}
 use Rattle.layout.specs.MergedRules.{holds_bytes, Keeps}
 use Rattle.layout.specs.private.Arrays.{up_to_two, Holds}

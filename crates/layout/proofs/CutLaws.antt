@@ -1,10 +1,9 @@
 -- Parts in bytes that are cut off behind them read alike; and parts inside parts lie within these. Assumes nothing.
-use Rattle.prelude.proofs.Basics.{ℕ, ◌+◌, ◌≤◌, arith, Bool, ◌≡◌, refl, ap, ap₂, subst, ◌∙◌, List, [], ◌∷◌, ◌++◌, length}
-use Rattle.prelude.proofs.Basics.{take, length-take, length-take-le, take-take}
-use Rattle.layout.proofs.Names.{end_of, parts_of, parts_in, parts_onto, no_slots, checked, Part, Slots}
+use Rattle.prelude.proofs.Basics.{ℕ, ◌+◌, ◌≤◌, arith, ◌≡◌, refl, ap, ap₂, List, [], ◌∷◌, ◌++◌, length}
+use Rattle.prelude.proofs.Basics.{take, length-take, take-take}
+use Rattle.layout.proofs.Names.{end_of, parts_of, parts_in, no_slots, checked, Part}
 use Rattle.layout.specs.Merged.{one_part, merged}
-use Rattle.layout.specs.Padded.{parts_padded}
-use Rattle.layout.proofs.MergeLaws.{AllWithin, parts_within, parts_cut, flags_cut}
+use Rattle.layout.proofs.MergeLaws.{AllWithin, parts_within, parts_cut}
 
 pub within_later : (d e : ℕ) → d ≤ e → (ps : List Part) → AllWithin d ps → AllWithin e ps
 unfolding AllWithin

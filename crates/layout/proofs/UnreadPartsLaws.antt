@@ -11,10 +11,10 @@ use Rattle.layout.proofs.Names.{parts_onto, Part, Slots}
 use Rattle.layout.specs.SameBut.{SameBut}
 use Rattle.layout.specs.Reaches.{Reaches, stays, passes}
 use Rattle.layout.specs.Merged.{merged}
-use Rattle.layout.specs.Unchosen.{PartOf, InnerPart, Apart, Every, Unread, InnerUnread}
+use Rattle.layout.specs.Unchosen.{PartOf, InnerPart, Apart, Every, InnerUnread}
 use Rattle.layout.proofs.UnreadLaws.{from_tail, reaches_later, field_itself, field_on_way, tail_behind}
-use Rattle.layout.proofs.UnreadLaws.{from_reached, field_unread}
-use Rattle.layout.proofs.PartsLaws.{by_same, parts_end}
+use Rattle.layout.proofs.UnreadLaws.{from_reached}
+use Rattle.layout.proofs.PartsLaws.{by_same}
 
 -- ---- lists of parts
 

@@ -8,7 +8,7 @@ use Rattle.layout.proofs.ArrayLaws.{held_value, held_none}
 use Rattle.layout.proofs.CountedLaws.{merged_counted, fields_counted, counted_none, counted_one, Several}
 use Rattle.layout.proofs.CountedLaws.{counted_several}
 use Rattle.message.proofs.Names.{prepare_stmt, open_stmt, len, rows_of, wire_of, row_for, fields_at, count_of, value_of}
-use Rattle.message.proofs.Names.{low32, one_part, parts_of, parts_in, merged, Holds, Counted, Part, Slots}
+use Rattle.message.proofs.Names.{low32, parts_in, merged, Holds, Counted, Part, Slots}
 use Rattle.message.proofs.Names.{held_good}
 use Rattle.message.proofs.Names.{payload, if_good, twice, optional_by, optional_of, fetch_in, executes_good, open_by}
 use Rattle.message.proofs.Names.{open_inside, open_parts, open_frame, bodies_good, prepare_by, prepare_inside}

@@ -2,7 +2,6 @@
 use Rattle.prelude.proofs.Basics.{ℕ, ◌+◌, ◌%◌, ◌≤◌, ◌<◌, arith, Bool, true, false, ◌||◌, cond, ◌≡◌, refl, sym, ap}
 use Rattle.prelude.proofs.Basics.{subst, ◌∙◌, List, length, get_or, take-length, eqb, eqb-true, both, or_false, or_same}
 use Rattle.prelude.proofs.Basics.{or_then}
-use Rattle.protocol.specs.Client as Client
 use Rattle.protocol.specs.Reason as Reason
 use Rattle.wire.specs.Padded.{value_padded}
 use Rattle.wire.proofs.PaddedLaws.{quick_flag}

@@ -1,6 +1,6 @@
 -- A statement of two fields, its type and the body that it chooses: what the short way finds is what its rows make of
 -- it. Assumes nothing.
-use Rattle.prelude.proofs.Basics.{ℕ, ◌+◌, ◌*◌, arith, true, cond, ◌≡◌, refl, sym, ap, ◌∙◌, List, length, yes}
+use Rattle.prelude.proofs.Basics.{ℕ, ◌+◌, ◌*◌, arith, true, ◌≡◌, refl, sym, ap, ◌∙◌, List, length, yes}
 use Rattle.protocol.specs.Client as Client
 use Rattle.layout.specs.Fields.{use_of}
 use Rattle.args.proofs.ScalarLaws.{inner_one}

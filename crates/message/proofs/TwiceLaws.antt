@@ -1,7 +1,6 @@
 -- A body that occurs more than once, part by part: whether every argument is good, and whether any varint is padded.
 -- Assumes nothing.
-use Rattle.prelude.proofs.Basics.{ℕ, ◌+◌, ◌≤◌, arith, Bool, true, false, ◌&&◌, ◌||◌, cond, ◌≡◌, refl, sym, ap, ap₂}
-use Rattle.prelude.proofs.Basics.{subst}
+use Rattle.prelude.proofs.Basics.{ℕ, ◌≤◌, arith, Bool, true, false, ◌&&◌, ◌||◌, ◌≡◌, refl, sym, ap, ap₂}
 use Rattle.prelude.proofs.Basics.{◌∙◌, List, [], ◌∷◌, ◌++◌, length, take, length-take-le, take-take, leb, le-leb}
 use Rattle.prelude.proofs.Basics.{or_assoc}
 use Rattle.prelude.proofs.Basics.{or_false, or_same, yes}
@@ -9,7 +8,7 @@ use Rattle.layout.specs.private.NextPart.{Found}
 use Rattle.layout.proofs.MergeLaws.{AllWithin}
 use Rattle.layout.proofs.CutLaws.{parts_by}
 use Rattle.args.specs.Padded.{bound_padded}
-use Rattle.message.proofs.Names.{end_of, parts_of, parts_in, Part, bad_arguments, arguments_in, Arguments}
+use Rattle.message.proofs.Names.{end_of, parts_of, parts_in, Part, arguments_in, Arguments}
 use Rattle.message.proofs.Names.{execute_padded}
 use Rattle.message.proofs.Names.{arguments_within, arguments_good, executes_padded}
 use Rattle.message.proofs.MessageLaws.{within_there}

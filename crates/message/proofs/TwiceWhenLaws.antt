@@ -1,5 +1,5 @@
 -- 17 is told exactly where what is chosen occurs more than once, unless the payload is bad. Assumes nothing.
-use Rattle.prelude.proofs.Basics.{ℕ, ◌-◌, ◌≤◌, arith, Bool, ◌≡◌, refl, ◌⊎◌, inl, inr, List, [], ◌∷◌, length, take, eqb}
+use Rattle.prelude.proofs.Basics.{ℕ, ◌-◌, arith, Bool, ◌≡◌, refl, inl, inr, List, [], ◌∷◌, length, take, eqb}
 use Rattle.prelude.proofs.Basics.{eqb-true, both}
 use Rattle.protocol.specs.Client as Client
 use Rattle.protocol.specs.Reason as Reason

@@ -8,7 +8,7 @@ use Rattle.layout.proofs.UnreadPartsLaws.{every_as, part_in, same_take, ReadsAli
 use Rattle.layout.proofs.UnreadPartsLaws.{inner_unread}
 use Rattle.args.proofs.UnreadLaws.{take_same, embedded_local, arguments_local}
 use Rattle.message.proofs.Names.{Argument, prepare_stmt, stmt_execute, rows_of, fields_at, value_of, low32, end_of}
-use Rattle.message.proofs.Names.{parts_of, parts_in, merged, Part, Slots, arguments_at, no_arguments, together}
+use Rattle.message.proofs.Names.{parts_in, merged, Part, Slots, arguments_at, no_arguments, together}
 use Rattle.message.proofs.Names.{type_in, Arguments, take_size, payload, twice, arguments_within, arguments_good}
 use Rattle.message.proofs.Names.{body_in, bodies_good, prepare_by, stmt_parts, prepare_frame, frame_in, of_head}
 use Rattle.message.proofs.Names.{frame_of}

@@ -1,3 +1,2 @@
 // Nothing that runs: laws that several crates need, in proofs/.
 #![tactic(auto)]
-

@@ -1,5 +1,5 @@
 -- Laws of a reply's bytes. Assumes nothing.
-use Rattle.prelude.proofs.Basics.{◌+◌, ◌^◌, ◌≤◌, ◌<◌, arith, ◌≡◌, refl, sym, ap, ◌∙◌, [], ◌∷◌, ◌++◌, length}
+use Rattle.prelude.proofs.Basics.{◌^◌, ◌≤◌, ◌<◌, arith, ◌≡◌, refl, sym, ap, ◌∙◌, [], ◌∷◌, ◌++◌, length}
 use Rattle.protocol.specs.Server as Server
 use Rattle.varint.specs.Shortest.{shortest}
 use Rattle.varint.proofs.ShortestLaws.{shortest_at_most}

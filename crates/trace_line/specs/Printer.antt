@@ -1,6 +1,6 @@
 -- A printer takes the input in chunks: what it has not printed yet stands at the front of a lent store, and lines go to
 -- the front of a lent buffer (X8).
-use Rattle.std.specs.Prelude.{ℕ, zero, suc, ◌+◌, ◌-◌, min, cond, List, ◌++◌, length, take, nat_le}
+use Rattle.std.specs.Prelude.{ℕ, zero, suc, ◌-◌, min, cond, List, ◌++◌, length, take, nat_le}
 use Rattle.encode.specs.Put.{written}
 use Rattle.session.specs.Session.{Session}
 use Rattle.trace_line.specs.declared.record.Record.{Record}

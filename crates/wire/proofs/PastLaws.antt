@@ -3,7 +3,7 @@ use Rattle.prelude.proofs.Basics.{ℕ, zero, suc, ◌+◌, ◌-◌, ◌%◌, ◌
 use Rattle.prelude.proofs.Basics.{length, eqb, leb, ltb, leb-true, ltb-false, both}
 use Rattle.wire.proofs.Names.{Past, varint_at, Varint, varint_past, tag_of, tag_at, of_varint, as_fixed, of_length}
 use Rattle.wire.proofs.Names.{value_at, behind, skip_value, and_then, group_field, group_fields, group_end, max_depth}
-use Rattle.wire.proofs.Names.{of_value, of_group, of_tag, field_at, PastTag, PastValue, PastSkip, PastField, Field}
+use Rattle.wire.proofs.Names.{of_value, of_group, of_tag, field_at, PastTag, PastValue, PastSkip, PastField}
 use Rattle.wire.proofs.Names.{Skip, Tag, Value}
 
 tag_of_past : (at end : ℕ) (x : Varint) → Past at end x → PastTag at end (tag_of x)

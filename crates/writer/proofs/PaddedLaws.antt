@@ -7,13 +7,13 @@ use Rattle.varint.specs.Shortest.{shortest}
 use Rattle.varint.specs.Padded.{same_bytes, padded_at}
 use Rattle.layout.specs.Table.{rows_of}
 use Rattle.layout.specs.Padded.{part_padded, parts_padded}
-use Rattle.layout.specs.Merged.{one_part, parts_from, parts_in, parts_onto}
-use Rattle.args.specs.Value.{of_any_type, any_of, scalar_of, of_type}
-use Rattle.args.specs.Padded.{inside_any, scalar_padded, inside_scalar}
+use Rattle.layout.specs.Merged.{one_part}
+use Rattle.args.specs.Value.{of_any_type, any_of}
+use Rattle.args.specs.Padded.{inside_any}
 use Rattle.message.specs.Padded.{own_padded, executes_padded, open_stmt_padded, kind_padded, where_read, head_padded}
 use Rattle.message.specs.Padded.{padded_of}
 use Rattle.writer.proofs.Names.{tail_length, stands_length, tail_stands, field_at, field_padded, row_for}
-use Rattle.writer.proofs.Names.{fields_from, has_required, padded_from, Slots, inside_args, argument_padded}
+use Rattle.writer.proofs.Names.{fields_from, has_required, padded_from, inside_args, argument_padded}
 use Rattle.writer.proofs.Names.{execute_padded, max_length, head_of, field_of, payload, frame_of, Frame, Request}
 use Rattle.writer.proofs.Names.{optional_field, frame, args_from, good_stretch, good_prepare, execute_payload}
 use Rattle.writer.proofs.Names.{prepare_stmt_payload, prepare_payload, open_stmt_payload, open_payload, fetch_payload}

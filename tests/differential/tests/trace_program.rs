@@ -23,7 +23,7 @@ fn run(bytes: &[u8], piece: usize) -> Output {
         .stdout(Stdio::piped())
         .stderr(Stdio::piped())
         .spawn()
-        .expect("target/bin/trace, which `rt check trace` builds");
+        .expect("target/bin/trace, which `tools/build trace` builds");
     let (mut input, bytes) = (child.stdin.take().unwrap(), bytes.to_vec());
     // The program stops reading at a bad record, and then the pipe is closed.
     let writer = std::thread::spawn(move || bytes.chunks(piece).all(|p| input.write_all(p).is_ok()));

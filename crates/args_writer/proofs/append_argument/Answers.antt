@@ -1,5 +1,5 @@
 -- Each way out is one of append_reason; the form names the part of the source that the field holds. Assumes nothing.
-use Rattle.prelude.proofs.Basics.{◌+◌, arith, refl, sym, ◌∙◌, length, rules, leb-false, leb-true, not-false, not-true}
+use Rattle.prelude.proofs.Basics.{◌+◌, arith, refl, sym, ◌∙◌, length, leb-false, leb-true, not-false, not-true}
 use Rattle.args_writer.proofs.AppendLaws.{part_within, did_bad, did_full, did_all}
 use Rattle.args_writer.proofs.append_argument.Goals as goal
 

@@ -1,6 +1,6 @@
 -- `arrivals::next_in` meets its contract: a reader that is no part of the store waits; else the head of the bytes held
 -- decides. Assumes nothing.
-use Rattle.prelude.proofs.Basics.{ℕ, arith, sym, ap, ◌∙◌, length, rules}
+use Rattle.prelude.proofs.Basics.{ℕ, arith, sym, ap, ◌∙◌, length}
 use Rattle.protocol.specs.Reason as Reason
 use Rattle.message.specs.declared.head.Head.{Head}
 use Rattle.streams.specs.Reader.{next_by}

@@ -1,7 +1,7 @@
 -- `arrivals::push_at` meets its contract: a bad length takes nothing; else room is made, and what fits is put behind.
 -- Assumes nothing.
-use Rattle.prelude.proofs.Basics.{ℕ, arith, ◌≡◌, sym, ap, ◌∙◌, length-take-le, rules}
-use Rattle.streams.specs.Reader.{Push, reader}
+use Rattle.prelude.proofs.Basics.{ℕ, arith, ◌≡◌, sym, ap, ◌∙◌, length-take-le}
+use Rattle.streams.specs.Reader.{Push}
 use Rattle.streams.specs.declared.Reader.{Reader}
 use Rattle.streams.specs.declared.Pushed.{Pushed}
 use Rattle.arrivals.proofs.ReaderLaws.{push_as, push_bad, taken_room}

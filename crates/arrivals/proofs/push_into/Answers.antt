@@ -1,5 +1,5 @@
 -- `arrivals::push_into` meets its contract: what is usable of a reader is a part of the store. Assumes nothing.
-use Rattle.prelude.proofs.Basics.{ap, ◌∙◌, rules}
+use Rattle.prelude.proofs.Basics.{ap, ◌∙◌}
 use Rattle.streams.specs.Reader.{Push}
 use Rattle.streams.proofs.HeldLaws.{usable_is}
 use Rattle.arrivals.proofs.ReaderLaws.{push_usable}

@@ -1,5 +1,4 @@
 -- `arrivals::settle` meets its contract: what stands first is a bad length, or not. Assumes nothing.
-use Rattle.prelude.proofs.Basics.{rules}
 use Rattle.arrivals.proofs.ReaderLaws.{settled_bad, settled_not}
 use Rattle.arrivals.proofs.settle.Goals as goal
 

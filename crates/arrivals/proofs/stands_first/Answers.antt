@@ -1,5 +1,5 @@
 -- `arrivals::stands_first` meets its contract: the number of the head, case by case. Assumes nothing.
-use Rattle.prelude.proofs.Basics.{sym, ◌∙◌, rules}
+use Rattle.prelude.proofs.Basics.{sym, ◌∙◌}
 use Rattle.arrivals.proofs.ReaderLaws.{stands_as}
 use Rattle.arrivals.proofs.stands_first.Goals as goal
 

@@ -1,5 +1,5 @@
 -- `arrivals::usable_reader` meets its contract: the reader is a part of the store, or not. Assumes nothing.
-use Rattle.prelude.proofs.Basics.{◌∙◌, rules}
+use Rattle.prelude.proofs.Basics.{◌∙◌}
 use Rattle.streams.proofs.HeldLaws.{is_part_lem, is_reversed, is_past, usable_part, usable_none}
 use Rattle.arrivals.proofs.usable_reader.Goals as goal
 

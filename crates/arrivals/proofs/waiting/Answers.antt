@@ -1,5 +1,5 @@
 -- `arrivals::waiting` meets its contract: of nothing, nothing is handed out. Assumes nothing.
-use Rattle.prelude.proofs.Basics.{ap, rules}
+use Rattle.prelude.proofs.Basics.{ap}
 use Rattle.protocol.specs.Reason as Reason
 use Rattle.streams.specs.Reader.{stands_first}
 use Rattle.streams.specs.declared.Reader.{Reader}

@@ -1,5 +1,4 @@
 -- What was read takes the place of the session, or the session stays.
-use Rattle.prelude.proofs.Basics.{rules, not-true, not-false}
 use Rattle.session.specs.Words.{session_of}
 use Rattle.image.proofs.WholeLaws.{accepted_is, refused_is}
 use Rattle.image.proofs.restore.Goals as goal

@@ -1,5 +1,5 @@
 -- The image stands at the front of the array, and what is handed over of it is the image. Assumes nothing.
-use Rattle.prelude.proofs.Basics.{ℕ, ◌≤◌, arith, sym, ap, ◌∙◌, List, length, replicate, length-take-le, rules}
+use Rattle.prelude.proofs.Basics.{ℕ, ◌≤◌, arith, sym, ap, ◌∙◌, List, length, replicate, length-take-le}
 use Rattle.session.specs.Words.{session_of}
 use Rattle.encode.specs.Put.{written}
 use Rattle.encode.proofs.PutsLaws.{front, front_within}

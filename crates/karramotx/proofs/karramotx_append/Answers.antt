@@ -1,6 +1,6 @@
 -- `karramotx::karramotx_append` meets its contract: what is appended is appended of the argument given.
 -- Assumes nothing.
-use Rattle.prelude.proofs.Basics.{ap, ◌∙◌, length, rules}
+use Rattle.prelude.proofs.Basics.{ap, ◌∙◌, length}
 use Rattle.args_writer.specs.Append.{appended_of, left_by}
 use Rattle.karramotx.proofs.karramotx_append.Goals as goal
 

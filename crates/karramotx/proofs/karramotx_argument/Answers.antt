@@ -1,5 +1,5 @@
 -- `karramotx::karramotx_argument` meets its contract: the value told is that of the argument read. Assumes nothing.
-use Rattle.prelude.proofs.Basics.{ap, ◌∙◌, rules}
+use Rattle.prelude.proofs.Basics.{ap, ◌∙◌}
 use Rattle.karramotx.specs.Value.{value_of}
 use Rattle.karramotx.proofs.karramotx_argument.Goals as goal
 

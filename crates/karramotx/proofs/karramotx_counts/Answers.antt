@@ -1,5 +1,5 @@
 -- `karramotx::karramotx_counts` meets its contract: each count is the session's. Assumes nothing.
-use Rattle.prelude.proofs.Basics.{ℕ, ◌≡◌, ap, ◌∙◌, rules}
+use Rattle.prelude.proofs.Basics.{ℕ, ◌≡◌, ap, ◌∙◌}
 use Rattle.karramotx.specs.declared.Counts.{Counts}
 use Rattle.karramotx.proofs.karramotx_counts.Goals as goal
 

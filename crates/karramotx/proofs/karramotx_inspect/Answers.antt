@@ -1,5 +1,5 @@
 -- `karramotx::karramotx_inspect` meets its contract: what was read is inspected. Assumes nothing.
-use Rattle.prelude.proofs.Basics.{ap, ◌∙◌, rules}
+use Rattle.prelude.proofs.Basics.{ap, ◌∙◌}
 use Rattle.message.specs.Padded.{padded_of}
 use Rattle.session.specs.Words.{session_of}
 use Rattle.rules.specs.Step.{look_at}

@@ -1,5 +1,4 @@
 -- `karramotx::karramotx_read` meets its contract: what was read is told. Assumes nothing.
-use Rattle.prelude.proofs.Basics.{rules}
 use Rattle.karramotx.proofs.MessageLaws.{read_says, twice_says, refused_says}
 use Rattle.karramotx.proofs.karramotx_read.Goals as goal
 

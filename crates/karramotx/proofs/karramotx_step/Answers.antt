@@ -1,5 +1,4 @@
 -- `karramotx::karramotx_step` meets its contract: it is that of the keeper's step, clause by clause. Assumes nothing.
-use Rattle.prelude.proofs.Basics.{rules}
 use Rattle.karramotx.proofs.karramotx_step.Goals as goal
 
 pub returns : goal.returns

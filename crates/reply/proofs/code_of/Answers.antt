@@ -1,5 +1,5 @@
 -- `reply::code_of` meets its contract: past the table the definition answers 0 too. Assumes nothing.
-use Rattle.prelude.proofs.Basics.{arith, sym, List·getD-eq-default, rules}
+use Rattle.prelude.proofs.Basics.{arith, sym, List·getD-eq-default}
 use Rattle.reply.specs.Reply.{codes}
 use Rattle.reply.proofs.code_of.Goals as goal
 

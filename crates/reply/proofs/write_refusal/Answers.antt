@@ -1,6 +1,6 @@
 -- `reply::write_refusal` meets its contract: the text stands at the front of the array, and what is lent of it is the
 -- text. Assumes nothing.
-use Rattle.prelude.proofs.Basics.{ℕ, ◌≤◌, arith, sym, ap, length, replicate, length-take-le, rules}
+use Rattle.prelude.proofs.Basics.{ℕ, ◌≤◌, arith, sym, ap, length, replicate, length-take-le}
 use Rattle.encode.proofs.PutsLaws.{if_room_as, front, front_within}
 use Rattle.reply.specs.declared.Refusal.{Refusal}
 use Rattle.reply.specs.Reply.{message_of}

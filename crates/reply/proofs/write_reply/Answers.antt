@@ -1,5 +1,5 @@
 -- `reply::write_reply` meets its contract: one law of `ReplyLaws` for each reply. Assumes nothing.
-use Rattle.prelude.proofs.Basics.{arith, rules}
+use Rattle.prelude.proofs.Basics.{arith}
 use Rattle.encode.proofs.PutsLaws.{equations, puts_room, puts_nothing}
 use Rattle.reply.proofs.ReplyLaws.{reply_nothing, reply_ok, reply_suspended, reply_done, reply_executed}
 use Rattle.reply.proofs.ReplyLaws.{reply_error}

@@ -1,5 +1,4 @@
 -- `trace_line::trace_frame` meets its contract: its line is that of the step. Assumes nothing.
-use Rattle.prelude.proofs.Basics.{rules}
 use Rattle.trace_line.proofs.Names.{session_of, step_of, reply_buffer}
 use Rattle.trace_line.proofs.TraceLaws.{line_traced}
 use Rattle.trace_line.proofs.trace_frame.Goals as goal

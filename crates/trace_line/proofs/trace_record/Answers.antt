@@ -1,6 +1,6 @@
 -- `trace_line::trace_record` meets its contract: a whole record's frame lies within the bytes, and else nothing is
 -- done. Assumes nothing.
-use Rattle.prelude.proofs.Basics.{arith, rules}
+use Rattle.prelude.proofs.Basics.{arith}
 use Rattle.trace_line.proofs.Names.{session_of}
 use Rattle.trace_line.proofs.TraceLaws.{gives, gives_as, traced, whole_traced, whole_within}
 use Rattle.trace_line.proofs.trace_record.Goals as goal

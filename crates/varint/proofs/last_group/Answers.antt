@@ -1,5 +1,5 @@
 -- `varint::last_group` meets its contract: the tenth group has one bit, and must be the last. Assumes nothing.
-use Rattle.prelude.proofs.Basics.{◌^◌, ◌≤◌, ◌<◌, arith, ◌≡◌, sym, ap, ◌∙◌, get_or, rules, or_none, or_same}
+use Rattle.prelude.proofs.Basics.{◌^◌, ◌≤◌, ◌<◌, arith, ◌≡◌, sym, ap, ◌∙◌, get_or, or_none, or_same}
 use Rattle.varint.specs.Varint.{onto, low64}
 use Rattle.varint.proofs.GroupLaws.{groups_end, tenth_last, tenth_more, tenth_none, tenth_over, tenth_told}
 use Rattle.varint.proofs.last_group.Goals as goal

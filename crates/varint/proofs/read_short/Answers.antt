@@ -1,6 +1,6 @@
 -- `varint::read_short` meets its contract: a byte below 128 is the last, and two such groups are the number; all else
 -- goes the long way. Assumes nothing.
-use Rattle.prelude.proofs.Basics.{◌+◌, ◌≤◌, arith, ◌≡◌, sym, ap, ◌∙◌, length, get_or, take-length, rules, or_none}
+use Rattle.prelude.proofs.Basics.{◌+◌, arith, ◌≡◌, sym, ap, ◌∙◌, length, get_or, take-length, or_none}
 use Rattle.prelude.proofs.Basics.{or_same}
 use Rattle.varint.proofs.GroupLaws.{varint_one, varint_none, varint_cut, varint_two}
 use Rattle.varint.proofs.FlagLaws.{padded_none, padded_one, padded_cut, padded_two, behind_answer, behind_flag}

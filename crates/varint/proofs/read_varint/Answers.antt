@@ -1,6 +1,6 @@
 -- `varint::read_varint` meets its contract: a byte below 128 is the number, all else goes the long way. Assumes
 -- nothing.
-use Rattle.prelude.proofs.Basics.{◌≤◌, sym, ap, ◌∙◌, length, get_or, take-length, rules, or_none, or_same}
+use Rattle.prelude.proofs.Basics.{◌≤◌, sym, ap, ◌∙◌, length, get_or, take-length, or_none, or_same}
 use Rattle.varint.proofs.GroupLaws.{varint_one, varint_none}
 use Rattle.varint.proofs.FlagLaws.{padded_none, padded_one, behind_answer, behind_flag}
 use Rattle.varint.proofs.read_varint.Goals as goal

@@ -1,5 +1,5 @@
 -- Each way out is one of draft_reason or write_reason; what is put is the head, and behind it the payload.
-use Rattle.prelude.proofs.Basics.{ℕ, ◌+◌, ◌%◌, arith, sym, ap, ◌∙◌, [], ◌∷◌, ◌++◌, rules, not-false, not-true}
+use Rattle.prelude.proofs.Basics.{ℕ, ◌+◌, ◌%◌, arith, sym, ap, ◌∙◌, [], ◌∷◌, ◌++◌}
 use Rattle.writer.proofs.Names.{four_bytes, puts_as}
 use Rattle.writer.proofs.WriteLaws.{wrote_bad, wrote_long, wrote_short, wrote_all}
 use Rattle.writer.proofs.write_message.Goals as goal

@@ -1,6 +1,6 @@
 -- `args::arguments::handed_out` meets its contract: an object or array has an Any type above that of a scalar.
 -- Assumes nothing.
-use Rattle.prelude.proofs.Basics.{arith, rules}
+use Rattle.prelude.proofs.Basics.{arith}
 use Rattle.args.proofs.ArgumentsLaws.{handed_out_composite, handed_out_plain}
 use Rattle.args.proofs.arguments.handed_out.Goals as goal
 

@@ -1,6 +1,6 @@
 -- `args::arguments::next_argument` meets its contract: each arm is what the next place makes of the argument. Assumes
 -- nothing.
-use Rattle.prelude.proofs.Basics.{sym, ap, ◌∙◌, rules}
+use Rattle.prelude.proofs.Basics.{sym, ap, ◌∙◌}
 use Rattle.args.proofs.Names.{NextArgument}
 use Rattle.args.proofs.PlaceLaws.{next_placed}
 use Rattle.args.proofs.arguments.next_argument.Goals as goal

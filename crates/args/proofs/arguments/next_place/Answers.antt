@@ -1,6 +1,6 @@
 -- `args::arguments::next_place` meets its contract: an args field is known by its tag; the rest is looked for. Assumes
 -- nothing.
-use Rattle.prelude.proofs.Basics.{ℕ, sym, ap, ◌∙◌, List, length, take-length, rules}
+use Rattle.prelude.proofs.Basics.{ℕ, sym, ap, ◌∙◌, List, length, take-length}
 use Rattle.args.proofs.Names.{arg_place, place_of}
 use Rattle.args.proofs.PlaceLaws.{place_none, place_here}
 use Rattle.args.proofs.arguments.next_place.Goals as goal

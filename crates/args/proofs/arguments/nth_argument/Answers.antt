@@ -1,8 +1,8 @@
 -- `args::arguments::nth_argument` meets its contract: each turn of the loop is one law on `Counting`. Assumes nothing.
-use Rattle.prelude.proofs.Basics.{◌-◌, arith, sym, ap, ◌∙◌, length, rules}
+use Rattle.prelude.proofs.Basics.{arith, sym, ap, ◌∙◌}
 use native.Mathlib.Nat.{pos_of_ne-zero}
 use Rattle.args.proofs.Names.{handed_out}
-use Rattle.args.proofs.ArgumentsLaws.{Counting, count_starts, count_none, count_end, count_hit, count_on}
+use Rattle.args.proofs.ArgumentsLaws.{count_starts, count_none, count_end, count_hit, count_on}
 use Rattle.args.proofs.ArgumentsLaws.{advances}
 use Rattle.args.proofs.arguments.nth_argument.Goals as goal
 

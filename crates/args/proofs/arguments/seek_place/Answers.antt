@@ -1,6 +1,6 @@
 -- `args::arguments::seek_place` meets its contract: each turn of the loop is one law on `Seeking`. Assumes nothing.
-use Rattle.prelude.proofs.Basics.{◌-◌, arith, sym, ◌∙◌, length, rules}
-use Rattle.args.proofs.PlaceLaws.{Seeking, starts, ends, no_field, advances, found, other_wire, other_number}
+use Rattle.prelude.proofs.Basics.{arith, sym, ◌∙◌}
+use Rattle.args.proofs.PlaceLaws.{starts, ends, no_field, advances, found, other_wire, other_number}
 use Rattle.args.proofs.arguments.seek_place.Goals as goal
 
 pub loop-p-init : goal.loop-p-init

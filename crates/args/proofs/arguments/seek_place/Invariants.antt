@@ -1,6 +1,6 @@
 -- `args::arguments::seek_place` meets its contract: each turn of the loop is one law on `Seeking`. Assumes nothing.
-use Rattle.prelude.proofs.Basics.{◌-◌, arith, sym, ◌∙◌, length, rules}
-use Rattle.args.proofs.PlaceLaws.{Seeking, starts, ends, no_field, advances, found, other_wire, other_number}
+use Rattle.prelude.proofs.Basics.{◌-◌, length}
+use Rattle.args.proofs.PlaceLaws.{Seeking}
 use Rattle.args.proofs.arguments.seek_place.Given as goal
 
 abbrev pub invariant-loop-p : goal.invariant-loop-p

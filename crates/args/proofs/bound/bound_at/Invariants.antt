@@ -1,10 +1,7 @@
 -- Each turn of the loop is one law on `Binding` and one on `Marking`.
-use Rattle.prelude.proofs.Basics.{ℕ, ◌-◌, ◌<◌, arith, true, false, ◌≡◌, sym, ap, ◌∙◌, length, rules, not-false}
-use Rattle.prelude.proofs.Basics.{not-true, or_none, or_same}
-use Rattle.args.proofs.Names.{field_at, Field, Marking, marks, marked, marks_on, inside_args, Bound}
-use Rattle.args.specs.private.Bound.{bad_bound}
-use Rattle.args.proofs.BoundLaws.{Binding, binds, done, no_field, ahead, passes, spoils, counts_one, inside_args_lem}
-use Rattle.args.proofs.BoundLaws.{inside_other, typed}
+use Rattle.prelude.proofs.Basics.{◌-◌, length}
+use Rattle.args.proofs.Names.{Marking, inside_args}
+use Rattle.args.proofs.BoundLaws.{Binding}
 use Rattle.args.proofs.bound.bound_at.Given as goal
 
 abbrev pub invariant-loop-p : goal.invariant-loop-p

@@ -1,5 +1,5 @@
 -- An args field is known by its tag; the rest goes the long way.
-use Rattle.prelude.proofs.Basics.{ℕ, arith, refl, sym, ap, ◌∙◌, List, length, take-length, rules, or_same}
+use Rattle.prelude.proofs.Basics.{ℕ, arith, refl, sym, ap, ◌∙◌, List, length, take-length, or_same}
 use Rattle.args.proofs.Names.{of_value, field_at, field_padded, quick_flag}
 use Rattle.args.proofs.PlaceLaws.{args_here}
 use Rattle.args.proofs.bound.field_at.Goals as goal

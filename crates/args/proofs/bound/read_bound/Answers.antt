@@ -1,5 +1,5 @@
 -- The message is cut off behind its last byte.
-use Rattle.prelude.proofs.Basics.{◌+◌, arith, sym, ◌∙◌, length-take-le, rules, or_none, or_same}
+use Rattle.prelude.proofs.Basics.{◌+◌, arith, sym, ◌∙◌, length-take-le, or_none, or_same}
 use Rattle.args.proofs.BoundLaws.{bound_past, bound_cut, execute_past, execute_cut}
 use Rattle.args.proofs.bound.read_bound.Goals as goal
 

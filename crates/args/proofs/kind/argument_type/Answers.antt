@@ -1,9 +1,9 @@
 -- By the laws on one field and on two a short way answers what the rows do; the rest goes the long way.
-use Rattle.prelude.proofs.Basics.{ℕ, ◌<◌, arith, sym, ap, subst, ◌∙◌, List, length, take-length, rules, or_none}
+use Rattle.prelude.proofs.Basics.{ℕ, ◌<◌, arith, sym, ap, subst, ◌∙◌, List, length, take-length, or_none}
 use Rattle.prelude.proofs.Basics.{or_same, or_then}
 use Rattle.args.proofs.Names.{one_part, any_type_of, scalar_padded, argument_padded}
 use Rattle.args.specs.private.Pair.{pair_padded}
-use Rattle.args.proofs.ScalarLaws.{Held, named_fits, object_read, array_read, scalar_read, long_argument_read}
+use Rattle.args.proofs.ScalarLaws.{named_fits, object_read, array_read, scalar_read, long_argument_read}
 use Rattle.args.proofs.InsideLaws.{object_flag, array_flag, scalar_flag, any_again}
 use Rattle.args.proofs.kind.argument_type.Goals as goal
 

@@ -1,11 +1,11 @@
 -- Each key names a type and the tag of its value; by the laws on them the rows hold such a value, which is a scalar.
-use Rattle.prelude.proofs.Basics.{ℕ, ◌<◌, arith, Bool, ◌||◌, ◌≡◌, refl, sym, ap, subst, ◌∙◌, List, length, take}
-use Rattle.prelude.proofs.Basics.{take-length, rules, or_none, or_same, or_then}
+use Rattle.prelude.proofs.Basics.{ℕ, ◌<◌, arith, refl, sym, ap, subst, ◌∙◌, List, length}
+use Rattle.prelude.proofs.Basics.{take-length, or_none, or_same, or_then}
 use lib.Ieee.{binary32, binary64, of_bits, nan_bits}
 use Rattle.scalar.specs.declared.argument.Argument.TheVariants as Va
 use Rattle.args.proofs.Names.{low32, one_part, part_padded, any_type_of, scalar_padded}
 use Rattle.args.specs.private.Pair.{pair_padded}
-use Rattle.args.proofs.ScalarLaws.{Held, named_fits, null_read, long_scalar_read, sint_read, uint_read}
+use Rattle.args.proofs.ScalarLaws.{named_fits, null_read, long_scalar_read, sint_read, uint_read}
 use Rattle.args.proofs.ScalarLaws.{octets_read, double_read, float_read, bool_read, string_read}
 use Rattle.args.proofs.InsideLaws.{null_flag, sint_flag, uint_flag, octets_flag, double_flag, float_flag}
 use Rattle.args.proofs.InsideLaws.{bool_flag, string_flag, scalar_again}

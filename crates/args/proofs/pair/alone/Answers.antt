@@ -1,5 +1,5 @@
 -- The bytes end with the message or they do not.
-use Rattle.prelude.proofs.Basics.{arith, sym, ap, rules}
+use Rattle.prelude.proofs.Basics.{arith, sym, ap}
 use Rattle.args.specs.private.Pair.{text_of}
 use Rattle.args.proofs.TextLaws.{text_ends, text_goes_on}
 use Rattle.args.proofs.pair.alone.Goals as goal

@@ -1,6 +1,6 @@
 -- `args::pair::pair_at` meets its contract: each test of the code is the test of the definition at the same byte.
 -- Assumes nothing.
-use Rattle.prelude.proofs.Basics.{arith, ◌∙◌, rules, or_none, or_same}
+use Rattle.prelude.proofs.Basics.{arith, ◌∙◌, or_none, or_same}
 use Rattle.args.proofs.PairLaws.{at_short, at_other, at_long_first, at_long_tag, at_pair}
 use Rattle.args.proofs.PaddedLaws.{flag_short, flag_other, flag_long_first, flag_long_tag, flag_pair}
 use Rattle.args.proofs.pair.pair_at.Goals as goal

@@ -1,5 +1,5 @@
 -- `args::pair::paired` meets its contract: the value ends with the message or it does not. Assumes nothing.
-use Rattle.prelude.proofs.Basics.{arith, sym, ap, rules}
+use Rattle.prelude.proofs.Basics.{arith, sym, ap}
 use Rattle.args.specs.private.Pair.{pair_of}
 use Rattle.args.proofs.PairLaws.{pair_ends, pair_goes_on}
 use Rattle.args.proofs.pair.paired.Goals as goal

@@ -1,5 +1,5 @@
 -- Each test of the code is the test of the definition at the same bytes.
-use Rattle.prelude.proofs.Basics.{arith, rules}
+use Rattle.prelude.proofs.Basics.{arith}
 use Rattle.args.proofs.PairLaws.{lone_longer, lone_past, lone_other, lone_long, lone_found}
 use Rattle.args.proofs.pair.read_lone.Goals as goal
 

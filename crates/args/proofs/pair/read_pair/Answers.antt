@@ -1,5 +1,5 @@
 -- The message is cut off behind its last byte.
-use Rattle.prelude.proofs.Basics.{◌+◌, arith, ◌∙◌, length-take, rules, or_none, or_same}
+use Rattle.prelude.proofs.Basics.{◌+◌, arith, ◌∙◌, length-take, or_none, or_same}
 use Rattle.args.proofs.PairLaws.{in_past, in_cut}
 use Rattle.args.proofs.PaddedLaws.{pair_past, pair_cut}
 use Rattle.args.proofs.pair.read_pair.Goals as goal

@@ -1,5 +1,5 @@
 -- The message is cut off behind its last byte.
-use Rattle.prelude.proofs.Basics.{◌+◌, arith, ◌∙◌, length-take, rules, or_none, or_same}
+use Rattle.prelude.proofs.Basics.{◌+◌, arith, ◌∙◌, length-take, or_none, or_same}
 use Rattle.args.proofs.TextLaws.{text_past, text_cut}
 use Rattle.args.proofs.PaddedLaws.{text_flag_past, text_flag_cut}
 use Rattle.args.proofs.pair.read_text.Goals as goal

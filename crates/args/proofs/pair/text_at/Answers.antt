@@ -1,5 +1,5 @@
 -- Each test of the code is the test of the definition at the same byte.
-use Rattle.prelude.proofs.Basics.{◌∙◌, rules, or_none, or_same}
+use Rattle.prelude.proofs.Basics.{◌∙◌, or_none, or_same}
 use Rattle.args.proofs.TextLaws.{text_none, text_other, text_read}
 use Rattle.args.proofs.PaddedLaws.{text_flag_none, text_flag_other, text_flag_read}
 use Rattle.args.proofs.pair.text_at.Goals as goal

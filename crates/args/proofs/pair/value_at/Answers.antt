@@ -1,6 +1,6 @@
 -- `args::pair::value_at` meets its contract: a number or a length of one byte is that byte; the rest goes the long way.
 -- Assumes nothing.
-use Rattle.prelude.proofs.Basics.{ℕ, sym, ap, ◌∙◌, List, length, take-length, rules, or_none, or_same}
+use Rattle.prelude.proofs.Basics.{ℕ, sym, ap, ◌∙◌, List, length, take-length, or_none, or_same}
 use Rattle.wire.proofs.PaddedLaws.{one_flag, number_flag, length_flag}
 use Rattle.args.proofs.Names.{value_at, value_padded}
 use Rattle.args.proofs.PairLaws.{quick_number, quick_length}

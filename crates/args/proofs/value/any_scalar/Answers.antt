@@ -1,8 +1,8 @@
 -- `args::value::any_scalar` meets its contract: none, one part or several. Assumes nothing.
-use Rattle.prelude.proofs.Basics.{ℕ, ◌+◌, ◌<◌, arith, ◌≡◌, sym, ap, ◌∙◌, List, rules, or_same, eq-eqb, yes}
+use Rattle.prelude.proofs.Basics.{◌+◌, arith, sym, ap, ◌∙◌, or_same, eq-eqb, yes}
 use Rattle.prelude.proofs.Basics.{length-take-le}
 use Rattle.layout.proofs.CountedLaws.{counted_one}
-use Rattle.args.proofs.Names.{Argument, one_part, Part, bad, scalar_in, scalar_padded}
+use Rattle.args.proofs.Names.{bad, scalar_in, scalar_padded}
 use Rattle.args.proofs.PartedLaws.{here, parted_cut, parted_flag_cut}
 use Rattle.args.proofs.value.any_scalar.Goals as goal
 

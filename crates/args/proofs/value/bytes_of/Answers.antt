@@ -1,5 +1,5 @@
 -- `args::value::bytes_of` meets its contract: the choice of the definition. Assumes nothing.
-use Rattle.prelude.proofs.Basics.{rules, yes, no}
+use Rattle.prelude.proofs.Basics.{yes, no}
 use Rattle.args.proofs.value.bytes_of.Goals as goal
 
 pub returns-then-octets : goal.returns-then-octets

@@ -1,7 +1,7 @@
 -- `args::value::bytes_value` meets its contract: none, one part or several. Assumes nothing.
-use Rattle.prelude.proofs.Basics.{ℕ, ◌<◌, arith, ◌≡◌, sym, ap, ◌∙◌, List, rules, or_same, eq-eqb, yes}
+use Rattle.prelude.proofs.Basics.{arith, sym, ap, ◌∙◌, or_same, eq-eqb, yes}
 use Rattle.layout.proofs.CountedLaws.{counted_one}
-use Rattle.args.proofs.Names.{Argument, one_part, parts_padded, Part, bad, bytes_in}
+use Rattle.args.proofs.Names.{bad, bytes_in}
 use Rattle.args.proofs.PartedLaws.{here, one_padded}
 use Rattle.args.proofs.value.bytes_value.Goals as goal
 

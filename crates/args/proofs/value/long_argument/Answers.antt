@@ -1,6 +1,6 @@
 -- `args::value::long_argument` meets its contract: the arrays hold the fields of the Any, whose type decides. Assumes
 -- nothing.
-use Rattle.prelude.proofs.Basics.{ℕ, ◌<◌, arith, ◌≡◌, refl, sym, ap, ◌∙◌, rules, not-false, not-true, or_none, or_same}
+use Rattle.prelude.proofs.Basics.{arith, refl, sym, ap, ◌∙◌, or_none, or_same}
 use Rattle.prelude.proofs.Basics.{or_then}
 use Rattle.layout.proofs.ArrayLaws.{held_value}
 use Rattle.args.proofs.Names.{any, rows_of, embedded, low32, part_padded, scalar_in, of_any_type, scalar_parts}

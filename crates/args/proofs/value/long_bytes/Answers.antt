@@ -1,5 +1,5 @@
 -- `args::value::long_bytes` meets its contract: the arrays hold the message. Assumes nothing.
-use Rattle.prelude.proofs.Basics.{◌∙◌, rules, not-false, not-true}
+use Rattle.prelude.proofs.Basics.{◌∙◌}
 use Rattle.args.proofs.Names.{bytes, rows_of, one_part}
 use Rattle.args.proofs.ArrayLaws.{bytes_held, bytes_refused}
 use Rattle.args.proofs.PartedLaws.{held_one}

@@ -1,9 +1,7 @@
 -- `args::value::long_scalar` meets its contract: the arrays hold the fields of the Scalar. Assumes nothing.
-use Rattle.prelude.proofs.Basics.{◌+◌, ◌<◌, ◌≤◌, arith, ◌||◌, sym, ap, ◌∙◌, length, length-take-le, rules, not-false}
-use Rattle.prelude.proofs.Basics.{not-true}
+use Rattle.prelude.proofs.Basics.{◌+◌, arith, ◌||◌, sym, ap, ◌∙◌, length-take-le}
 use Rattle.prelude.proofs.Basics.{or_same, or_then}
-use Rattle.layout.specs.private.Arrays.{Holds}
-use Rattle.args.proofs.Names.{scalar, rows_of, embedded, one_part, merged, part_padded, inside_scalar}
+use Rattle.args.proofs.Names.{scalar, rows_of, one_part, merged, part_padded, inside_scalar}
 use Rattle.args.proofs.ArrayLaws.{scalar_refused}
 use Rattle.args.proofs.InsideLaws.{one_flag}
 use Rattle.args.proofs.PartedLaws.{held_good, held_one, held_within, held_cut, whole_cut, whole_inside}

@@ -1,8 +1,6 @@
 -- `args::value::parted_bytes` meets its contract: the arrays hold the message, from all its parts. Assumes nothing.
-use Rattle.prelude.proofs.Basics.{◌<◌, arith, Bool, true, ◌||◌, ◌≡◌, ap, ◌∙◌, List, rules, not-false, not-true, or_same}
-use Rattle.layout.specs.private.Arrays.{Holds}
-use Rattle.args.proofs.Names.{bytes, rows_of, parts_of, parts_in, merged, parts_padded, Part}
-use Rattle.args.specs.private.Parts.{scalar_by}
+use Rattle.prelude.proofs.Basics.{arith, ap, ◌∙◌, or_same}
+use Rattle.args.proofs.Names.{bytes, rows_of, parts_padded}
 use Rattle.args.proofs.ArrayLaws.{bytes_held, bytes_refused}
 use Rattle.args.proofs.PartedLaws.{by_whole, by_parts, held_parts}
 use Rattle.args.proofs.value.parted_bytes.Goals as goal

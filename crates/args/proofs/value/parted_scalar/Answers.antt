@@ -1,6 +1,5 @@
 -- `args::value::parted_scalar` meets its contract: the arrays hold the fields of all parts. Assumes nothing.
-use Rattle.prelude.proofs.Basics.{◌<◌, arith, refl, rules, not-false, not-true, or_then}
-use Rattle.layout.specs.private.Arrays.{Holds}
+use Rattle.prelude.proofs.Basics.{arith, or_then}
 use Rattle.args.proofs.Names.{scalar, rows_of, parts_of, merged, parts_padded, inside_scalar}
 use Rattle.args.proofs.ArrayLaws.{scalar_refused}
 use Rattle.args.proofs.PartedLaws.{held_good, scalar_whole}

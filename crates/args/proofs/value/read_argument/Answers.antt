@@ -1,7 +1,7 @@
 -- By the laws on one field and on two, a short way answers what the rows do; the rest goes the long way.
 -- where a pair is read, the bytes hold it
-use Rattle.prelude.proofs.Basics.{arith, sym, ap, ◌∙◌, length, take-length, rules}
-use Rattle.args.proofs.ScalarLaws.{Held, named_fits, object_read, array_read, scalar_read, long_argument_read}
+use Rattle.prelude.proofs.Basics.{arith, sym, ap, ◌∙◌, length, take-length}
+use Rattle.args.proofs.ScalarLaws.{named_fits, object_read, array_read, scalar_read, long_argument_read}
 use Rattle.args.proofs.value.read_argument.Goals as goal
 
 pub returns-then-alone-eq-OBJECT : goal.returns-then-alone-eq-OBJECT

@@ -1,7 +1,6 @@
 -- By the law on the field alone the short way answers what the rows do; the rest goes the long way.
-use Rattle.prelude.proofs.Basics.{ℕ, ◌||◌, cond, ◌≡◌, sym, ap, ◌∙◌, List, length, take-length, rules, yes}
+use Rattle.prelude.proofs.Basics.{ℕ, sym, ap, ◌∙◌, List, length, take-length, yes}
 use Rattle.prelude.proofs.Basics.{no as without, or_same, or_then}
-use Rattle.scalar.specs.declared.argument.Argument.TheVariants as Va
 use Rattle.args.proofs.Names.{one_part, part_padded, bytes_in}
 use Rattle.args.specs.private.Pair.{text_padded}
 use Rattle.args.proofs.TextLaws.{text_bytes}

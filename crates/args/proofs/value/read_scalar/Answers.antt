@@ -1,7 +1,7 @@
 -- Each key names a type and the tag of its value, and a law says what the rows make of the two.
 -- where a pair is read, the bytes hold it
-use Rattle.prelude.proofs.Basics.{arith, sym, ap, ◌∙◌, length, take-length, rules}
-use Rattle.args.proofs.ScalarLaws.{Held, named_fits, null_read, long_scalar_read, sint_read, uint_read}
+use Rattle.prelude.proofs.Basics.{arith, sym, ap, ◌∙◌, length, take-length}
+use Rattle.args.proofs.ScalarLaws.{named_fits, null_read, long_scalar_read, sint_read, uint_read}
 use Rattle.args.proofs.ScalarLaws.{octets_read, double_read, float_read, bool_read, string_read}
 use Rattle.args.proofs.value.read_scalar.Goals as goal
 

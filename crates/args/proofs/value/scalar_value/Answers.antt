@@ -1,16 +1,15 @@
 -- `args::value::scalar_value` meets its contract: the Scalar type decides, an arm for each. Assumes nothing.
 -- the Scalar that the arrays hold; its type decides what is made of it
-use Rattle.prelude.proofs.Basics.{ℕ, ◌<◌, arith, true, not, ◌||◌, ◌≡◌, refl, sym, ap, ◌∙◌, List, get_or, eqb, rules}
+use Rattle.prelude.proofs.Basics.{arith, true, not, refl, sym, ap, ◌∙◌, get_or, eqb}
 use Rattle.prelude.proofs.Basics.{or_none}
 use Rattle.prelude.proofs.Basics.{or_same, false}
 use Rattle.scalar.specs.declared.argument.Argument.TheVariants as Va
-use Rattle.layout.specs.private.Arrays.{Holds}
-use Rattle.args.proofs.Names.{signed_of, double_of, float_of, scalar, rows_of, count_of, low32, merged, Part, Slots}
-use Rattle.args.proofs.Names.{present, of_type, scalar_in, bytes_padded, inside_scalar, parts_in, bytes_in}
+use Rattle.args.proofs.Names.{signed_of, double_of, float_of, scalar, rows_of, low32, merged}
+use Rattle.args.proofs.Names.{present, of_type, parts_in, bytes_in}
 use Rattle.args.specs.private.Parts.{scalar_by}
 use Rattle.args.proofs.ArrayLaws.{present_held, number_held, scalar_typed, type_held}
 use Rattle.args.proofs.ValueLaws.{type_none}
-use Rattle.args.proofs.InsideLaws.{bytes_none, scalar_by_type}
+use Rattle.args.proofs.InsideLaws.{scalar_by_type}
 use Rattle.args.proofs.PartedLaws.{octets_counted, string_counted}
 use Rattle.args.proofs.value.scalar_value.Goals as goal
 

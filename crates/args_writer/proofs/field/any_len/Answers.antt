@@ -1,6 +1,6 @@
 -- `args_writer::field::any_len` meets its contract: an Any is its type, a prefix and its scalar, and both are short.
 -- Assumes nothing.
-use Rattle.prelude.proofs.Basics.{ℕ, arith, ap, length, rules}
+use Rattle.prelude.proofs.Basics.{ℕ, arith, ap, length}
 use Rattle.args_writer.proofs.Names.{prefix_of, number_short, prefix_short}
 use Rattle.args_writer.specs.private.Form.{value_in}
 use Rattle.args_writer.proofs.SizeLaws.{scalar_short, any_parts}

@@ -1,6 +1,6 @@
 -- `args_writer::field::field_len` meets its contract: a field is its prefix and its Any, and both are short.
 -- Assumes nothing.
-use Rattle.prelude.proofs.Basics.{ℕ, arith, ap, length, rules}
+use Rattle.prelude.proofs.Basics.{ℕ, arith, ap, length}
 use Rattle.args_writer.proofs.Names.{prefix_of, prefix_short, bytes_sum, any_bytes}
 use Rattle.args_writer.specs.private.Form.{value_in}
 use Rattle.args_writer.proofs.SizeLaws.{any_short}

@@ -1,5 +1,5 @@
 -- `args_writer::field::inner_len` meets its contract: the bytes stand behind their prefix, in field 1. Assumes nothing.
-use Rattle.prelude.proofs.Basics.{arith, length, rules}
+use Rattle.prelude.proofs.Basics.{arith, length}
 use Rattle.args_writer.proofs.Names.{prefix_short, bytes_sum}
 use Rattle.args_writer.proofs.field.inner_len.Goals as goal
 

@@ -1,5 +1,4 @@
 -- `args_writer::field::put_any` meets its contract: what its parts put stands one behind the other. Assumes nothing.
-use Rattle.prelude.proofs.Basics.{rules}
 use Rattle.encode.proofs.PutsLaws.{puts_then}
 use Rattle.args_writer.proofs.Names.{puts_counted, scalar_bytes, any_bytes}
 use Rattle.args_writer.specs.private.Form.{value_in}

@@ -1,5 +1,4 @@
 -- `args_writer::field::put_field` meets its contract: its prefix counts the Any behind it. Assumes nothing.
-use Rattle.prelude.proofs.Basics.{rules}
 use Rattle.args_writer.proofs.Names.{puts_counted, any_bytes}
 use Rattle.args_writer.specs.private.Form.{value_in}
 use Rattle.args_writer.proofs.field.put_field.Goals as goal

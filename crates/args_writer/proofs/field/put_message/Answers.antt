@@ -1,5 +1,4 @@
 -- `args_writer::field::put_message` meets its contract: its prefix counts the bytes field behind it. Assumes nothing.
-use Rattle.prelude.proofs.Basics.{rules}
 use Rattle.args_writer.proofs.Names.{bytes_field, puts_counted}
 use Rattle.args_writer.proofs.field.put_message.Goals as goal
 

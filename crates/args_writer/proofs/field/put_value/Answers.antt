@@ -1,5 +1,5 @@
 -- `args_writer::field::put_value` meets its contract: a law of `SizeLaws` for each wire type. Assumes nothing.
-use Rattle.prelude.proofs.Basics.{sym, rules}
+use Rattle.prelude.proofs.Basics.{sym}
 use Rattle.encode.proofs.PutsLaws.{puts_as, puts_nothing}
 use Rattle.args_writer.proofs.SizeLaws.{as_number, as_eight, as_bytes, as_four, as_none}
 use Rattle.args_writer.proofs.field.put_value.Goals as goal

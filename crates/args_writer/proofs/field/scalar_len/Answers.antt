@@ -1,6 +1,6 @@
 -- `args_writer::field::scalar_len` meets its contract: a scalar is its type and its value, and both are short.
 -- Assumes nothing.
-use Rattle.prelude.proofs.Basics.{arith, rules}
+use Rattle.prelude.proofs.Basics.{arith}
 use Rattle.args_writer.proofs.Names.{number_short}
 use Rattle.args_writer.specs.private.Form.{value_in}
 use Rattle.args_writer.proofs.SizeLaws.{value_short, scalar_parts}

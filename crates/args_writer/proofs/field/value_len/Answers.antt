@@ -1,5 +1,5 @@
 -- `args_writer::field::value_len` meets its contract: a law of `SizeLaws` for each wire type. Assumes nothing.
-use Rattle.prelude.proofs.Basics.{ℕ, ◌+◌, ◌*◌, arith, sym, ap, ◌∙◌, length, rules}
+use Rattle.prelude.proofs.Basics.{ℕ, ◌+◌, ◌*◌, arith, sym, ap, ◌∙◌, length}
 use Rattle.args_writer.proofs.Names.{varint_length, prefix_of, bytes_field, prefix_short, bytes_sum, fixed_parts}
 use Rattle.args_writer.proofs.SizeLaws.{as_number, as_eight, as_bytes, as_four, as_none}
 use Rattle.args_writer.proofs.field.value_len.Goals as goal

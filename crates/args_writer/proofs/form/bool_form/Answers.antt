@@ -1,5 +1,5 @@
 -- `args_writer::form::bool_form` meets its contract: the number is 1 or 0 as the bool is. Assumes nothing.
-use Rattle.prelude.proofs.Basics.{Bool, cond, sym, ap, ◌∙◌, rules}
+use Rattle.prelude.proofs.Basics.{Bool, cond, sym, ap, ◌∙◌}
 use Rattle.protocol.specs.Scalars as Scalars
 use Rattle.args_writer.specs.private.Form.{value_form}
 use Rattle.args_writer.proofs.form.bool_form.Goals as goal

@@ -1,6 +1,6 @@
 -- `args_writer::form::bytes_form` meets its contract: there is a form where the bytes end within those beside it.
 -- Assumes nothing.
-use Rattle.prelude.proofs.Basics.{arith, ◌∙◌, rules}
+use Rattle.prelude.proofs.Basics.{arith, ◌∙◌}
 use Rattle.args_writer.proofs.FormLaws.{bytes_past, bytes_in}
 use Rattle.args_writer.proofs.form.bytes_form.Goals as goal
 

@@ -1,5 +1,5 @@
 -- `args_writer::form::double_form` meets its contract: a NaN has no form, any other double its bits. Assumes nothing.
-use Rattle.prelude.proofs.Basics.{◌∙◌, rules, yes, no}
+use Rattle.prelude.proofs.Basics.{◌∙◌, yes, no}
 use lib.Ieee.{binary64, to_bits}
 use Rattle.protocol.specs.Scalars as Scalars
 use Rattle.args_writer.specs.private.Form.{no_form, value_form}

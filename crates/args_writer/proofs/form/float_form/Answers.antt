@@ -1,5 +1,5 @@
 -- `args_writer::form::float_form` meets its contract: a NaN has no form, any other float its bits. Assumes nothing.
-use Rattle.prelude.proofs.Basics.{ℕ, ap, ◌∙◌, rules, yes, no}
+use Rattle.prelude.proofs.Basics.{ℕ, ap, ◌∙◌, yes, no}
 use lib.Ieee.{binary32, to_bits}
 use Rattle.protocol.specs.Scalars as Scalars
 use Rattle.args_writer.specs.private.Form.{no_form, value_form}

@@ -1,6 +1,6 @@
 -- `args_writer::form::float_nan_form` meets its contract: the bits are those of a NaN, or there is no form.
 -- Assumes nothing.
-use Rattle.prelude.proofs.Basics.{◌∙◌, rules, yes, no}
+use Rattle.prelude.proofs.Basics.{◌∙◌, yes, no}
 use lib.Ieee.{binary32}
 use Rattle.protocol.specs.Scalars as Scalars
 use Rattle.args_writer.proofs.Names.{is_nan_lem, no_nan}

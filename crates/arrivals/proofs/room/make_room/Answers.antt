@@ -1,6 +1,5 @@
 -- `arrivals::room::make_room` meets its contract: there is room behind the bytes held, or they are moved. Assumes
 -- nothing.
-use Rattle.prelude.proofs.Basics.{rules}
 use Rattle.arrivals.proofs.RoomLaws.{room_there, room_made}
 use Rattle.arrivals.proofs.room.make_room.Goals as goal
 

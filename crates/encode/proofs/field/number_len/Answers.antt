@@ -1,5 +1,5 @@
 -- `encode::field::number_len` meets its contract: the lengths of two varints. Assumes nothing.
-use Rattle.prelude.proofs.Basics.{◌*◌, arith, rules}
+use Rattle.prelude.proofs.Basics.{◌*◌, arith}
 use Rattle.varint.proofs.VarintLaws.{varint_length}
 use Rattle.encode.proofs.FieldLaws.{number_parts}
 use Rattle.encode.proofs.field.number_len.Goals as goal

@@ -1,5 +1,5 @@
 -- `encode::field::optional_len` meets its contract: a field that is absent has no byte. Assumes nothing.
-use Rattle.prelude.proofs.Basics.{ap, ◌∙◌, length, rules}
+use Rattle.prelude.proofs.Basics.{ap, ◌∙◌, length}
 use Rattle.encode.proofs.FieldLaws.{optional_there, optional_absent}
 use Rattle.encode.proofs.field.optional_len.Goals as goal
 

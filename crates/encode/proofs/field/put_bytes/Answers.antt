@@ -1,5 +1,5 @@
 -- `encode::field::put_bytes` meets its contract: the bytes stand behind their prefix. Assumes nothing.
-use Rattle.prelude.proofs.Basics.{refl, rules}
+use Rattle.prelude.proofs.Basics.{refl}
 use Rattle.encode.proofs.FieldLaws.{puts_counted}
 use Rattle.encode.proofs.field.put_bytes.Goals as goal
 

@@ -1,5 +1,4 @@
 -- `encode::field::put_fixed_field` meets its contract: the value stands behind the tag. Assumes nothing.
-use Rattle.prelude.proofs.Basics.{rules}
 use Rattle.encode.specs.Field.{fixed_field}
 use Rattle.encode.proofs.PutsLaws.{puts_then}
 use Rattle.encode.proofs.field.put_fixed_field.Goals as goal

@@ -1,5 +1,4 @@
 -- `encode::field::put_number` meets its contract: the value stands behind the tag. Assumes nothing.
-use Rattle.prelude.proofs.Basics.{rules}
 use Rattle.encode.specs.Field.{number_field}
 use Rattle.encode.proofs.PutsLaws.{puts_then}
 use Rattle.encode.proofs.field.put_number.Goals as goal

@@ -1,5 +1,4 @@
 -- `encode::field::put_optional` meets its contract: a field that is absent puts nothing. Assumes nothing.
-use Rattle.prelude.proofs.Basics.{rules}
 use Rattle.encode.proofs.PutsLaws.{puts_as, puts_nothing}
 use Rattle.encode.proofs.FieldLaws.{optional_there, optional_absent}
 use Rattle.encode.proofs.field.put_optional.Goals as goal

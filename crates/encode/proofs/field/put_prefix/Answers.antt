@@ -1,5 +1,4 @@
 -- `encode::field::put_prefix` meets its contract: the count stands behind the tag. Assumes nothing.
-use Rattle.prelude.proofs.Basics.{rules}
 use Rattle.encode.proofs.PutsLaws.{puts_then}
 use Rattle.encode.proofs.field.put_prefix.Goals as goal
 

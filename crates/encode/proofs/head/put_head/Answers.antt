@@ -1,5 +1,4 @@
 -- `encode::head::put_head` meets its contract: five bytes, one behind the other. Assumes nothing.
-use Rattle.prelude.proofs.Basics.{rules}
 use Rattle.encode.proofs.PutsLaws.{puts_then}
 use Rattle.encode.proofs.head.put_head.Goals as goal
 

@@ -1,10 +1,10 @@
 -- `encode::number::put_varint` meets its contract: seven bits a turn, and the number of the others is left. Assumes
 -- nothing.
-use Rattle.prelude.proofs.Basics.{ℕ, suc, ◌^◌, ◌<◌, arith, mod-eq_of_lt, ap, [], ◌∷◌, rules}
+use Rattle.prelude.proofs.Basics.{ℕ, arith, mod-eq_of_lt, ap, [], ◌∷◌}
 use Prim.Native.Nat.{pred}
-use Rattle.varint.specs.Shortest.{shortest, varint_bytes}
+use Rattle.varint.specs.Shortest.{varint_bytes}
 use Rattle.varint.proofs.ShortestLaws.{shortest_turn, shortest_last}
-use Rattle.encode.proofs.PutsLaws.{Putting, puts_length, putting_starts, putting_goes_on, putting_ends, puts_as}
+use Rattle.encode.proofs.PutsLaws.{puts_length, putting_starts, putting_goes_on, putting_ends, puts_as}
 use Rattle.encode.proofs.number.put_varint.Goals as goal
 
 pub loop-x-init : goal.loop-x-init

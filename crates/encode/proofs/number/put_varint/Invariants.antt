@@ -1,10 +1,8 @@
 -- `encode::number::put_varint` meets its contract: seven bits a turn, and the number of the others is left. Assumes
 -- nothing.
-use Rattle.prelude.proofs.Basics.{ℕ, suc, ◌^◌, ◌<◌, arith, mod-eq_of_lt, ap, [], ◌∷◌, rules}
-use Prim.Native.Nat.{pred}
+use Rattle.prelude.proofs.Basics.{ℕ, suc, ◌^◌, ◌<◌}
 use Rattle.varint.specs.Shortest.{shortest, varint_bytes}
-use Rattle.varint.proofs.ShortestLaws.{shortest_turn, shortest_last}
-use Rattle.encode.proofs.PutsLaws.{Putting, puts_length, putting_starts, putting_goes_on, putting_ends, puts_as}
+use Rattle.encode.proofs.PutsLaws.{Putting}
 use Rattle.encode.proofs.number.put_varint.Given as goal
 
 abbrev pub invariant-loop-x : goal.invariant-loop-x

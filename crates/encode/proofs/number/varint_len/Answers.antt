@@ -1,6 +1,6 @@
 -- `encode::number::varint_len` meets its contract: zero takes one byte, and of any other number the leading zeros
 -- tell. Assumes nothing.
-use Rattle.prelude.proofs.Basics.{arith, sym, ap, length, rules}
+use Rattle.prelude.proofs.Basics.{arith, sym, ap, length}
 use lib.Count.{leading_le}
 use Rattle.varint.proofs.ShortestLaws.{shortest_last, length_by_zeros}
 use Rattle.encode.proofs.number.varint_len.Goals as goal

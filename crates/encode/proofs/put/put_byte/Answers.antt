@@ -1,5 +1,5 @@
 -- `encode::put::put_byte` meets its contract: past the end nothing is stored. Assumes nothing.
-use Rattle.prelude.proofs.Basics.{[], ◌∷◌, rules}
+use Rattle.prelude.proofs.Basics.{[], ◌∷◌}
 use Rattle.encode.proofs.PutsLaws.{past_end}
 use Rattle.encode.proofs.put.put_byte.Goals as goal
 

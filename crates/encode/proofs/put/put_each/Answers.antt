@@ -1,6 +1,6 @@
 -- `encode::put::put_each` meets its contract: one byte a turn, and the others are left. Assumes nothing.
-use Rattle.prelude.proofs.Basics.{◌-◌, add-one, length, drop, drop_of_length-le, drop-cons, rules}
-use Rattle.encode.proofs.PutsLaws.{Putting, puts_length, putting_starts, putting_goes_on, putting_ended}
+use Rattle.prelude.proofs.Basics.{add-one, drop_of_length-le, drop-cons}
+use Rattle.encode.proofs.PutsLaws.{puts_length, putting_starts, putting_goes_on, putting_ended}
 use Rattle.encode.proofs.put.put_each.Goals as goal
 
 pub loop-i-init : goal.loop-i-init

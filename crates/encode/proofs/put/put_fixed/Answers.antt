@@ -1,7 +1,7 @@
 -- `encode::put::put_fixed` meets its contract: one byte a turn, and the number of the others is left. Assumes nothing.
-use Rattle.prelude.proofs.Basics.{arith, rules}
+use Rattle.prelude.proofs.Basics.{arith}
 use Rattle.encode.specs.Fixed.{fixed_bytes}
-use Rattle.encode.proofs.PutsLaws.{Putting, puts_length, putting_starts, putting_goes_on, putting_ended}
+use Rattle.encode.proofs.PutsLaws.{puts_length, putting_starts, putting_goes_on, putting_ended}
 use Rattle.encode.proofs.FieldLaws.{fixed_more, fixed_none}
 use Rattle.encode.proofs.put.put_fixed.Goals as goal
 

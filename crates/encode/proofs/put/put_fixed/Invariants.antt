@@ -1,8 +1,6 @@
 -- `encode::put::put_fixed` meets its contract: one byte a turn, and the number of the others is left. Assumes nothing.
-use Rattle.prelude.proofs.Basics.{arith, rules}
 use Rattle.encode.specs.Fixed.{fixed_bytes}
-use Rattle.encode.proofs.PutsLaws.{Putting, puts_length, putting_starts, putting_goes_on, putting_ended}
-use Rattle.encode.proofs.FieldLaws.{fixed_more, fixed_none}
+use Rattle.encode.proofs.PutsLaws.{Putting}
 use Rattle.encode.proofs.put.put_fixed.Given as goal
 
 abbrev pub invariant-loop-left : goal.invariant-loop-left

@@ -1,7 +1,7 @@
 -- `encode::put::put_slice` meets its contract. The loop's invariant is `Copying`; the measure is what is left.
 -- Assumes nothing.
-use Rattle.prelude.proofs.Basics.{◌+◌, ◌-◌, sym, ◌∙◌, length, rules, leb-true, not-false}
-use Rattle.encode.proofs.PutsLaws.{Copying, copy_starts, copy_goes_on, copy_ends}
+use Rattle.prelude.proofs.Basics.{◌+◌, sym, ◌∙◌, length, leb-true}
+use Rattle.encode.proofs.PutsLaws.{copy_starts, copy_goes_on, copy_ends}
 use Rattle.encode.proofs.put.put_slice.Goals as goal
 
 pub loop-i-init : goal.loop-i-init

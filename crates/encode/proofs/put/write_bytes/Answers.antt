@@ -1,5 +1,5 @@
 -- `encode::put::write_bytes` meets its contract: once no room, and once room. Assumes nothing.
-use Rattle.prelude.proofs.Basics.{◌+◌, refl, sym, ◌∙◌, length, rules, leb-false, leb-true, not-false, not-true}
+use Rattle.prelude.proofs.Basics.{◌+◌, refl, sym, ◌∙◌, length, leb-false, leb-true}
 use Rattle.encode.proofs.PutsLaws.{puts_none, puts_room, equations}
 use Rattle.encode.proofs.put.write_bytes.Goals as goal
 

@@ -1,7 +1,7 @@
 -- `encode::shift::move_front` meets its contract. The loop's invariant is `Moving`; the measure is what is left to
 -- move. Assumes nothing.
-use Rattle.prelude.proofs.Basics.{◌+◌, ◌-◌, ◌≤◌, arith, sym, ◌∙◌, length, rules, leb-true, not-false, not-true}
-use Rattle.encode.proofs.MoveLaws.{Moving, move_starts, moves_on, move_ends, moved_front_lem, moved_none}
+use Rattle.prelude.proofs.Basics.{◌+◌, arith, sym, ◌∙◌, length, leb-true}
+use Rattle.encode.proofs.MoveLaws.{move_starts, moves_on, move_ends, moved_front_lem, moved_none}
 use Rattle.encode.proofs.shift.move_front.Goals as goal
 
 pub returns-then-not-has_room : goal.returns-then-not-has_room

@@ -1,7 +1,7 @@
 -- `encode::shift::move_front` meets its contract. The loop's invariant is `Moving`; the measure is what is left to
 -- move. Assumes nothing.
-use Rattle.prelude.proofs.Basics.{◌+◌, ◌-◌, ◌≤◌, arith, sym, ◌∙◌, length, rules, leb-true, not-false, not-true}
-use Rattle.encode.proofs.MoveLaws.{Moving, move_starts, moves_on, move_ends, moved_front_lem, moved_none}
+use Rattle.prelude.proofs.Basics.{◌+◌, ◌-◌, ◌≤◌, length}
+use Rattle.encode.proofs.MoveLaws.{Moving}
 use Rattle.encode.proofs.shift.move_front.Given as goal
 
 abbrev pub invariant-loop-i : goal.invariant-loop-i

@@ -1,6 +1,5 @@
 -- Each byte that has another behind it, and each way out, is a law. Assumes nothing.
 use Rattle.prelude.proofs.Basics.{ℕ, ◌+◌, ◌*◌, ◌^◌, ◌<◌, arith, refl, sym, ap, ◌∙◌, List, length, take-length}
-use Rattle.prelude.proofs.Basics.{rules}
 use Rattle.image.specs.private.Ends.{number_at}
 use Rattle.image.proofs.FastLaws.{number_none, number_one, Marked, marked_starts, marked_on, marked_last}
 use Rattle.image.proofs.FastLaws.{fifth_over}

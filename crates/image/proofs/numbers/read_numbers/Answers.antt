@@ -1,7 +1,7 @@
 -- What was read, and what is left to read, is the whole.
-use Rattle.prelude.proofs.Basics.{◌-◌, ◌<◌, arith, sym, ◌∙◌, length, rules}
+use Rattle.prelude.proofs.Basics.{◌<◌, arith, sym, ◌∙◌}
 use Rattle.image.specs.private.Ends.{most}
-use Rattle.image.proofs.NumberLaws.{number_small, Fetching, fetching_starts, fetching_breaks, fetching_goes_on}
+use Rattle.image.proofs.NumberLaws.{number_small, fetching_starts, fetching_breaks, fetching_goes_on}
 use Rattle.image.proofs.NumberLaws.{fetching_ends}
 use Rattle.image.proofs.numbers.read_numbers.Goals as goal
 

@@ -1,5 +1,5 @@
 -- A varint that is not padded and small enough is such a number, and nothing else is.
-use Rattle.prelude.proofs.Basics.{sym, ◌∙◌, rules}
+use Rattle.prelude.proofs.Basics.{sym, ◌∙◌}
 use Rattle.image.proofs.NumberLaws.{number_bad, number_padded, number_large, number_good}
 use Rattle.image.proofs.numbers.read_plain.Goals as goal
 

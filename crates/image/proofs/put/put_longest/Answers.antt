@@ -1,5 +1,5 @@
 -- The five bytes stand one behind the other. Assumes nothing.
-use Rattle.prelude.proofs.Basics.{◌+◌, ◌/◌, ◌%◌, arith, [], ◌∷◌, length-set, rules}
+use Rattle.prelude.proofs.Basics.{◌+◌, ◌/◌, ◌%◌, arith, [], ◌∷◌, length-set}
 use Rattle.image.proofs.PutLaws.{puts_stores, five_bytes}
 use Rattle.image.proofs.put.put_longest.Goals as goal
 

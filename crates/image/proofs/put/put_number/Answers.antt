@@ -1,6 +1,5 @@
 -- With room for five bytes each size has its stores; without it the bytes are put one by one. Assumes nothing.
 use Rattle.prelude.proofs.Basics.{◌+◌, ◌/◌, ◌%◌, ◌≤◌, arith, sym, ◌∙◌, [], ◌∷◌, length, length-set, rules, leb-true}
-use Rattle.prelude.proofs.Basics.{not-false}
 use Rattle.image_rules.specs.Image.{most_number}
 use Rattle.image.proofs.PutLaws.{puts_stores, one_byte_lem, two_bytes, three_bytes, four_bytes}
 use Rattle.image.proofs.put.put_number.Goals as goal

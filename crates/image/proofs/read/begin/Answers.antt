@@ -1,5 +1,5 @@
 -- Closed where the flag is not 0.
-use Rattle.prelude.proofs.Basics.{ap, ◌∙◌, rules}
+use Rattle.prelude.proofs.Basics.{ap, ◌∙◌}
 use Rattle.session.specs.Tables.{closed_now}
 use Rattle.image.proofs.WholeLaws.{begun_open, begun_shut}
 use Rattle.image.proofs.read.begin.Goals as goal

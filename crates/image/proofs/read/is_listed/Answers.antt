@@ -1,5 +1,5 @@
 -- What stands where the hint says is there; the rest is looked up. Assumes nothing.
-use Rattle.prelude.proofs.Basics.{not, sym, ap, ◌∙◌, rules}
+use Rattle.prelude.proofs.Basics.{not, sym, ap, ◌∙◌}
 use Rattle.image_rules.specs.Restore.{none}
 use Rattle.image.proofs.read.is_listed.Goals as goal
 

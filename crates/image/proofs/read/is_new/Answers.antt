@@ -1,5 +1,5 @@
 -- What was not seen is not there; the rest is looked up.
-use Rattle.prelude.proofs.Basics.{sym, ap, ◌∙◌, rules, not-true}
+use Rattle.prelude.proofs.Basics.{sym, ap, ◌∙◌}
 use Rattle.session.specs.Entry.{passes}
 use Rattle.session.specs.Tables.{place_of}
 use Rattle.session.specs.Words.{session_of}

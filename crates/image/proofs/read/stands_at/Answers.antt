@@ -1,5 +1,5 @@
 -- A live statement of the id stands at the place, so that a search finds one. Assumes nothing.
-use Rattle.prelude.proofs.Basics.{◌-◌, false≢true, refl, sym, ap, ◌∙◌, rules}
+use Rattle.prelude.proofs.Basics.{◌-◌, false≢true, refl, sym, ap, ◌∙◌}
 use Rattle.session.specs.Entry.{is_stmt, no_stmt}
 use Rattle.session.specs.Words.{session_of}
 use Rattle.image.proofs.SeenLaws.{passing_found}

@@ -1,5 +1,5 @@
 -- The head, the statements and the rest in turn.
-use Rattle.prelude.proofs.Basics.{arith, refl, sym, ap, ◌∙◌, get_or, rules, not-true, not-false}
+use Rattle.prelude.proofs.Basics.{arith, refl, sym, ap, ◌∙◌, get_or}
 use Rattle.session.specs.Lists.{how_many}
 use Rattle.session.specs.Entry.{is_stmt, is_cursor, on_stmt}
 use Rattle.image_rules.proofs.ImageLaws.{begun_none, begun_no_cursor, begun_none_on}

@@ -1,5 +1,5 @@
 -- The count, the cursors and the end in turn.
-use Rattle.prelude.proofs.Basics.{arith, refl, rules}
+use Rattle.prelude.proofs.Basics.{arith}
 use Rattle.image.proofs.TakeLaws.{front_broken, front_at_lem}
 use Rattle.image.proofs.WholeLaws.{read_broken, read_at, rest_broken, rest_refused, rest_read}
 use Rattle.image.proofs.read.take_rest.Goals as goal

@@ -1,17 +1,12 @@
 -- What was taken, and what is left to take, is the whole; and an id whose slot was not seen is not live yet.
-use Rattle.prelude.proofs.Basics.{ℕ, ◌+◌, ◌*◌, ◌%◌, ◌<◌, ◌≤◌, arith, ◌≡◌, refl, sym, ap, ◌∙◌, List, length, take}
-use Rattle.prelude.proofs.Basics.{drop, drop-drop, rules, not-true, not-false}
-use Rattle.session.specs.declared.Place.{Place}
-use Rattle.session.specs.Entry.{new_stmt, is_live_stmt}
-use Rattle.session.specs.Tables.{max_stmts}
+use Rattle.prelude.proofs.Basics.{◌+◌, ◌*◌, ◌≡◌, take}
+use Rattle.prelude.proofs.Basics.{drop}
+use Rattle.session.specs.Entry.{is_live_stmt}
 use Rattle.session.specs.Words.{session_of}
 use Rattle.image_rules.specs.Image.{stmt_width}
 use Rattle.image_rules.specs.Restore.{stmt_table, entries_at}
-use Rattle.image.specs.private.Ends.{slots}
-use Rattle.image.proofs.TakeLaws.{entries_of, entries_few, entries_refuse, entries_go_on, entries_end}
-use Rattle.image.proofs.TakeLaws.{front_broken, front_at_lem, stmt_from, stmt_entry_lem, stmt_places, all_there}
-use Rattle.image.proofs.TakeLaws.{not_there}
-use Rattle.image.proofs.SeenLaws.{Unseen, unseen_starts, unseen_goes_on, slot_inside}
+use Rattle.image.proofs.TakeLaws.{entries_of}
+use Rattle.image.proofs.SeenLaws.{Unseen}
 use Rattle.image.proofs.read.take_stmts.Given as goal
 
 abbrev pub invariant-loop-left : goal.invariant-loop-left

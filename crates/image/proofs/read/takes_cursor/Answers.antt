@@ -1,5 +1,5 @@
 -- The tests of the definition in turn.
-use Rattle.prelude.proofs.Basics.{sym, ◌∙◌, rules, le-leb, lt-leb, not-true, not-false}
+use Rattle.prelude.proofs.Basics.{sym, ◌∙◌, le-leb, lt-leb}
 use Rattle.image.proofs.TakeLaws.{and_off, and_on}
 use Rattle.image.proofs.read.takes_cursor.Goals as goal
 

@@ -1,5 +1,5 @@
 -- The tests of the definition in turn; an id whose slot has no hint is not live.
-use Rattle.prelude.proofs.Basics.{sym, ap, ◌∙◌, rules, le-leb, lt-leb, not-true, not-false}
+use Rattle.prelude.proofs.Basics.{sym, ap, ◌∙◌, le-leb, lt-leb}
 use Rattle.image_rules.specs.Restore.{none}
 use Rattle.image_rules.proofs.StoreLaws.{zero_none}
 use Rattle.image.proofs.TakeLaws.{and_off, and_on}

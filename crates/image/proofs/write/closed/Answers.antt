@@ -1,5 +1,5 @@
 -- The flag decides. Assumes nothing.
-use Rattle.prelude.proofs.Basics.{sym, ◌∙◌, yes, no, rules}
+use Rattle.prelude.proofs.Basics.{sym, ◌∙◌, yes, no}
 use Rattle.image.proofs.write.closed.Goals as goal
 
 pub returns-then-is_closed : goal.returns-then-is_closed

@@ -1,5 +1,5 @@
 -- The answer is that of the bytes written. Assumes nothing.
-use Rattle.prelude.proofs.Basics.{◌≡◌, sym, ap, ◌∙◌, rules}
+use Rattle.prelude.proofs.Basics.{◌≡◌, sym, ap, ◌∙◌}
 use Rattle.image.specs.private.Handed.{handed}
 use Rattle.image.proofs.WriteLaws.{of_put, handed_by_lem}
 use Rattle.image.proofs.write.hand_over.Goals as goal

@@ -1,5 +1,5 @@
 -- One place a turn, each behind the one before, until no live one is left. Assumes nothing.
-use Rattle.prelude.proofs.Basics.{◌-◌, ◌<◌, arith, cond, ap, ◌∙◌, rules}
+use Rattle.prelude.proofs.Basics.{◌<◌, arith, cond, ap, ◌∙◌}
 use Rattle.session.specs.Entry.{no_cursor, is_live_cursor}
 use Rattle.session.specs.Tables.{max_cursors}
 use Rattle.session.specs.Words.{cursor_in}
@@ -8,9 +8,8 @@ use Rattle.session.proofs.SumLaws.{one_le}
 use Rattle.encode.proofs.PutsLaws.{puts_length}
 use Rattle.image_rules.specs.Listing.{cursor_entry}
 use Rattle.image_rules.specs.Image.{cursor_numbers}
-use Rattle.image_rules.specs.Image.{most_cursor}
 use Rattle.image_rules.specs.private.Parts.{cursor_bytes_at}
-use Rattle.image.proofs.WriteLaws.{Filling, fills, within, fills_on, filled}
+use Rattle.image.proofs.WriteLaws.{fills, within, fills_on, filled}
 use Rattle.image.proofs.write.put_cursors.Goals as goal
 
 pub loop-left-init : goal.loop-left-init

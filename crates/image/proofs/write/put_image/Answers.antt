@@ -1,5 +1,4 @@
 -- The parts of the image stand one behind the other. Assumes nothing.
-use Rattle.prelude.proofs.Basics.{rules}
 use Rattle.session.specs.Words.{session_of}
 use Rattle.encode.proofs.PutsLaws.{puts_length, puts_then, puts_as}
 use Rattle.image_rules.proofs.FitLaws.{image_parts, image_short}

@@ -1,5 +1,5 @@
 -- A free place puts nothing, a live one its numbers. Assumes nothing.
-use Rattle.prelude.proofs.Basics.{◌≤◌, arith, length, rules}
+use Rattle.prelude.proofs.Basics.{◌≤◌, arith, length}
 use Rattle.encode.proofs.PutsLaws.{puts_length}
 use Rattle.image_rules.specs.Numbers.{bytes_of}
 use Rattle.image_rules.specs.Listing.{stmt_entry}

@@ -1,5 +1,5 @@
 -- `karramotx::given::argument_of` meets its contract: the Scalar type decides, an arm for each. Assumes nothing.
-use Rattle.prelude.proofs.Basics.{ℕ, ◌≡◌, ◌∙◌, rules}
+use Rattle.prelude.proofs.Basics.{ℕ, ◌≡◌, ◌∙◌}
 use Rattle.karramotx.specs.Given.{of_kind}
 use Rattle.karramotx.proofs.GivenLaws.{of_kind_lem, of_no_kind}
 use Rattle.karramotx.proofs.given.argument_of.Goals as goal

@@ -1,5 +1,5 @@
 -- `karramotx::given::float_of_bits` meets its contract: only a number of 32 bits is a float. Assumes nothing.
-use Rattle.prelude.proofs.Basics.{arith, ◌∙◌, rules}
+use Rattle.prelude.proofs.Basics.{arith, ◌∙◌}
 use Rattle.karramotx.proofs.GivenLaws.{float_none, float_bits}
 use Rattle.karramotx.proofs.given.float_of_bits.Goals as goal
 

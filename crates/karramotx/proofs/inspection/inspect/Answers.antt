@@ -1,5 +1,5 @@
 -- `karramotx::inspection::inspect` meets its contract: each part is the frame's. Assumes nothing.
-use Rattle.prelude.proofs.Basics.{Bool, ◌≡◌, ap, ◌∙◌, rules}
+use Rattle.prelude.proofs.Basics.{Bool, ◌≡◌, ap, ◌∙◌}
 use Rattle.message.specs.Padded.{where_read}
 use Rattle.rules.specs.declared.Look.{Look}
 use Rattle.rules.specs.declared.Touches.{Touches}

@@ -1,5 +1,4 @@
 -- A blank message with its id.
-use Rattle.prelude.proofs.Basics.{rules}
 use Rattle.karramotx.proofs.told.close_told.Goals as goal
 
 pub returns : goal.returns

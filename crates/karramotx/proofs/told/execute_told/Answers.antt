@@ -1,5 +1,4 @@
 -- A blank message with the fields of an Execute.
-use Rattle.prelude.proofs.Basics.{rules}
 use Rattle.karramotx.proofs.told.execute_told.Goals as goal
 
 pub returns : goal.returns

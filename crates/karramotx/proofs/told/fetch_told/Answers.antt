@@ -1,5 +1,4 @@
 -- A blank message with the fields of a Fetch.
-use Rattle.prelude.proofs.Basics.{rules}
 use Rattle.karramotx.proofs.told.fetch_told.Goals as goal
 
 pub returns : goal.returns

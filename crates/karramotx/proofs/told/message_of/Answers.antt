@@ -1,5 +1,4 @@
 -- `karramotx::told::message_of` meets its contract: each case of a frame is one of the definition. Assumes nothing.
-use Rattle.prelude.proofs.Basics.{rules}
 use Rattle.karramotx.proofs.MessageLaws.{as_frame}
 use Rattle.karramotx.proofs.told.message_of.Goals as goal
 

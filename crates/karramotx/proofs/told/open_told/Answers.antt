@@ -1,5 +1,4 @@
 -- The message of its Execute with the fields of an Open.
-use Rattle.prelude.proofs.Basics.{rules}
 use Rattle.karramotx.proofs.told.open_told.Goals as goal
 
 pub returns : goal.returns

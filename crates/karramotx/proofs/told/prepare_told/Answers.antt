@@ -1,5 +1,4 @@
 -- A blank message with the fields of a Prepare.
-use Rattle.prelude.proofs.Basics.{rules}
 use Rattle.karramotx.proofs.told.prepare_told.Goals as goal
 
 pub returns : goal.returns

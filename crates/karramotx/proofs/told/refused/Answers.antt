@@ -1,5 +1,5 @@
 -- `karramotx::told::refused` meets its contract: there are no arguments. Assumes nothing.
-use Rattle.prelude.proofs.Basics.{ℕ, false, ap, ◌∙◌, rules}
+use Rattle.prelude.proofs.Basics.{ℕ, false, ap, ◌∙◌}
 use Rattle.message.specs.Request.{no_optional, no_part}
 use Rattle.karramotx.specs.Message.{args_told}
 use Rattle.karramotx.specs.declared.told.Args.{Args}

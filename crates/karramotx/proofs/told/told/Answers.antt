@@ -1,5 +1,5 @@
 -- Each arm is told by the function of its message.
-use Rattle.prelude.proofs.Basics.{◌∙◌, rules}
+use Rattle.prelude.proofs.Basics.{◌∙◌}
 use Rattle.karramotx.proofs.MessageLaws.{as_request}
 use Rattle.karramotx.proofs.told.told.Goals as goal
 

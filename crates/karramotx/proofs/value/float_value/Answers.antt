@@ -1,5 +1,5 @@
 -- `karramotx::value::float_value` meets its contract: what differs from itself is the NaN. Assumes nothing.
-use Rattle.prelude.proofs.Basics.{false, ◌≡◌, rules}
+use Rattle.prelude.proofs.Basics.{false, ◌≡◌}
 use lib.Ieee.{is_nan}
 use Rattle.karramotx.proofs.ValueLaws.{differs_nan, same_number, asked, fits_wide}
 use Rattle.karramotx.proofs.value.float_value.Goals as goal

@@ -1,5 +1,5 @@
 -- `karramotx::value::next_value` meets its contract: each arm is its clause. Assumes nothing.
-use Rattle.prelude.proofs.Basics.{sym, ap, ◌∙◌, rules}
+use Rattle.prelude.proofs.Basics.{sym, ap, ◌∙◌}
 use Rattle.karramotx.specs.declared.value.Value.{Value}
 use Rattle.karramotx.specs.Value.{next_value_of, with_next}
 use Rattle.karramotx.proofs.value.next_value.Goals as goal

@@ -1,5 +1,4 @@
 -- `keeper::answer::accept` meets its contract: the answer has the length of the reply that was put. Assumes nothing.
-use Rattle.prelude.proofs.Basics.{rules}
 use Rattle.keeper.specs.private.Does.{accepting}
 use Rattle.keeper.proofs.AnswerLaws.{answers}
 use Rattle.keeper.proofs.answer.accept.Goals as goal

@@ -1,5 +1,5 @@
 -- `keeper::answer::put_reply` meets its contract: the length told is that of what was put. Assumes nothing.
-use Rattle.prelude.proofs.Basics.{ap, ◌∙◌, rules}
+use Rattle.prelude.proofs.Basics.{ap, ◌∙◌}
 use Rattle.encode.specs.Put.{place_behind}
 use Rattle.keeper.proofs.answer.put_reply.Goals as goal
 

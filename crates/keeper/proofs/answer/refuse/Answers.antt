@@ -1,5 +1,4 @@
 -- `keeper::answer::refuse` meets its contract: the Error that is put is the one of the names. Assumes nothing.
-use Rattle.prelude.proofs.Basics.{rules}
 use Rattle.keeper.specs.private.Does.{refusing}
 use Rattle.keeper.proofs.AnswerLaws.{answers_as, error_as}
 use Rattle.keeper.proofs.answer.refuse.Goals as goal

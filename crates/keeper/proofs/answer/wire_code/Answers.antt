@@ -1,6 +1,6 @@
 -- `keeper::answer::wire_code` meets its contract: a failure has the engine's code, any other the table's. Assumes
 -- nothing.
-use Rattle.prelude.proofs.Basics.{◌∙◌, rules}
+use Rattle.prelude.proofs.Basics.{◌∙◌}
 use Rattle.keeper.proofs.AnswerLaws.{code_own, code_listed}
 use Rattle.keeper.proofs.answer.wire_code.Goals as goal
 

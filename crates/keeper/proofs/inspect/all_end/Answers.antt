@@ -1,5 +1,5 @@
 -- `keeper::inspect::all_end` meets its contract: no entry is looked up. Assumes nothing.
-use Rattle.prelude.proofs.Basics.{◌∙◌, rules}
+use Rattle.prelude.proofs.Basics.{◌∙◌}
 use Rattle.keeper.proofs.Names.{Request, session_of}
 use Rattle.keeper.proofs.RequestLaws.{reset_looks}
 use Rattle.keeper.proofs.LookLaws.{closed_or_look, reset_wants}

@@ -1,5 +1,5 @@
 -- `keeper::inspect::fetch_look` meets its contract: the reason chooses. Assumes nothing.
-use Rattle.prelude.proofs.Basics.{◌∙◌, rules}
+use Rattle.prelude.proofs.Basics.{◌∙◌}
 use Rattle.keeper.proofs.LookLaws.{rows_not, rows_wanted}
 use Rattle.keeper.proofs.inspect.fetch_look.Goals as goal
 

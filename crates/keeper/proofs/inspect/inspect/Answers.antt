@@ -1,6 +1,6 @@
 -- `keeper::inspect::inspect` meets its contract: what the frame is by itself comes first, then its request. Assumes
 -- nothing.
-use Rattle.prelude.proofs.Basics.{◌∙◌, rules}
+use Rattle.prelude.proofs.Basics.{◌∙◌}
 use Rattle.keeper.proofs.Names.{session_of}
 use Rattle.keeper.proofs.LookLaws.{cut_look, length_look, unknown_look, payload_look, twice_look, look_any}
 use Rattle.keeper.proofs.InspectLaws.{as_frame}

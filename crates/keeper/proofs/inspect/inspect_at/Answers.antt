@@ -1,5 +1,5 @@
 -- `keeper::inspect::inspect_at` meets its contract: each request by its own entries. Assumes nothing.
-use Rattle.prelude.proofs.Basics.{◌∙◌, rules}
+use Rattle.prelude.proofs.Basics.{◌∙◌}
 use Rattle.keeper.proofs.Names.{Request, session_of}
 use Rattle.keeper.proofs.RequestLaws.{prepare_looks, deallocate_looks, close_looks}
 use Rattle.keeper.proofs.LookLaws.{closed_or_look, close_as_reset, prepare_wants, execute_wants}

@@ -1,5 +1,5 @@
 -- `keeper::inspect::inspect_fetch` meets its contract: the cursor looked up decides. Assumes nothing.
-use Rattle.prelude.proofs.Basics.{◌∙◌, rules}
+use Rattle.prelude.proofs.Basics.{◌∙◌}
 use Rattle.keeper.proofs.Names.{session_of}
 use Rattle.keeper.proofs.RequestLaws.{cursor_found}
 use Rattle.keeper.proofs.LookLaws.{fetch_look}

@@ -1,5 +1,5 @@
 -- `keeper::inspect::inspect_open` meets its contract: statement and place are looked up once. Assumes nothing.
-use Rattle.prelude.proofs.Basics.{◌∙◌, rules}
+use Rattle.prelude.proofs.Basics.{◌∙◌}
 use Rattle.keeper.proofs.Names.{Request, session_of}
 use Rattle.keeper.proofs.LookLaws.{closed_or_look, open_wants}
 use Rattle.keeper.proofs.InspectLaws.{open_touches}

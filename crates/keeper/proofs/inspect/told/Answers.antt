@@ -1,5 +1,5 @@
 -- `keeper::inspect::told` meets its contract: closed comes first. Assumes nothing.
-use Rattle.prelude.proofs.Basics.{ℕ, cond, refl, ap, ◌∙◌, eqb, rules}
+use Rattle.prelude.proofs.Basics.{ℕ, cond, refl, ap, ◌∙◌, eqb}
 use Rattle.protocol.specs.Reason as Reason
 use Rattle.keeper.proofs.Names.{look_refused}
 use Rattle.keeper.specs.private.Reasons.{look_work}

@@ -1,5 +1,5 @@
 -- `keeper::inspect::touches` meets its contract: a place by its number. Assumes nothing.
-use Rattle.prelude.proofs.Basics.{ℕ, ap, ◌∙◌, rules}
+use Rattle.prelude.proofs.Basics.{ℕ, ap, ◌∙◌}
 use Rattle.session.specs.Lists.{index_of}
 use Rattle.rules.specs.Inspect.{no_stmt_place}
 use Rattle.keeper.proofs.Names.{Touches}

@@ -1,5 +1,5 @@
 -- `keeper::look::found` meets its contract: the reason chooses. Assumes nothing.
-use Rattle.prelude.proofs.Basics.{◌∙◌, rules}
+use Rattle.prelude.proofs.Basics.{◌∙◌}
 use Rattle.keeper.proofs.LookLaws.{found_not, found_work}
 use Rattle.keeper.proofs.look.found.Goals as goal
 

@@ -1,7 +1,7 @@
 -- `keeper::look::look_at` meets its contract: closed comes first, then each request by its own entries. Assumes
 -- nothing.
 -- where the request is looked at, the session is open
-use Rattle.prelude.proofs.Basics.{ℕ, false, cond, ◌≡◌, sym, ◌∙◌, eqb, rules}
+use Rattle.prelude.proofs.Basics.{ℕ, false, cond, ◌≡◌, sym, ◌∙◌, eqb}
 use Rattle.protocol.specs.Reason as Reason
 use Rattle.message.specs.declared.request.Frame.TheVariants.{Good}
 use Rattle.keeper.proofs.Names.{Request, Session, is_closed, session_of, looked, look_refused, look_of, Look}

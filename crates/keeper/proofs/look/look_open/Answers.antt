@@ -1,5 +1,5 @@
 -- `keeper::look::look_open` meets its contract: its refusals decide. Assumes nothing.
-use Rattle.prelude.proofs.Basics.{◌∙◌, rules}
+use Rattle.prelude.proofs.Basics.{◌∙◌}
 use Rattle.keeper.proofs.Names.{Request, session_of}
 use Rattle.keeper.proofs.LookLaws.{found_look, open_wants}
 use Rattle.keeper.proofs.look.look_open.Goals as goal

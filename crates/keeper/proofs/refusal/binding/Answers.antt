@@ -1,5 +1,4 @@
 -- The tests stand in the order of the reasons 7, 8, 9. Assumes nothing.
-use Rattle.prelude.proofs.Basics.{rules}
 use Rattle.keeper.proofs.ReasonLaws.{binding_dead, binding_kind, binding_few, binding_right}
 use Rattle.keeper.proofs.refusal.binding.Goals as goal
 

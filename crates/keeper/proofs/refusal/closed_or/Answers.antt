@@ -1,5 +1,5 @@
 -- The test is the session's closed flag. Assumes nothing.
-use Rattle.prelude.proofs.Basics.{sym, ◌∙◌, rules, yes, no as without}
+use Rattle.prelude.proofs.Basics.{sym, ◌∙◌, yes, no as without}
 use Rattle.protocol.specs.Reason as Reason
 use Rattle.keeper.proofs.refusal.closed_or.Goals as goal
 

@@ -1,5 +1,4 @@
 -- The statement looked up is the live one, and an Execute has no tests but 7, 8, 9. Assumes nothing.
-use Rattle.prelude.proofs.Basics.{rules}
 use Rattle.keeper.proofs.Names.{session_of}
 use Rattle.keeper.proofs.ReasonLaws.{execute_bound}
 use Rattle.keeper.proofs.refusal.execute.Goals as goal

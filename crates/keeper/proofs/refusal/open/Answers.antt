@@ -1,5 +1,4 @@
 -- 7, 8, 9 of its statement come first; then its cursor's 12 and 14. Assumes nothing.
-use Rattle.prelude.proofs.Basics.{rules}
 use Rattle.keeper.proofs.Names.{session_of}
 use Rattle.keeper.proofs.ReasonLaws.{open_bound, open_carried}
 use Rattle.keeper.proofs.refusal.open.Goals as goal

@@ -1,5 +1,5 @@
 -- A failure is 16 whether the report suits or not; of the others one that suits is accepted. Assumes nothing.
-use Rattle.prelude.proofs.Basics.{sym, ◌∙◌, rules}
+use Rattle.prelude.proofs.Basics.{sym, ◌∙◌}
 use Rattle.keeper.proofs.Names.{fails}
 use Rattle.keeper.proofs.ReasonLaws.{report_failed, report_suited, report_wrong}
 use Rattle.keeper.proofs.refusal.report.Goals as goal

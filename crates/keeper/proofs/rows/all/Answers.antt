@@ -1,5 +1,5 @@
 -- The parts are those of `sends_all`. Assumes nothing.
-use Rattle.prelude.proofs.Basics.{not, eqb, rules}
+use Rattle.prelude.proofs.Basics.{not, eqb}
 use Rattle.keeper.proofs.RowsLaws.{sends_with}
 use Rattle.keeper.proofs.rows.all.Goals as goal
 

@@ -1,5 +1,4 @@
 -- An absent fetch_rows means all that remain. Assumes nothing.
-use Rattle.prelude.proofs.Basics.{rules}
 use Rattle.keeper.proofs.RowsLaws.{fetch_some, fetch_rest}
 use Rattle.keeper.proofs.rows.fetch_count.Goals as goal
 

@@ -1,5 +1,5 @@
 -- The parts are those of `sends_next`. Assumes nothing.
-use Rattle.prelude.proofs.Basics.{false, rules}
+use Rattle.prelude.proofs.Basics.{false}
 use Rattle.keeper.proofs.RowsLaws.{sends_with}
 use Rattle.keeper.proofs.rows.fetched.Goals as goal
 

@@ -1,5 +1,4 @@
 -- An absent fetch_rows means none. Assumes nothing.
-use Rattle.prelude.proofs.Basics.{rules}
 use Rattle.keeper.proofs.RowsLaws.{open_some, open_none}
 use Rattle.keeper.proofs.rows.open_count.Goals as goal
 

@@ -1,5 +1,5 @@
 -- The parts are those of `sends_first`. Assumes nothing.
-use Rattle.prelude.proofs.Basics.{not, ◌∙◌, eqb, rules}
+use Rattle.prelude.proofs.Basics.{not, ◌∙◌, eqb}
 use Rattle.keeper.proofs.RowsLaws.{sends_with, left_first}
 use Rattle.keeper.proofs.rows.opened.Goals as goal
 

@@ -1,5 +1,4 @@
 -- `keeper::step::close` meets its contract: the entry looked up decides, and the cursor ends. Assumes nothing.
-use Rattle.prelude.proofs.Basics.{rules}
 use Rattle.keeper.proofs.Names.{session_of}
 use Rattle.keeper.proofs.StepLaws.{refuses, accepts}
 use Rattle.keeper.proofs.RequestLaws.{close_decides, close_sends, close_after}

@@ -1,5 +1,4 @@
 -- `keeper::step::deallocate` meets its contract: the entry looked up decides, and it is freed. Assumes nothing.
-use Rattle.prelude.proofs.Basics.{rules}
 use Rattle.keeper.proofs.Names.{session_of}
 use Rattle.keeper.proofs.StepLaws.{refuses, accepts}
 use Rattle.keeper.proofs.RequestLaws.{deallocate_decides, deallocate_sends, deallocate_after}

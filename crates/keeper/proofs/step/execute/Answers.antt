@@ -1,6 +1,5 @@
 -- `keeper::step::execute` meets its contract: the statement and the arguments decide, and its cursor ends. Assumes
 -- nothing.
-use Rattle.prelude.proofs.Basics.{rules}
 use Rattle.keeper.proofs.Names.{session_of}
 use Rattle.keeper.proofs.StepLaws.{refuses, accepts}
 use Rattle.keeper.proofs.RequestLaws.{execute_decides, execute_sends, execute_after}

@@ -1,6 +1,6 @@
 -- `keeper::step::fetch` meets its contract: the cursor looked up decides, and its rows sent are the one word that
 -- changes. Assumes nothing.
-use Rattle.prelude.proofs.Basics.{◌+◌, ◌≤◌, rules}
+use Rattle.prelude.proofs.Basics.{◌+◌, ◌≤◌}
 use Rattle.keeper.proofs.Names.{session_of}
 use Rattle.keeper.proofs.StepLaws.{refuses, accepts}
 use Rattle.keeper.proofs.RequestLaws.{cursor_found, fetch_decides, fetch_sends, fetch_after, fetch_within}

@@ -1,6 +1,6 @@
 -- `keeper::step::open` meets its contract: the statement, the arguments and the cursors decide, and the cursor is
 -- stored. Assumes nothing.
-use Rattle.prelude.proofs.Basics.{◌≤◌, arith, rules}
+use Rattle.prelude.proofs.Basics.{◌≤◌, arith}
 use Rattle.keeper.proofs.Names.{session_of, max_number}
 use Rattle.keeper.proofs.StepLaws.{refuses, accepts}
 use Rattle.keeper.proofs.RequestLaws.{open_decides, open_sends, open_after, open_within, result_within}

@@ -1,6 +1,6 @@
 -- `keeper::step::prepare` meets its contract: the place that the statement takes decides, and it is stored there.
 -- Assumes nothing.
-use Rattle.prelude.proofs.Basics.{arith, rules}
+use Rattle.prelude.proofs.Basics.{arith}
 use Rattle.keeper.proofs.Names.{session_of}
 use Rattle.keeper.proofs.StepLaws.{refuses, accepts}
 use Rattle.keeper.proofs.RequestLaws.{prepare_decides, prepare_sends, prepare_after, prepared_within}

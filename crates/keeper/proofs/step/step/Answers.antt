@@ -1,12 +1,11 @@
 -- `keeper::step::step` meets its contract: room comes first, then what the frame is by itself, then its request.
 -- Assumes nothing.
 -- there is room, where the frame was read; one that is not read to its end says nothing of padding
-use Rattle.prelude.proofs.Basics.{ℕ, ◌≡◌, refl, List, rules}
-use Rattle.keeper.proofs.Names.{frame_of, padded_of, Frame, Session, session_of, step_of, step_on, Answer}
-use Rattle.keeper.specs.private.Does.{Does}
+use Rattle.prelude.proofs.Basics.{refl}
+use Rattle.keeper.proofs.Names.{frame_of, padded_of, session_of}
 use Rattle.keeper.proofs.FrameLaws.{short_step, cut_step, length_step, unknown_refuses, payload_refuses}
-use Rattle.keeper.proofs.FrameLaws.{twice_refuses, readable, sym_answer, Clauses, clauses}
-use Rattle.keeper.proofs.PaddedLaws.{Mute, does_told, does_unread}
+use Rattle.keeper.proofs.FrameLaws.{twice_refuses, readable, sym_answer, clauses}
+use Rattle.keeper.proofs.PaddedLaws.{does_told, does_unread}
 use Rattle.keeper.proofs.step.step.Goals as goal
 
 pub returns-then-reply-lt-MIN_BUFFER : goal.returns-then-reply-lt-MIN_BUFFER

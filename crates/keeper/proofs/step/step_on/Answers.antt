@@ -1,9 +1,7 @@
 -- `keeper::step::step_on` meets its contract: closed comes first, then each request has its own function. Assumes
 -- nothing.
-use Rattle.prelude.proofs.Basics.{ℕ, ◌≡◌, refl, sym, ◌∙◌, List, rules}
-use Rattle.message.specs.declared.request.Frame.TheVariants.{Good}
-use Rattle.keeper.proofs.Names.{Request, Session, session_of, step_on, Answer}
-use Rattle.keeper.specs.private.Does.{Does, Ready}
+use Rattle.prelude.proofs.Basics.{refl, sym, ◌∙◌}
+use Rattle.keeper.proofs.Names.{session_of}
 use Rattle.keeper.proofs.StepLaws.{closed_refuses, ready, does_as, accepts}
 use Rattle.keeper.proofs.RequestLaws.{reset_decides, reset_sends, reset_after, session_close_decides}
 use Rattle.keeper.proofs.RequestLaws.{session_close_sends, session_close_after}

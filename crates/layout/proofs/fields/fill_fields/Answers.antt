@@ -1,8 +1,7 @@
 -- `layout::fields::fill_fields` meets its contract: the fields are listed, and each required one is among them.
 -- Assumes nothing.
-use Rattle.prelude.proofs.Basics.{arith, ◌||◌, ◌≡◌, refl, ◌∙◌, take, length-take, rules, or_none, or_same}
-use Rattle.layout.proofs.Names.{no_slots, field_list, padded_to}
-use Rattle.layout.specs.private.Arrays.{Listed}
+use Rattle.prelude.proofs.Basics.{arith, refl, ◌∙◌, length-take, or_none, or_same}
+use Rattle.layout.proofs.Names.{no_slots}
 use Rattle.layout.proofs.FieldsLaws.{holds_none, holds_outside, holds_inside}
 use Rattle.layout.proofs.PaddedLaws.{padded_outside, padded_inside}
 use Rattle.layout.proofs.fields.fill_fields.Goals as goal

@@ -1,6 +1,5 @@
 -- `layout::fields::has_required` meets its contract: each row in turn is met. Assumes nothing.
-use Rattle.prelude.proofs.Basics.{◌-◌, ◌≤◌, ◌≡◌, sym, ◌∙◌, length, drop, rules, not-false, not-true}
-use Rattle.layout.proofs.Names.{has_required}
+use Rattle.prelude.proofs.Basics.{sym, ◌∙◌, rules}
 use Rattle.layout.proofs.FieldsLaws.{need_end, need_met, need_missing}
 use Rattle.layout.proofs.fields.has_required.Goals as goal
 

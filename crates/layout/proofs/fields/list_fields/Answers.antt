@@ -1,13 +1,12 @@
 -- `layout::fields::list_fields` meets its contract: each turn reads the field at the place and notes it by its row.
 -- Assumes nothing.
 -- whatever good slots the arrays held at first
-use Rattle.prelude.proofs.Basics.{◌-◌, ◌<◌, arith, true, ◌≡◌, refl, sym, ◌∙◌, length, rules, or_false}
+use Rattle.prelude.proofs.Basics.{◌<◌, arith, refl, sym, ◌∙◌, length, or_false}
 use Rattle.wire.proofs.NumberLaws.{field_number}
-use Rattle.layout.proofs.Names.{field_at, Field, fields_onto, nothing_inside, Slots}
-use Rattle.layout.specs.private.Arrays.{Noted}
-use Rattle.layout.proofs.FieldsLaws.{Filling, filling, filled, spoiled, fills_unknown, fills_counted, fills_kept}
+use Rattle.layout.proofs.Names.{nothing_inside}
+use Rattle.layout.proofs.FieldsLaws.{filling, filled, spoiled, fills_unknown, fills_counted, fills_kept}
 use Rattle.layout.proofs.FieldsLaws.{counted_slot, kept_slot}
-use Rattle.layout.proofs.PaddedLaws.{Marking, marks, marked, marks_bad, marks_on, field_ahead}
+use Rattle.layout.proofs.PaddedLaws.{marks, marked, marks_bad, marks_on, field_ahead}
 use Rattle.layout.proofs.fields.list_fields.Goals as goal
 
 pub loop-p-init : goal.loop-p-init

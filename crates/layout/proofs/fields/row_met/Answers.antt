@@ -1,5 +1,5 @@
 -- `layout::fields::row_met` meets its contract: a required row asks for its slot. Assumes nothing.
-use Rattle.prelude.proofs.Basics.{ℕ, arith, not, ap, ◌∙◌, get_or, eqb, rules}
+use Rattle.prelude.proofs.Basics.{ℕ, arith, not, ap, ◌∙◌, get_or, eqb}
 use Rattle.layout.proofs.FieldsLaws.{met_optional, met_required, met_past}
 use Rattle.layout.proofs.fields.row_met.Goals as goal
 

@@ -1,6 +1,6 @@
 -- `layout::fields::settle` meets its contract: a list that is not good, or lacks what is required, is no message.
 -- Assumes nothing.
-use Rattle.prelude.proofs.Basics.{sym, ◌∙◌, rules, not-false, not-true}
+use Rattle.prelude.proofs.Basics.{sym, ◌∙◌}
 use Rattle.layout.proofs.FieldsLaws.{lists_bad, lists_missing, lists_good}
 use Rattle.layout.proofs.fields.settle.Goals as goal
 

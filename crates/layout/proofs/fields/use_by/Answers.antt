@@ -1,5 +1,5 @@
 -- By what the row takes and whether its field is repeated.
-use Rattle.prelude.proofs.Basics.{sym, ◌∙◌, rules, not-false, not-true}
+use Rattle.prelude.proofs.Basics.{sym, ◌∙◌}
 use Rattle.layout.proofs.FieldsLaws.{use_unknown, use_counted, use_kept}
 use Rattle.layout.proofs.fields.use_by.Goals as goal
 

@@ -1,6 +1,6 @@
 -- The row that is found decides; a number that no row has is unknown.
-use Rattle.prelude.proofs.Basics.{ℕ, ◌-◌, ◌≤◌, ◌≡◌, sym, ap, ◌∙◌, List, length, drop, rules}
-use Rattle.layout.proofs.Names.{row_for, use_by}
+use Rattle.prelude.proofs.Basics.{ℕ, sym, ap, ◌∙◌, List, rules}
+use Rattle.layout.proofs.Names.{use_by}
 use Rattle.layout.proofs.RowLaws.{row_hit, row_miss, row_end}
 use Rattle.layout.proofs.FieldsLaws.{use_none}
 use Rattle.layout.proofs.fields.use_of.Goals as goal

@@ -1,8 +1,6 @@
 -- The row that is found decides; a number that no row has is unknown.
-use Rattle.prelude.proofs.Basics.{ℕ, ◌-◌, ◌≤◌, ◌≡◌, sym, ap, ◌∙◌, List, length, drop, rules}
-use Rattle.layout.proofs.Names.{row_for, use_by}
-use Rattle.layout.proofs.RowLaws.{row_hit, row_miss, row_end}
-use Rattle.layout.proofs.FieldsLaws.{use_none}
+use Rattle.prelude.proofs.Basics.{◌-◌, ◌≤◌, ◌≡◌, length, drop}
+use Rattle.layout.proofs.Names.{row_for}
 use Rattle.layout.proofs.fields.use_of.Given as goal
 
 abbrev pub invariant-loop-i : goal.invariant-loop-i

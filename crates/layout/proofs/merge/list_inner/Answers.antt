@@ -1,11 +1,10 @@
 -- `layout::merge::list_inner` meets its contract: the parts in each part are listed in turn. Assumes nothing.
-use Rattle.prelude.proofs.Basics.{◌+◌, ◌-◌, arith, Bool, true, false, ◌≡◌, refl, subst, ◌∙◌, length, length-take, rules}
-use Rattle.prelude.proofs.Basics.{not-false, not-true, or_same}
-use Rattle.layout.proofs.Names.{parts_of, Part}
-use Rattle.layout.specs.private.Arrays.{Adds}
-use Rattle.layout.specs.private.NextPart.{Found, Tells}
+use Rattle.prelude.proofs.Basics.{◌+◌, arith, refl, subst, ◌∙◌, length-take}
+use Rattle.prelude.proofs.Basics.{or_same}
+use Rattle.layout.proofs.Names.{parts_of}
+use Rattle.layout.specs.private.NextPart.{Tells}
 use Rattle.layout.proofs.JointLaws.{not_both}
-use Rattle.layout.proofs.MergeLaws.{Passing, passing, passed, passed_flag, ended, passes, spoils, inner_onto}
+use Rattle.layout.proofs.MergeLaws.{passing, passed, passed_flag, ended, passes, spoils, inner_onto}
 use Rattle.layout.proofs.MergeLaws.{inner_padded, inner_adds, inner_done, inner_flag, inner_told}
 use Rattle.layout.proofs.merge.list_inner.Goals as goal
 

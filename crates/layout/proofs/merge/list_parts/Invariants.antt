@@ -1,12 +1,8 @@
 -- `layout::merge::list_parts` meets its contract: the fields of each part are listed in turn. Assumes nothing.
-use Rattle.prelude.proofs.Basics.{◌+◌, ◌-◌, arith, Bool, true, false, ◌≡◌, refl, subst, ◌∙◌, length, length-take, rules}
-use Rattle.prelude.proofs.Basics.{not-false, not-true, or_same}
-use Rattle.layout.proofs.Names.{parts_of, part_onto, Part}
-use Rattle.layout.specs.private.Arrays.{Adds}
-use Rattle.layout.specs.private.NextPart.{Found, Tells}
-use Rattle.layout.proofs.JointLaws.{not_both}
-use Rattle.layout.proofs.MergeLaws.{Passing, passing, passed, passed_flag, ended, passes, spoils, own_adds}
-use Rattle.layout.proofs.MergeLaws.{own_done, own_padded, own_flag, own_told}
+use Rattle.prelude.proofs.Basics.{◌-◌, length}
+use Rattle.layout.proofs.Names.{part_onto}
+use Rattle.layout.proofs.MergeLaws.{Passing}
+use Rattle.layout.proofs.MergeLaws.{own_padded}
 use Rattle.layout.proofs.merge.list_parts.Given as goal
 
 abbrev pub invariant-loop-p : goal.invariant-loop-p

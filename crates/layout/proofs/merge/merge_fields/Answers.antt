@@ -1,8 +1,7 @@
 -- `layout::merge::merge_fields` meets its contract: the list of all parts is settled as a message.
 -- Assumes nothing.
-use Rattle.prelude.proofs.Basics.{refl, rules}
-use Rattle.layout.proofs.Names.{no_slots, parts_of, parts_onto}
-use Rattle.layout.specs.private.Arrays.{Listed}
+use Rattle.prelude.proofs.Basics.{refl}
+use Rattle.layout.proofs.Names.{no_slots}
 use Rattle.layout.proofs.FieldsLaws.{holds_none, settled_good}
 use Rattle.layout.proofs.merge.merge_fields.Goals as goal
 

@@ -1,7 +1,6 @@
 -- `layout::merge::next_part` meets its contract: the parts from each place on are those from the first. Assumes
 -- nothing.
-use Rattle.prelude.proofs.Basics.{◌-◌, ◌≤◌, ◌<◌, arith, ◌≡◌, refl, sym, ◌∙◌, length, rules}
-use Rattle.layout.proofs.Names.{field_at, Field, parts_of}
+use Rattle.prelude.proofs.Basics.{arith, refl, sym, ◌∙◌, length}
 use Rattle.layout.proofs.PaddedLaws.{field_ahead}
 use Rattle.layout.proofs.PartsLaws.{parts_end}
 use Rattle.layout.proofs.MergeLaws.{no_more, passes_by, found_here}

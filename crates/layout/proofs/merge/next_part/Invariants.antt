@@ -1,10 +1,7 @@
 -- `layout::merge::next_part` meets its contract: the parts from each place on are those from the first. Assumes
 -- nothing.
-use Rattle.prelude.proofs.Basics.{◌-◌, ◌≤◌, ◌<◌, arith, ◌≡◌, refl, sym, ◌∙◌, length, rules}
-use Rattle.layout.proofs.Names.{field_at, Field, parts_of}
-use Rattle.layout.proofs.PaddedLaws.{field_ahead}
-use Rattle.layout.proofs.PartsLaws.{parts_end}
-use Rattle.layout.proofs.MergeLaws.{no_more, passes_by, found_here}
+use Rattle.prelude.proofs.Basics.{◌-◌, ◌≤◌, ◌≡◌, length}
+use Rattle.layout.proofs.Names.{parts_of}
 use Rattle.layout.proofs.merge.next_part.Given as goal
 
 abbrev pub invariant-loop-p : goal.invariant-loop-p

@@ -1,6 +1,6 @@
 -- `layout::part::fill_part` meets its contract: a part that is not within the bytes is refused, any other is filled as
 -- a message is. Assumes nothing.
-use Rattle.prelude.proofs.Basics.{◌+◌, arith, rules, or_none}
+use Rattle.prelude.proofs.Basics.{◌+◌, arith, or_none}
 use Rattle.layout.proofs.PaddedLaws.{padded_outside}
 use Rattle.layout.proofs.PartLaws.{holds_past}
 use Rattle.layout.proofs.part.fill_part.Goals as goal

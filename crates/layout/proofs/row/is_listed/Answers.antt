@@ -1,5 +1,5 @@
 -- `layout::row::is_listed` meets its contract: a value is listed by its bit. Assumes nothing.
-use Rattle.prelude.proofs.Basics.{ℕ, ◌/◌, ◌%◌, ◌^◌, ap, ◌∙◌, eqb, rules}
+use Rattle.prelude.proofs.Basics.{ℕ, ◌/◌, ◌%◌, ◌^◌, ap, ◌∙◌, eqb}
 use Rattle.layout.proofs.RowLaws.{listed_any, listed_high, listed_bit}
 use Rattle.layout.proofs.row.is_listed.Goals as goal
 

@@ -1,6 +1,6 @@
 -- `layout::row::row_takes` meets its contract: a slot, the number, the wire type and the value are asked in turn.
 -- Assumes nothing.
-use Rattle.prelude.proofs.Basics.{sym, ◌∙◌, rules}
+use Rattle.prelude.proofs.Basics.{sym, ◌∙◌}
 use Rattle.layout.proofs.RowLaws.{takes_no_slot, takes_other, takes_wire, takes_listed}
 use Rattle.layout.proofs.row.row_takes.Goals as goal
 

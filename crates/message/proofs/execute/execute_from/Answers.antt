@@ -1,5 +1,5 @@
 -- What one pass finds is the Execute, or there is none.
-use Rattle.prelude.proofs.Basics.{arith, false, ap, ◌∙◌, length, rules, not-false, not-true}
+use Rattle.prelude.proofs.Basics.{arith, false, ap, ◌∙◌, length, not-false, not-true}
 use Rattle.message.proofs.Names.{bound_found, payload, execute_from, Execute, Frame, Request}
 use Rattle.message.proofs.BoundLaws.{run_lost, run_found}
 use Rattle.message.proofs.execute.execute_from.Goals as goal

@@ -1,5 +1,4 @@
 -- Each field by what was found of it.
-use Rattle.prelude.proofs.Basics.{rules}
 use Rattle.message.proofs.execute.execute_of.Goals as goal
 
 pub returns : goal.returns

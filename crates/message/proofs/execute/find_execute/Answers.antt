@@ -1,5 +1,5 @@
 -- Two short fields are read by their bytes alone, to the slots that the rows give; anything else goes the long way.
-use Rattle.prelude.proofs.Basics.{ℕ, arith, ◌≡◌, sym, ap, subst, ◌∙◌, List, length, take-length, rules, not-false}
+use Rattle.prelude.proofs.Basics.{ℕ, arith, ◌≡◌, sym, ap, subst, ◌∙◌, List, length, take-length}
 use Rattle.prelude.proofs.Basics.{or_same}
 use Rattle.message.proofs.Names.{one_part, Part, Held, named_fits, held_short, pair_part, one_flag, open_parts}
 use Rattle.message.proofs.Names.{Inner}

@@ -1,5 +1,5 @@
 -- Its own fields are read by their bytes alone, to the slots that the rows give; anything else goes the long way.
-use Rattle.prelude.proofs.Basics.{false, sym, ap, subst, length, take-length, rules}
+use Rattle.prelude.proofs.Basics.{false, sym, ap, subst, length, take-length}
 use Rattle.message.specs.private.Outer.{Says}
 use Rattle.message.specs.private.Marks.{TellsOuter}
 use Rattle.message.specs.declared.outer.Outer.{Outer}

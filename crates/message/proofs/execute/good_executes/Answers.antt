@@ -1,6 +1,5 @@
 -- Both tests of the definition.
-use Rattle.prelude.proofs.Basics.{ℕ, arith, Bool, true, false, ◌&&◌, ◌≡◌, sym, ap, ◌∙◌, List, rules, not-false}
-use Rattle.prelude.proofs.Basics.{not-true}
+use Rattle.prelude.proofs.Basics.{ℕ, arith, Bool, ◌&&◌, ◌≡◌, sym, ap, ◌∙◌}
 use Rattle.protocol.specs.Client as Client
 use Rattle.message.proofs.Names.{rows_of, merged, arguments_good, execute_parts}
 use Rattle.message.proofs.execute.good_executes.Goals as goal

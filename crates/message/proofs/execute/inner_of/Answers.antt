@@ -1,5 +1,5 @@
 -- The tests of the definition, in their order.
-use Rattle.prelude.proofs.Basics.{◌∙◌, eq-eqb, ne_eqb, rules, yes, no}
+use Rattle.prelude.proofs.Basics.{◌∙◌, eq-eqb, ne_eqb, yes, no}
 use Rattle.message.proofs.Names.{Inner}
 use Rattle.message.proofs.execute.inner_of.Goals as goal
 

@@ -1,5 +1,5 @@
 -- The arrays hold the statement's fields.
-use Rattle.prelude.proofs.Basics.{sym, subst, ◌∙◌, rules, not-false, not-true, or_same, get_or}
+use Rattle.prelude.proofs.Basics.{sym, subst, ◌∙◌, or_same, get_or}
 use Rattle.message.proofs.Names.{open_stmt, rows_of, one_part, merged, Holds, held_good, held_one, one_flag, Inner}
 use Rattle.message.specs.private.Marks.{Reads, TellsInner}
 use Rattle.message.specs.private.Parts.{Runs}

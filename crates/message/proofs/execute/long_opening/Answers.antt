@@ -1,5 +1,5 @@
 -- The arrays hold the message's fields; the statement stands in field 4.
-use Rattle.prelude.proofs.Basics.{Bool, ◌||◌, ap, ◌∙◌, rules, not-false, not-true}
+use Rattle.prelude.proofs.Basics.{Bool, ◌||◌, ap, ◌∙◌}
 use Rattle.message.proofs.Names.{own_padded}
 use Rattle.message.proofs.ArrayLaws.{open_refused, open_whole, open_once}
 use Rattle.message.proofs.execute.long_opening.Goals as goal

@@ -1,5 +1,5 @@
 -- What one pass finds is the Execute, or there is none.
-use Rattle.prelude.proofs.Basics.{arith, false, ap, rules, not-false, not-true}
+use Rattle.prelude.proofs.Basics.{arith, false, ap, not-false, not-true}
 use Rattle.message.proofs.Names.{bound_found, optional_by, open_from}
 use Rattle.message.proofs.BoundLaws.{run_lost, run_found}
 use Rattle.message.proofs.execute.open_from.Goals as goal

@@ -1,5 +1,5 @@
 -- Each arm is one clause of of_inner.
-use Rattle.prelude.proofs.Basics.{refl, sym, ap, subst, ◌∙◌, length, rules, or_then}
+use Rattle.prelude.proofs.Basics.{refl, sym, ap, subst, ◌∙◌, length, or_then}
 use Rattle.protocol.specs.Client as Client
 use Rattle.message.proofs.Names.{parts_padded, execute_padded, twice, optional_by, open_parts, execute_parts, Inner}
 use Rattle.message.proofs.Names.{executes_padded}

@@ -1,5 +1,5 @@
 -- The arrays hold the fields of all parts of the statement.
-use Rattle.prelude.proofs.Basics.{sym, subst, rules, not-false, not-true, get_or}
+use Rattle.prelude.proofs.Basics.{sym, subst, get_or}
 use Rattle.message.proofs.Names.{open_stmt, rows_of, merged, Holds, held_good, open_parts, Inner}
 use Rattle.message.specs.private.Marks.{Reads, TellsInner}
 use Rattle.message.specs.private.Parts.{Runs}

@@ -1,5 +1,5 @@
 -- The Execute of the whole payload.
-use Rattle.prelude.proofs.Basics.{ℕ, ap, ◌∙◌, rules}
+use Rattle.prelude.proofs.Basics.{ℕ, ap, ◌∙◌}
 use Rattle.message.proofs.Names.{execute_padded, payload, execute_in, execute_from, execute_frame}
 use Rattle.message.proofs.PaddedLaws.{tells_as}
 use Rattle.message.proofs.execute.read_execute.Goals as goal

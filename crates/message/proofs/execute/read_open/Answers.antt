@@ -1,5 +1,5 @@
 -- Where the statement was found, what is made of it is the frame.
-use Rattle.prelude.proofs.Basics.{Bool, ◌||◌, sym, ap, subst, ◌∙◌, rules}
+use Rattle.prelude.proofs.Basics.{Bool, ◌||◌, ap, subst, ◌∙◌}
 use Rattle.message.proofs.Names.{open_parts, open_stmt_padded}
 use Rattle.message.specs.private.Parts.{FindsOpening}
 use Rattle.message.specs.private.Marks.{TellsOpening}

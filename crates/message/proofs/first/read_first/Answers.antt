@@ -1,5 +1,5 @@
 -- The tag's byte and the varint behind it are field 1; where the bytes are others, nothing is said.
-use Rattle.prelude.proofs.Basics.{sym, ◌∙◌, rules}
+use Rattle.prelude.proofs.Basics.{sym, ◌∙◌}
 use Rattle.message.proofs.FirstLaws.{starts_at}
 use Rattle.message.proofs.first.read_first.Goals as goal
 

@@ -1,5 +1,5 @@
 -- Each arm is one clause of argument_in, and the arguments lie within the frame.
-use Rattle.prelude.proofs.Basics.{arith, sym, ap, ◌∙◌, length-take-le, rules}
+use Rattle.prelude.proofs.Basics.{arith, sym, ap, ◌∙◌, length-take-le}
 use Rattle.message.proofs.Names.{Arguments, argument_in}
 use Rattle.message.specs.Frame.{argument_at}
 use Rattle.message.proofs.UsedLaws.{read_within}

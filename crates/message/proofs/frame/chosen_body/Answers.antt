@@ -1,5 +1,5 @@
 -- The chosen part lies within the frame.
-use Rattle.prelude.proofs.Basics.{ℕ, ◌+◌, arith, ap, ◌∙◌, length, take, drop, rules}
+use Rattle.prelude.proofs.Basics.{ℕ, ◌+◌, arith, ap, ◌∙◌, length, take, drop}
 use native.Mathlib.Nat.{add-sub_cancel_left}
 use Rattle.message.proofs.Names.{Part}
 use Rattle.message.specs.Frame.{body_in}

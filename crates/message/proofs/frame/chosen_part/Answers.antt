@@ -1,5 +1,5 @@
 -- Each arm is one clause of part_of.
-use Rattle.prelude.proofs.Basics.{sym, ap, ◌∙◌, rules}
+use Rattle.prelude.proofs.Basics.{sym, ap, ◌∙◌}
 use Rattle.message.proofs.Names.{part_of}
 use Rattle.message.proofs.frame.chosen_part.Goals as goal
 

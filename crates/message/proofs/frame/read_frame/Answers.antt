@@ -1,5 +1,5 @@
 -- The head tells the type and the frame's bytes, or the refusal.
-use Rattle.prelude.proofs.Basics.{sym, ap, ◌∙◌, take, length-take-le, rules}
+use Rattle.prelude.proofs.Basics.{sym, ap, ◌∙◌, take, length-take-le}
 use Rattle.message.proofs.Names.{frame_in, of_head, frame_of, kind_padded, head_padded, padded_of}
 use Rattle.message.proofs.WithinLaws.{frame_within}
 use Rattle.message.proofs.PaddedLaws.{frame_tells, refused_tells}

@@ -1,5 +1,4 @@
 -- Each arm is frame_in at its message type.
-use Rattle.prelude.proofs.Basics.{rules}
 use Rattle.message.proofs.Names.{frame_in, kind_padded}
 use Rattle.message.proofs.MessageLaws.{kind_unknown}
 use Rattle.message.proofs.PaddedLaws.{as_kind}

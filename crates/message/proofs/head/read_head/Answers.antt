@@ -1,5 +1,5 @@
 -- Each test of the code is one of headOf's, in its order.
-use Rattle.prelude.proofs.Basics.{sym, ◌∙◌, rules}
+use Rattle.prelude.proofs.Basics.{sym, ◌∙◌}
 use Rattle.message.proofs.HeadLaws.{head_short, head_empty, head_large, head_cut, head_whole}
 use Rattle.message.proofs.head.read_head.Goals as goal
 

@@ -1,5 +1,5 @@
 -- Where the fields stand in their order, laws say what the rows make of them; where not, nothing is said.
-use Rattle.prelude.proofs.Basics.{ℕ, arith, sym, ap, subst, ◌∙◌, List, length, take-length, rules}
+use Rattle.prelude.proofs.Basics.{arith, sym, ap, subst, ◌∙◌, length, take-length}
 use Rattle.message.proofs.Names.{First}
 use Rattle.message.specs.private.First.{Begins, Starts}
 use Rattle.message.specs.private.Marks.{TellsFirst}

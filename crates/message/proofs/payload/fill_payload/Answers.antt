@@ -1,5 +1,5 @@
 -- The fields up to the frame's end are those from the payload on.
-use Rattle.prelude.proofs.Basics.{◌∙◌, rules, or_same}
+use Rattle.prelude.proofs.Basics.{◌∙◌, or_same}
 use Rattle.layout.proofs.ArrayLaws.{holds_whole}
 use Rattle.message.proofs.Names.{payload}
 use Rattle.message.proofs.PaddedLaws.{own_whole}

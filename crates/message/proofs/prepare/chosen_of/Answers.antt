@@ -1,6 +1,6 @@
 -- The tests of the definition, in their order, at the field that the type chooses.
 -- the answer for a field, which is the one chosen
-use Rattle.prelude.proofs.Basics.{ℕ, arith, ◌≡◌, ap, ◌∙◌, get_or, eqb, eq-eqb, ne_eqb, rules, yes, no}
+use Rattle.prelude.proofs.Basics.{ℕ, arith, ap, ◌∙◌, get_or, eq-eqb, ne_eqb, yes, no}
 use Rattle.message.proofs.Names.{low32, Chosen}
 use Rattle.message.specs.private.Parts.{chosen_by}
 use Rattle.message.proofs.prepare.chosen_of.Goals as goal

@@ -1,5 +1,5 @@
 -- Two fields are read by their bytes alone, to the slots that the rows give; anything else goes the long way.
-use Rattle.prelude.proofs.Basics.{◌≤◌, arith, false, sym, ap, subst, ◌∙◌, length, take-length, rules}
+use Rattle.prelude.proofs.Basics.{◌≤◌, arith, false, sym, ap, subst, ◌∙◌, length, take-length}
 use Rattle.message.proofs.Names.{First}
 use Rattle.message.specs.private.First.{Begins}
 use Rattle.message.specs.private.Marks.{TellsFirst}

@@ -1,6 +1,6 @@
 -- The tests of the definition, by the type.
-use Rattle.prelude.proofs.Basics.{ℕ, arith, Bool, true, false, ◌&&◌, ◌≡◌, sym, ap, ◌∙◌, List, [], eq-eqb, ne_eqb, rules}
-use Rattle.prelude.proofs.Basics.{not-false, not-true, yes, no}
+use Rattle.prelude.proofs.Basics.{ℕ, Bool, ◌&&◌, ◌≡◌, sym, ap, ◌∙◌, [], eq-eqb, ne_eqb}
+use Rattle.prelude.proofs.Basics.{yes, no}
 use Rattle.message.proofs.Names.{stmt_execute, rows_of, parts_in, merged, arguments_good, bodies_good, stmt_parts}
 use Rattle.message.proofs.Names.{body_parts}
 use Rattle.message.proofs.prepare.good_bodies.Goals as goal

@@ -1,5 +1,5 @@
 -- A StmtExecute's arguments are found in one pass; of any other body the answer alone counts.
-use Rattle.prelude.proofs.Basics.{arith, true, refl, ◌∙◌, [], rules, not-false, not-true}
+use Rattle.prelude.proofs.Basics.{arith, true, refl, ◌∙◌, [], not-false, not-true}
 use Rattle.message.proofs.Names.{embedded, held_good, bound_found}
 use Rattle.message.proofs.MessageLaws.{body_list_bad, body_list}
 use Rattle.message.proofs.BoundLaws.{body_lost, body_found}

@@ -1,8 +1,7 @@
 -- The arrays hold the statement's fields.
-use Rattle.prelude.proofs.Basics.{sym, subst, ◌∙◌, rules, not-false, not-true, or_same, get_or}
+use Rattle.prelude.proofs.Basics.{sym, subst, ◌∙◌, or_same}
 use Rattle.message.proofs.Names.{prepare_stmt, rows_of, one_part, merged, Holds, held_good, held_one, one_flag}
-use Rattle.message.proofs.Names.{Chosen}
-use Rattle.message.specs.private.Marks.{Reads, TellsChosen}
+use Rattle.message.specs.private.Marks.{Reads}
 use Rattle.message.specs.private.Parts.{Chooses}
 use Rattle.message.proofs.ArrayLaws.{prepare_spoiled, prepare_held}
 use Rattle.message.proofs.PaddedLaws.{chosen_tells}

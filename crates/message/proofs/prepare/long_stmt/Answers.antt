@@ -1,5 +1,5 @@
 -- The arrays hold the message's fields; the statement stands in field 2.
-use Rattle.prelude.proofs.Basics.{Bool, ◌||◌, ap, ◌∙◌, rules, not-false, not-true}
+use Rattle.prelude.proofs.Basics.{Bool, ◌||◌, ap, ◌∙◌}
 use Rattle.message.proofs.Names.{own_padded}
 use Rattle.message.proofs.ArrayLaws.{prepare_refused, prepare_whole, prepare_once}
 use Rattle.message.proofs.prepare.long_stmt.Goals as goal

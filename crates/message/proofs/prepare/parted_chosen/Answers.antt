@@ -1,7 +1,7 @@
 -- The arrays hold the fields of all parts of the statement.
-use Rattle.prelude.proofs.Basics.{sym, subst, rules, not-false, not-true, get_or}
-use Rattle.message.proofs.Names.{prepare_stmt, rows_of, merged, Holds, held_good, stmt_parts, Chosen}
-use Rattle.message.specs.private.Marks.{Reads, TellsChosen}
+use Rattle.prelude.proofs.Basics.{sym, subst}
+use Rattle.message.proofs.Names.{prepare_stmt, rows_of, merged, Holds, held_good, stmt_parts}
+use Rattle.message.specs.private.Marks.{Reads}
 use Rattle.message.specs.private.Parts.{Chooses}
 use Rattle.message.proofs.ArrayLaws.{prepare_spoiled, prepare_held}
 use Rattle.message.proofs.PaddedLaws.{chosen_tells}

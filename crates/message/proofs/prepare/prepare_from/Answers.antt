@@ -1,5 +1,5 @@
 -- Its body's arguments tell whether a Prepare is good.
-use Rattle.prelude.proofs.Basics.{ap, ◌∙◌, rules, not-false, not-true}
+use Rattle.prelude.proofs.Basics.{ap, ◌∙◌, not-false, not-true}
 use Rattle.protocol.specs.Client as Client
 use Rattle.message.proofs.Names.{low32, prepare_from, Request}
 use Rattle.message.proofs.MessageLaws.{payload_bad, payload_good}

@@ -1,5 +1,5 @@
 -- Each arm is one clause of of_chosen.
-use Rattle.prelude.proofs.Basics.{sym, ap, subst, ◌∙◌, length, rules}
+use Rattle.prelude.proofs.Basics.{sym, ap, subst, ◌∙◌, length}
 use Rattle.protocol.specs.Client as Client
 use Rattle.message.proofs.Names.{twice, stmt_parts, Chosen}
 use Rattle.message.specs.private.Parts.{of_chosen}

@@ -1,5 +1,5 @@
 -- A text alone is a body without arguments; anything else goes the long way.
-use Rattle.prelude.proofs.Basics.{ℕ, arith, sym, ap, ◌∙◌, List, length, take-length, rules}
+use Rattle.prelude.proofs.Basics.{ℕ, arith, sym, ap, ◌∙◌, List, length, take-length}
 use Rattle.message.proofs.Names.{told}
 use Rattle.message.specs.Prepare.{body_in}
 use Rattle.message.proofs.BoundLaws.{body_text}

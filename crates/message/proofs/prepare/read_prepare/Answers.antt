@@ -1,5 +1,5 @@
 -- Where the statement was found, what is made of it is the frame.
-use Rattle.prelude.proofs.Basics.{Bool, ◌||◌, sym, ap, subst, ◌∙◌, rules}
+use Rattle.prelude.proofs.Basics.{Bool, ◌||◌, ap, subst, ◌∙◌}
 use Rattle.message.proofs.Names.{parts_padded, stmt_parts}
 use Rattle.message.specs.private.Parts.{FindsStmt}
 use Rattle.message.specs.private.Marks.{TellsStmt}

@@ -1,5 +1,5 @@
 -- Each arm is one clause of args_of.
-use Rattle.prelude.proofs.Basics.{sym, ap, ◌∙◌, rules}
+use Rattle.prelude.proofs.Basics.{sym, ap, ◌∙◌}
 use Rattle.message.proofs.Names.{args_of}
 use Rattle.message.proofs.request.args_of.Goals as goal
 

@@ -1,5 +1,5 @@
 -- Each arm is one clause of body_of.
-use Rattle.prelude.proofs.Basics.{sym, ap, rules}
+use Rattle.prelude.proofs.Basics.{sym, ap}
 use Rattle.message.specs.Request.{body_of}
 use Rattle.message.proofs.request.body_of.Goals as goal
 

@@ -1,5 +1,5 @@
 -- Each field is what its reader answers.
-use Rattle.prelude.proofs.Basics.{refl, rules}
+use Rattle.prelude.proofs.Basics.{refl}
 use Rattle.message.proofs.simple.fetch_of.Goals as goal
 
 pub returns : goal.returns

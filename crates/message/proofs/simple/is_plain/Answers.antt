@@ -1,5 +1,4 @@
 -- The answer of fill_payload over no rows.
-use Rattle.prelude.proofs.Basics.{rules}
 use Rattle.message.proofs.simple.is_plain.Goals as goal
 
 pub returns : goal.returns

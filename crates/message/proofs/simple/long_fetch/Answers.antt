@@ -1,5 +1,5 @@
 -- The arrays hold the message's fields.
-use Rattle.prelude.proofs.Basics.{◌∙◌, rules, not-false, not-true}
+use Rattle.prelude.proofs.Basics.{◌∙◌}
 use Rattle.message.proofs.Names.{fetch_frame}
 use Rattle.message.proofs.ArrayLaws.{fetch_spoiled, fetch_held}
 use Rattle.message.proofs.simple.long_fetch.Goals as goal

@@ -1,5 +1,4 @@
 -- The arrays hold the message's fields.
-use Rattle.prelude.proofs.Basics.{rules, not-false, not-true}
 use Rattle.protocol.specs.Client as Client
 use Rattle.message.proofs.Names.{deallocate_frame, Request}
 use Rattle.message.proofs.ArrayLaws.{named_spoiled, named_held}

@@ -1,5 +1,5 @@
 -- The payload is good or not.
-use Rattle.prelude.proofs.Basics.{sym, ◌∙◌, rules, not-false, not-true}
+use Rattle.prelude.proofs.Basics.{sym, ◌∙◌}
 use Rattle.protocol.specs.Client as Client
 use Rattle.message.proofs.Names.{reset_frame, Request}
 use Rattle.message.proofs.MessageLaws.{payload_bad, payload_good}

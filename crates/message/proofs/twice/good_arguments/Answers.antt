@@ -1,11 +1,10 @@
 -- Each turn judges the next part.
-use Rattle.prelude.proofs.Basics.{ℕ, ◌+◌, ◌-◌, ◌<◌, arith, true, ◌≡◌, sym, ap, subst, ◌∙◌, length, length-take-le}
-use Rattle.prelude.proofs.Basics.{rules, not-false}
-use Rattle.prelude.proofs.Basics.{not-true, or_same}
+use Rattle.prelude.proofs.Basics.{ℕ, ◌+◌, arith, ◌≡◌, sym, subst, ◌∙◌, length, length-take-le}
+use Rattle.prelude.proofs.Basics.{or_same}
 use Rattle.layout.specs.private.NextPart.{Found, Tells}
 use Rattle.layout.proofs.PartsLaws.{parts_end}
-use Rattle.message.proofs.Names.{parts_of, Part, payload}
-use Rattle.message.proofs.TwiceLaws.{Judging, judging, judged, judged_flag, judged_bad, judged_good, inner_good}
+use Rattle.message.proofs.Names.{parts_of, payload}
+use Rattle.message.proofs.TwiceLaws.{judging, judged, judged_flag, judged_bad, judged_good, inner_good}
 use Rattle.message.proofs.TwiceLaws.{inner_padded, inner_there, inner_flag, inner_good_lem, inner_padded_lem}
 use Rattle.message.proofs.twice.good_arguments.Goals as goal
 

@@ -1,12 +1,7 @@
 -- Each turn judges the next part.
-use Rattle.prelude.proofs.Basics.{ℕ, ◌+◌, ◌-◌, ◌<◌, arith, true, ◌≡◌, sym, ap, subst, ◌∙◌, length, length-take-le}
-use Rattle.prelude.proofs.Basics.{rules, not-false}
-use Rattle.prelude.proofs.Basics.{not-true, or_same}
-use Rattle.layout.specs.private.NextPart.{Found, Tells}
-use Rattle.layout.proofs.PartsLaws.{parts_end}
-use Rattle.message.proofs.Names.{parts_of, Part, payload}
-use Rattle.message.proofs.TwiceLaws.{Judging, judging, judged, judged_flag, judged_bad, judged_good, own_good}
-use Rattle.message.proofs.TwiceLaws.{own_padded, own_there, own_flag, own_good_lem}
+use Rattle.prelude.proofs.Basics.{◌-◌, length}
+use Rattle.message.proofs.TwiceLaws.{Judging, own_good}
+use Rattle.message.proofs.TwiceLaws.{own_padded}
 use Rattle.message.proofs.twice.good_parts.Given as goal
 
 abbrev pub invariant-loop-p : goal.invariant-loop-p

@@ -1,5 +1,4 @@
 -- What merging the parts answers.
-use Rattle.prelude.proofs.Basics.{rules}
 use Rattle.message.proofs.twice.is_message.Goals as goal
 
 pub returns : goal.returns

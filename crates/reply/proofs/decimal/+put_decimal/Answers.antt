@@ -1,6 +1,5 @@
 -- `reply::decimal::put_decimal` meets its contract: the last digit behind the others, which a call on the tenth of the
 -- number puts. Assumes nothing.
-use Rattle.prelude.proofs.Basics.{arith}
 use Rattle.reply.proofs.DecimalLaws.{one_digit, last_digit}
 use Rattle.reply.proofs.decimal.+put_decimal.Goals as goal
 

@@ -1,5 +1,4 @@
 -- `reply::frame::put_error` meets its contract: the four fields stand one behind the other. Assumes nothing.
-use Rattle.prelude.proofs.Basics.{rules}
 use Rattle.encode.proofs.PutsLaws.{puts_then}
 use Rattle.reply.specs.Frame.{error_payload}
 use Rattle.reply.proofs.frame.put_error.Goals as goal

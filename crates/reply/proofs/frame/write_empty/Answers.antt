@@ -1,6 +1,6 @@
 -- `reply::frame::write_empty` meets its contract: the head is the whole frame, put where there is room.
 -- Assumes nothing.
-use Rattle.prelude.proofs.Basics.{arith, [], rules}
+use Rattle.prelude.proofs.Basics.{arith, []}
 use Rattle.encode.specs.Frame.{frame}
 use Rattle.encode.proofs.PutsLaws.{puts_none, puts_room}
 use Rattle.reply.proofs.frame.write_empty.Goals as goal

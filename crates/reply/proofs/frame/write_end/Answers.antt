@@ -1,5 +1,5 @@
 -- `reply::frame::write_end` meets its contract: one empty frame behind the other. Assumes nothing.
-use Rattle.prelude.proofs.Basics.{arith, refl, [], ◌++◌, rules}
+use Rattle.prelude.proofs.Basics.{arith, refl, [], ◌++◌}
 use Rattle.encode.specs.Frame.{frame}
 use Rattle.encode.proofs.PutsLaws.{puts_none, puts_room, puts_then, puts_rest}
 use Rattle.reply.specs.Frame.{stmt_execute_ok}

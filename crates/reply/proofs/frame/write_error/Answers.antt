@@ -1,6 +1,6 @@
 -- `reply::frame::write_error` meets its contract: the head states the length that is counted, and the payload stands
 -- behind it. Assumes nothing.
-use Rattle.prelude.proofs.Basics.{arith, length, rules}
+use Rattle.prelude.proofs.Basics.{arith, length}
 use Rattle.varint.proofs.VarintLaws.{varint_length}
 use Rattle.encode.proofs.PutsLaws.{puts_none, puts_room}
 use Rattle.reply.specs.Frame.{error_frame}

@@ -1,5 +1,4 @@
 -- `reply::text::put_kind` meets its contract: the type decides which of two words is put. Assumes nothing.
-use Rattle.prelude.proofs.Basics.{rules}
 use Rattle.encode.proofs.PutsLaws.{puts_as}
 use Rattle.reply.proofs.TextLaws.{kind_array, kind_object}
 use Rattle.reply.proofs.text.put_kind.Goals as goal

@@ -1,5 +1,4 @@
 -- `reply::text::put_numbered` meets its contract: the three parts stand one behind the other. Assumes nothing.
-use Rattle.prelude.proofs.Basics.{rules}
 use Rattle.encode.proofs.PutsLaws.{puts_then}
 use Rattle.reply.proofs.text.put_numbered.Goals as goal
 

@@ -1,5 +1,4 @@
 -- `reply::text::put_text` meets its contract: one law of `TextLaws` for each text. Assumes nothing.
-use Rattle.prelude.proofs.Basics.{rules}
 use Rattle.encode.proofs.PutsLaws.{puts_as}
 use Rattle.reply.proofs.TextLaws.{text_7, text_8, text_9, text_10, text_11, text_other}
 use Rattle.reply.proofs.text.put_text.Goals as goal

@@ -1,5 +1,4 @@
 -- `reply::text::put_unsupported` meets its contract: its parts stand one behind the other. Assumes nothing.
-use Rattle.prelude.proofs.Basics.{rules}
 use Rattle.encode.proofs.PutsLaws.{puts_then}
 use Rattle.reply.proofs.text.put_unsupported.Goals as goal
 

@@ -1,6 +1,6 @@
 -- The test is the one by which `nan_bits` holds.
-use Rattle.prelude.proofs.Basics.{arith, false, ◌≡◌}
-use lib.Ieee.{binary32, nan_bits}
+use Rattle.prelude.proofs.Basics.{arith}
+use lib.Ieee.{binary32}
 use Rattle.scalar.proofs.ArgumentLaws.{is_nan_lem, no_nan, asked}
 use Rattle.scalar.proofs.argument.float_argument.Goals as goal
 

@@ -1,5 +1,5 @@
 -- Four bytes by place are `little 4`; sums of bytes stay below 2 ^ 32.
-use Rattle.prelude.proofs.Basics.{arith, rules}
+use Rattle.prelude.proofs.Basics.{arith}
 use Rattle.scalar.proofs.FixedLaws.{little_four}
 use Rattle.scalar.proofs.fixed.four.Goals as goal
 

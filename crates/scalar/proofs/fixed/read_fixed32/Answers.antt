@@ -1,5 +1,5 @@
 -- Each of the two tests that the value passes the end, and the value of `four`.
-use Rattle.prelude.proofs.Basics.{arith, rules}
+use Rattle.prelude.proofs.Basics.{arith}
 use Rattle.scalar.proofs.FixedLaws.{fixed_bad, fixed_whole}
 use Rattle.scalar.proofs.fixed.read_fixed32.Goals as goal
 

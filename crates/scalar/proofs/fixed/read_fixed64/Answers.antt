@@ -1,5 +1,5 @@
 -- Each of the two tests that the value passes the end; low and high four bytes by `little-add`.
-use Rattle.prelude.proofs.Basics.{◌+◌, ◌*◌, ◌^◌, arith, rules}
+use Rattle.prelude.proofs.Basics.{◌+◌, ◌*◌, ◌^◌, arith}
 use Rattle.scalar.proofs.FixedLaws.{little_add, fixed_bad, fixed_whole}
 use Rattle.scalar.proofs.fixed.read_fixed64.Goals as goal
 

@@ -1,5 +1,5 @@
 -- Below 2 ^ 63 the bits are the number; from there on they are -1 less their complement.
-use Rattle.prelude.proofs.Basics.{arith, ap, rules}
+use Rattle.prelude.proofs.Basics.{arith, ap}
 use Rattle.std.proofs.Common.{w64, to_z}
 use mir.ValLaws.{to_z-Fits, of_z-to_z}
 use Rattle.scalar.proofs.SignedLaws.{high_bits}

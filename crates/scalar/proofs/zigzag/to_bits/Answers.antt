@@ -1,9 +1,9 @@
 -- From 0 on the number is its own bits; below 0 they are the complement of the bits of -1 - v.
 -- v read back from its bits, as the machine computes with it
 use Rattle.prelude.proofs.Basics.{arith, ◌∙◌}
-use Rattle.std.proofs.Common.{ℤ, w64, SFits, to_z, of_z}
+use Rattle.std.proofs.Common.{w64, to_z, of_z}
 use mir.ValLaws.{to_z-Fits, of_z_fits}
-use Rattle.scalar.proofs.SignedLaws.{same_bits, plain, Flipped, flipped}
+use Rattle.scalar.proofs.SignedLaws.{same_bits, plain, flipped}
 use Rattle.scalar.proofs.zigzag.to_bits.Goals as goal
 
 pub overflow_cast-result : goal.overflow_cast-result

@@ -1,5 +1,5 @@
 -- The wrapped difference is the bits of the number, by n's last bit.
-use Rattle.prelude.proofs.Basics.{arith, ◌≡◌, ◌∙◌, ⊎_elim, rules}
+use Rattle.prelude.proofs.Basics.{arith, ◌≡◌, ◌∙◌}
 use Rattle.std.proofs.Common.{w64, to_z}
 use mir.ValLaws.{to_z-of_z}
 use Rattle.scalar.specs.Zigzag.{unzigzag}

@@ -1,7 +1,6 @@
 -- Twice the bits, and for a negative number the complement of that, are its zigzag.
 -- the bits that `to_bits` hands over are v's
-use Rattle.prelude.proofs.Basics.{arith, ◌≡◌, ◌∙◌, rules}
-use Rattle.std.proofs.Common.{w64, of_z}
+use Rattle.prelude.proofs.Basics.{arith, ◌∙◌}
 use Rattle.scalar.proofs.SignedLaws.{same_bits}
 use Rattle.scalar.proofs.ZigzagLaws.{encode_low, encode_high}
 use Rattle.scalar.proofs.zigzag.zigzag_encode.Goals as goal

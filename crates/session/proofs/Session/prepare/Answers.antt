@@ -1,5 +1,5 @@
 -- The place is the one that the search finds. Assumes nothing.
-use Rattle.prelude.proofs.Basics.{ap, ◌∙◌, rules}
+use Rattle.prelude.proofs.Basics.{ap, ◌∙◌}
 use Rattle.session.proofs.Names.{session_of}
 use Rattle.session.specs.Tables.{prepared_at}
 use Rattle.session.proofs.Session.prepare.Goals as goal

@@ -1,7 +1,7 @@
 -- The cursors before the place that pass have ended; the others are as they were. Assumes nothing.
-use Rattle.prelude.proofs.Basics.{◌-◌, arith, sym, ◌∙◌, ⊎_elim, rules}
-use Rattle.session.proofs.Names.{passes, max_cursors}
-use Rattle.session.proofs.ChangeLaws.{Ending, begins, all_ended, ends_it, leaves_it}
+use Rattle.prelude.proofs.Basics.{arith, sym, ◌∙◌}
+use Rattle.session.proofs.Names.{passes}
+use Rattle.session.proofs.ChangeLaws.{begins, all_ended, ends_it, leaves_it}
 use Rattle.session.proofs.change.end.Goals as goal
 use Rattle.session.proofs.change.end.Goals.{then-passes, else-passes}
 

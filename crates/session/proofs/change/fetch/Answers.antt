@@ -1,5 +1,5 @@
 -- The new number of rows sent is the one that `raise` says. Assumes nothing.
-use Rattle.prelude.proofs.Basics.{◌∙◌, rules}
+use Rattle.prelude.proofs.Basics.{◌∙◌}
 use Rattle.session.proofs.Names.{session_of}
 use Rattle.session.proofs.ChangeLaws.{raises}
 use Rattle.session.proofs.change.fetch.Goals as goal

@@ -1,5 +1,5 @@
 -- The statement's cursor ends, then its place is emptied. Assumes nothing.
-use Rattle.prelude.proofs.Basics.{ap, ◌∙◌, rules}
+use Rattle.prelude.proofs.Basics.{ap, ◌∙◌}
 use Rattle.session.proofs.Names.{no_stmt, stored_stmt}
 use Rattle.session.proofs.change.free.Goals as goal
 

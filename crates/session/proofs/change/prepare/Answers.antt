@@ -1,5 +1,5 @@
 -- The statement's cursor ends, then the statement is stored. Assumes nothing.
-use Rattle.prelude.proofs.Basics.{ap, ◌∙◌, rules}
+use Rattle.prelude.proofs.Basics.{ap, ◌∙◌}
 use Rattle.session.proofs.Names.{new_stmt, stored_stmt}
 use Rattle.session.proofs.change.prepare.Goals as goal
 

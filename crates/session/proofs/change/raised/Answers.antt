@@ -1,5 +1,5 @@
 -- Each way out returns the smaller of what is asked for and what is there. Assumes nothing.
-use Rattle.prelude.proofs.Basics.{arith, rules}
+use Rattle.prelude.proofs.Basics.{arith}
 use Rattle.session.proofs.change.raised.Goals as goal
 
 pub returns-then-rows-sent : goal.returns-then-rows-sent

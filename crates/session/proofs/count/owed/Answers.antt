@@ -1,7 +1,6 @@
 -- What was summed, and what is left to sum, is the whole. Assumes nothing.
-use Rattle.prelude.proofs.Basics.{◌-◌, arith}
-use Rattle.session.proofs.Names.{owes, max_cursors, cursor_in, max_number}
-use Rattle.session.proofs.LoopLaws.{Summing, sums, sums_on, summed}
+use Rattle.prelude.proofs.Basics.{arith}
+use Rattle.session.proofs.LoopLaws.{sums, sums_on, summed}
 use Rattle.session.proofs.count.owed.Goals as goal
 
 pub loop-i-init : goal.loop-i-init

@@ -1,7 +1,7 @@
 -- What was summed, and what is left to sum, is the whole. Assumes nothing.
-use Rattle.prelude.proofs.Basics.{◌-◌, arith}
+use Rattle.prelude.proofs.Basics.{◌-◌}
 use Rattle.session.proofs.Names.{owes, max_cursors, cursor_in, max_number}
-use Rattle.session.proofs.LoopLaws.{Summing, sums, sums_on, summed}
+use Rattle.session.proofs.LoopLaws.{Summing}
 use Rattle.session.proofs.count.owed.Given as goal
 
 abbrev pub invariant-loop-i : goal.invariant-loop-i

@@ -1,5 +1,5 @@
 -- A free place owes nothing, a live cursor what it was not sent yet. Assumes nothing.
-use Rattle.prelude.proofs.Basics.{arith, sym, ◌∙◌, rules}
+use Rattle.prelude.proofs.Basics.{arith, sym, ◌∙◌}
 use Rattle.session.proofs.Names.{cursor_in}
 use Rattle.session.proofs.EntryLaws.{owes_dead, owes_live}
 use Rattle.session.proofs.count.owes.Goals as goal

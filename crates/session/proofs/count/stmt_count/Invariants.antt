@@ -1,7 +1,7 @@
 -- What was counted, and what is left to count, is the whole. Assumes nothing.
-use Rattle.prelude.proofs.Basics.{◌-◌, arith, cond, ap, ◌∙◌, rules}
+use Rattle.prelude.proofs.Basics.{◌-◌, cond}
 use Rattle.session.proofs.Names.{flag, max_stmts, stmt_in}
-use Rattle.session.proofs.LoopLaws.{Summing, sums, sums_on, summed}
+use Rattle.session.proofs.LoopLaws.{Summing}
 use Rattle.session.proofs.count.stmt_count.Given as goal
 
 abbrev pub invariant-loop-i : goal.invariant-loop-i

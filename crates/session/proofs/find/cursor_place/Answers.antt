@@ -1,5 +1,5 @@
 -- The place that is found comes first, else the free one. Assumes nothing.
-use Rattle.prelude.proofs.Basics.{◌∙◌, rules}
+use Rattle.prelude.proofs.Basics.{◌∙◌}
 use Rattle.session.proofs.LoopLaws.{own_place, other_place}
 use Rattle.session.proofs.find.cursor_place.Goals as goal
 

@@ -1,7 +1,6 @@
 -- Blocks without the id are passed, and the scan starts at the first block that has it. Assumes nothing.
-use Rattle.prelude.proofs.Basics.{◌-◌, arith, sym, ◌∙◌, rules}
-use Rattle.session.proofs.Names.{max_stmts}
-use Rattle.session.proofs.BlockLaws.{Skipping, skips, skips_on}
+use Rattle.prelude.proofs.Basics.{arith, sym, ◌∙◌}
+use Rattle.session.proofs.BlockLaws.{skips, skips_on}
 use Rattle.session.proofs.LoopLaws.{no_place_lem}
 use Rattle.session.proofs.find.find_stmt.Goals as goal
 

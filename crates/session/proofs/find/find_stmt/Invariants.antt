@@ -1,8 +1,7 @@
 -- Blocks without the id are passed, and the scan starts at the first block that has it. Assumes nothing.
-use Rattle.prelude.proofs.Basics.{◌-◌, arith, sym, ◌∙◌, rules}
+use Rattle.prelude.proofs.Basics.{◌-◌}
 use Rattle.session.proofs.Names.{max_stmts}
-use Rattle.session.proofs.BlockLaws.{Skipping, skips, skips_on}
-use Rattle.session.proofs.LoopLaws.{no_place_lem}
+use Rattle.session.proofs.BlockLaws.{Skipping}
 use Rattle.session.proofs.find.find_stmt.Given as goal
 
 abbrev pub invariant-loop-b : goal.invariant-loop-b

@@ -1,7 +1,7 @@
 -- The first place from here on is the first of all. Assumes nothing.
-use Rattle.prelude.proofs.Basics.{◌-◌, arith, sym, ◌∙◌}
+use Rattle.prelude.proofs.Basics.{◌-◌}
 use Rattle.session.proofs.Names.{passes, max_cursors, cursor_in}
-use Rattle.session.proofs.LoopLaws.{Looking, looks, looks_on, placed, no_place_lem}
+use Rattle.session.proofs.LoopLaws.{Looking}
 use Rattle.session.proofs.find.first_place.Given as goal
 
 abbrev pub invariant-loop-i : goal.invariant-loop-i

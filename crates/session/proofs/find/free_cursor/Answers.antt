@@ -1,9 +1,7 @@
 -- The first free place from here on is the first of all. Assumes nothing.
-use Rattle.prelude.proofs.Basics.{◌-◌, arith, sym, ◌∙◌}
-use Rattle.session.proofs.Names.{max_cursors, cursor_in}
-use Rattle.session.specs.Entry.{free_cursor}
+use Rattle.prelude.proofs.Basics.{arith, sym, ◌∙◌}
 use Rattle.session.proofs.EntryLaws.{free_yes, free_no}
-use Rattle.session.proofs.LoopLaws.{Looking, looks, looks_on, placed, no_place_lem}
+use Rattle.session.proofs.LoopLaws.{looks, looks_on, placed, no_place_lem}
 use Rattle.session.proofs.find.free_cursor.Goals as goal
 
 pub loop-i-init : goal.loop-i-init

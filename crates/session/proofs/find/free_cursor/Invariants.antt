@@ -1,9 +1,8 @@
 -- The first free place from here on is the first of all. Assumes nothing.
-use Rattle.prelude.proofs.Basics.{◌-◌, arith, sym, ◌∙◌}
+use Rattle.prelude.proofs.Basics.{◌-◌}
 use Rattle.session.proofs.Names.{max_cursors, cursor_in}
 use Rattle.session.specs.Entry.{free_cursor}
-use Rattle.session.proofs.EntryLaws.{free_yes, free_no}
-use Rattle.session.proofs.LoopLaws.{Looking, looks, looks_on, placed, no_place_lem}
+use Rattle.session.proofs.LoopLaws.{Looking}
 use Rattle.session.proofs.find.free_cursor.Given as goal
 
 abbrev pub invariant-loop-i : goal.invariant-loop-i

@@ -1,7 +1,7 @@
 -- What was hit so far, or is hit further on, is what the block has. Assumes nothing.
-use Rattle.prelude.proofs.Basics.{◌-◌, arith, sym, ◌∙◌, ⊎_elim}
+use Rattle.prelude.proofs.Basics.{arith, sym, ◌∙◌}
 use Rattle.session.specs.private.Search.{block_ids}
-use Rattle.session.proofs.BlockLaws.{Testing, tests, tested, hits, misses}
+use Rattle.session.proofs.BlockLaws.{tests, tested, hits, misses}
 use Rattle.session.proofs.find.has.Goals as goal
 use Rattle.session.proofs.find.has.Goals.{then-stmt_id-id, else-stmt_id-id}
 

@@ -1,7 +1,7 @@
 -- What was hit so far, or is hit further on, is what the block has. Assumes nothing.
-use Rattle.prelude.proofs.Basics.{◌-◌, arith, sym, ◌∙◌, ⊎_elim}
+use Rattle.prelude.proofs.Basics.{◌-◌}
 use Rattle.session.specs.private.Search.{block_ids}
-use Rattle.session.proofs.BlockLaws.{Testing, tests, tested, hits, misses}
+use Rattle.session.proofs.BlockLaws.{Testing}
 use Rattle.session.proofs.find.has.Given as goal
 
 abbrev pub invariant-loop-k : goal.invariant-loop-k

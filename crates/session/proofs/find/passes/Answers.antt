@@ -1,5 +1,5 @@
 -- Each arm tests the number that its variant names. Assumes nothing.
-use Rattle.prelude.proofs.Basics.{sym, ap, ◌∙◌, rules}
+use Rattle.prelude.proofs.Basics.{sym, ap, ◌∙◌}
 use Rattle.session.proofs.Names.{passes, cursor_in}
 use Rattle.session.proofs.find.passes.Goals as goal
 

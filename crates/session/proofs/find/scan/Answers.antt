@@ -1,7 +1,6 @@
 -- The first place from here on is the first from the start of the scan on. Assumes nothing.
-use Rattle.prelude.proofs.Basics.{◌-◌, arith, sym, ◌∙◌, rules}
-use Rattle.session.proofs.Names.{is_stmt, max_stmts, stmt_in}
-use Rattle.session.proofs.LoopLaws.{Looking, looks, looks_on, placed, no_place_lem}
+use Rattle.prelude.proofs.Basics.{arith, sym, ◌∙◌}
+use Rattle.session.proofs.LoopLaws.{looks, looks_on, placed, no_place_lem}
 use Rattle.session.proofs.find.scan.Goals as goal
 
 pub loop-i-init : goal.loop-i-init

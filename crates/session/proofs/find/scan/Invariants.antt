@@ -1,7 +1,7 @@
 -- The first place from here on is the first from the start of the scan on. Assumes nothing.
-use Rattle.prelude.proofs.Basics.{◌-◌, arith, sym, ◌∙◌, rules}
+use Rattle.prelude.proofs.Basics.{◌-◌}
 use Rattle.session.proofs.Names.{is_stmt, max_stmts, stmt_in}
-use Rattle.session.proofs.LoopLaws.{Looking, looks, looks_on, placed, no_place_lem}
+use Rattle.session.proofs.LoopLaws.{Looking}
 use Rattle.session.proofs.find.scan.Given as goal
 
 abbrev pub invariant-loop-i : goal.invariant-loop-i

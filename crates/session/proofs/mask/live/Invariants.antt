@@ -1,8 +1,7 @@
 -- The bits of the places from here on; a turn puts the one before in front. A table of 64 places fits a
 -- number of 64 bits. Assumes nothing.
-use Rattle.prelude.proofs.Basics.{arith, cond, ap, ◌∙◌, rules}
-use Rattle.session.proofs.Names.{flag, is_live_cursor, max_cursors, cursor_in}
-use Rattle.session.proofs.LoopLaws.{Masking, masks, masks_on, masked, mask_room}
+use Rattle.session.proofs.Names.{is_live_cursor, max_cursors, cursor_in}
+use Rattle.session.proofs.LoopLaws.{Masking}
 use Rattle.session.proofs.mask.live.Given as goal
 
 abbrev pub invariant-loop-i : goal.invariant-loop-i

@@ -1,8 +1,7 @@
 -- The bits of the places from here on; a turn puts the one before in front. A table of 64 places fits a
 -- number of 64 bits. Assumes nothing.
-use Rattle.prelude.proofs.Basics.{arith, cond, ap, ◌∙◌, rules}
-use Rattle.session.proofs.Names.{passes, max_cursors, cursor_in}
-use Rattle.session.proofs.LoopLaws.{Masking, masks, masks_on, masked, mask_room}
+use Rattle.prelude.proofs.Basics.{arith, cond, ap, ◌∙◌}
+use Rattle.session.proofs.LoopLaws.{masks, masks_on, masked, mask_room}
 use Rattle.session.proofs.mask.passing.Goals as goal
 
 pub loop-i-init : goal.loop-i-init

@@ -1,5 +1,5 @@
 -- The words before the flag are zeroed, then the flag is set. Assumes nothing.
-use Rattle.prelude.proofs.Basics.{ap, ◌∙◌, rules}
+use Rattle.prelude.proofs.Basics.{ap, ◌∙◌}
 use Rattle.session.proofs.Names.{with_closed}
 use Rattle.session.proofs.words.close.Goals as goal
 

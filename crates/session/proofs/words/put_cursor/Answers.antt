@@ -1,5 +1,5 @@
 -- Inside the table the entry is stored; past it nothing changes. Assumes nothing.
-use Rattle.prelude.proofs.Basics.{ap, ◌∙◌, rules}
+use Rattle.prelude.proofs.Basics.{ap, ◌∙◌}
 use Rattle.session.proofs.Names.{with_cursors, max_cursors, cursor_in, session_of}
 use Rattle.session.proofs.PutLaws.{put_there, put_past}
 use Rattle.session.proofs.words.put_cursor.Goals as goal

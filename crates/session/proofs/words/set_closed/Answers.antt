@@ -1,5 +1,4 @@
 -- The last word alone is stored. Assumes nothing.
-use Rattle.prelude.proofs.Basics.{rules}
 use Rattle.session.proofs.WordLaws.{closed_stored}
 use Rattle.session.proofs.words.set_closed.Goals as goal
 

@@ -1,5 +1,4 @@
 -- The words read are the entry that the table has there. Assumes nothing.
-use Rattle.prelude.proofs.Basics.{rules}
 use Rattle.session.proofs.Names.{no_stmt, max_stmts, stmt_in}
 use Rattle.session.proofs.PutLaws.{read_there, read_past}
 use Rattle.session.proofs.words.stmt_at.Goals as goal

@@ -1,5 +1,5 @@
 -- The five stores are the row of one cursor, and a store within a row changes nothing else. Assumes nothing.
-use Rattle.prelude.proofs.Basics.{arith, [], ◌∷◌, rules}
+use Rattle.prelude.proofs.Basics.{arith, [], ◌∷◌}
 use Rattle.session.proofs.RowLaws.{still_below}
 use Rattle.session.proofs.WordLaws.{cursor_stored}
 use Rattle.session.proofs.words.store_cursor.Goals as goal

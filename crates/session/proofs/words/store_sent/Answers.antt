@@ -1,5 +1,4 @@
 -- One word of one row is stored. Assumes nothing.
-use Rattle.prelude.proofs.Basics.{rules}
 use Rattle.session.proofs.WordLaws.{sent_stored}
 use Rattle.session.proofs.words.store_sent.Goals as goal
 

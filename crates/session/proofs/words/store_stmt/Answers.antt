@@ -1,5 +1,5 @@
 -- The id and the two words of the row are one statement, and no other word is stored. Assumes nothing.
-use Rattle.prelude.proofs.Basics.{arith, [], set, length-set, rules}
+use Rattle.prelude.proofs.Basics.{arith, [], set, length-set}
 use Rattle.session.proofs.RowLaws.{still_below}
 use Rattle.session.proofs.WordLaws.{stmt_stored}
 use Rattle.session.proofs.words.store_stmt.Goals as goal

@@ -1,7 +1,6 @@
 -- Words before the place are 0, the others as they were. Assumes nothing.
-use Rattle.prelude.proofs.Basics.{◌-◌, arith}
-use Rattle.session.proofs.Names.{closed_at}
-use Rattle.session.proofs.WordLaws.{Wiping, wipes, wipes_on, wiped_all}
+use Rattle.prelude.proofs.Basics.{arith}
+use Rattle.session.proofs.WordLaws.{wipes, wipes_on, wiped_all}
 use Rattle.session.proofs.words.wipe.Goals as goal
 
 pub loop-i-init : goal.loop-i-init

@@ -1,7 +1,7 @@
 -- Words before the place are 0, the others as they were. Assumes nothing.
-use Rattle.prelude.proofs.Basics.{◌-◌, arith}
+use Rattle.prelude.proofs.Basics.{◌-◌}
 use Rattle.session.proofs.Names.{closed_at}
-use Rattle.session.proofs.WordLaws.{Wiping, wipes, wipes_on, wiped_all}
+use Rattle.session.proofs.WordLaws.{Wiping}
 use Rattle.session.proofs.words.wipe.Given as goal
 
 abbrev pub invariant-loop-i : goal.invariant-loop-i

@@ -1,5 +1,5 @@
 -- `trace_line::line::mark_of` meets its contract: there is no frame, or the first one tells. Assumes nothing.
-use Rattle.prelude.proofs.Basics.{◌∙◌, rules}
+use Rattle.prelude.proofs.Basics.{◌∙◌}
 use Rattle.trace_line.proofs.LineLaws.{mark_none, mark_letter}
 use Rattle.trace_line.proofs.line.mark_of.Goals as goal
 

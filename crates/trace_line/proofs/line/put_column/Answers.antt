@@ -1,5 +1,4 @@
 -- `trace_line::line::put_column` meets its contract: a decimal, and one byte behind it. Assumes nothing.
-use Rattle.prelude.proofs.Basics.{rules}
 use Rattle.trace_line.proofs.Names.{puts_then}
 use Rattle.trace_line.proofs.line.put_column.Goals as goal
 

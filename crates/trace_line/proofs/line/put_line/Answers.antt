@@ -1,5 +1,4 @@
 -- `trace_line::line::put_line` meets its contract: its parts stand one behind the other. Assumes nothing.
-use Rattle.prelude.proofs.Basics.{rules}
 use Rattle.encode.proofs.PutsLaws.{puts_length}
 use Rattle.trace_line.proofs.Names.{puts_then, line_of}
 use Rattle.trace_line.proofs.line.put_line.Goals as goal

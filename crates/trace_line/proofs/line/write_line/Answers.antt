@@ -1,6 +1,6 @@
 -- `trace_line::line::write_line` meets its contract: the line stands at the front of the array, and what is lent of it
 -- is the line. Assumes nothing.
-use Rattle.prelude.proofs.Basics.{ℕ, ◌≤◌, arith, sym, length, replicate, length-take-le, rules}
+use Rattle.prelude.proofs.Basics.{ℕ, ◌≤◌, arith, sym, length, replicate, length-take-le}
 use Rattle.encode.proofs.PutsLaws.{front, front_within, equations_as}
 use Rattle.trace_line.proofs.Names.{line_of, Line}
 use Rattle.trace_line.proofs.LineLaws.{line_within}

@@ -1,6 +1,6 @@
 -- `trace_line::printer::print_chunk` meets its contract: what is taken is put behind what is held, and what the lines
 -- leave of both is moved to the front. Assumes nothing.
-use Rattle.prelude.proofs.Basics.{◌+◌, ◌-◌, ◌≤◌, arith, sym, ◌∙◌, length-take, length-take-le, rules}
+use Rattle.prelude.proofs.Basics.{◌+◌, ◌-◌, ◌≤◌, arith, sym, ◌∙◌, length-take, length-take-le}
 use Rattle.encode.proofs.MoveLaws.{moved_front_lem}
 use Rattle.trace_line.proofs.Names.{session_of}
 use Rattle.trace_line.proofs.PrintLaws.{printed}

@@ -1,5 +1,4 @@
 -- `trace_line::printer::put_end` meets its contract: nothing is left, or something is. Assumes nothing.
-use Rattle.prelude.proofs.Basics.{rules}
 use Rattle.trace_line.proofs.EndLaws.{end_nothing, end_cut}
 use Rattle.trace_line.proofs.printer.put_end.Goals as goal
 

@@ -1,5 +1,4 @@
 -- `trace_line::printer::put_header` meets its contract: the text is that of the definition. Assumes nothing.
-use Rattle.prelude.proofs.Basics.{rules}
 use Rattle.trace_line.proofs.Names.{header}
 use Rattle.trace_line.proofs.printer.put_header.Goals as goal
 

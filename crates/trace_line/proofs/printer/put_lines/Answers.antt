@@ -1,8 +1,8 @@
 -- `trace_line::printer::put_lines` meets its contract. The loop's invariant is `Walking`; the measure is what is left
 -- of the bytes. Assumes nothing.
-use Rattle.prelude.proofs.Basics.{◌+◌, ◌-◌, ◌^◌, ◌≤◌, ◌<◌, arith, ◌≡◌, ◌∙◌, inl, inr, length, rules}
+use Rattle.prelude.proofs.Basics.{◌+◌, ◌^◌, ◌≤◌, ◌<◌, arith, ◌≡◌, ◌∙◌, inl, inr, length}
 use Rattle.trace_line.proofs.Names.{session_of}
-use Rattle.trace_line.proofs.WalkLaws.{Walking, walk_starts, walk_ends, walk_full, walk_stops, walk_on}
+use Rattle.trace_line.proofs.WalkLaws.{walk_starts, walk_ends, walk_full, walk_stops, walk_on}
 use Rattle.trace_line.proofs.WalkLaws.{place_within, to_end, traced_length}
 use Rattle.trace_line.proofs.printer.put_lines.Goals as goal
 

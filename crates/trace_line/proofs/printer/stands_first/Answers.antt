@@ -1,5 +1,5 @@
 -- `trace_line::printer::stands_first` meets its contract, case by case. Assumes nothing.
-use Rattle.prelude.proofs.Basics.{sym, ap, ◌∙◌, rules}
+use Rattle.prelude.proofs.Basics.{sym, ap, ◌∙◌}
 use Rattle.trace_line.proofs.Names.{first_of, stands_first}
 use Rattle.trace_line.proofs.printer.stands_first.Goals as goal
 

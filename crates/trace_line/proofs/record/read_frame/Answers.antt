@@ -1,5 +1,5 @@
 -- `trace_line::record::read_frame` meets its contract: it is too long, not all there, or whole. Assumes nothing.
-use Rattle.prelude.proofs.Basics.{arith, ◌∙◌, rules}
+use Rattle.prelude.proofs.Basics.{arith, ◌∙◌}
 use Rattle.trace_line.proofs.RecordLaws.{frame_bad, frame_short, frame_whole}
 use Rattle.trace_line.proofs.record.read_frame.Goals as goal
 

@@ -1,6 +1,6 @@
 -- `trace_line::record::read_kind` meets its contract: the report stands behind the frame. Assumes nothing.
-use Rattle.prelude.proofs.Basics.{◌≡◌, ◌∙◌, rules}
-use Rattle.trace_line.proofs.Names.{and_then, report_at, kind_at, Number}
+use Rattle.prelude.proofs.Basics.{◌∙◌}
+use Rattle.trace_line.proofs.Names.{report_at, kind_at}
 use Rattle.trace_line.proofs.RecordLaws.{then_is}
 use Rattle.trace_line.proofs.record.read_kind.Goals as goal
 

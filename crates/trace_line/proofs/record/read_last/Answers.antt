@@ -1,6 +1,5 @@
 -- `trace_line::record::read_last` meets its contract: the number at the place ends the report. Assumes nothing.
-use Rattle.prelude.proofs.Basics.{◌≡◌, rules}
-use Rattle.trace_line.proofs.Names.{and_then, Number, Record}
+use Rattle.trace_line.proofs.Names.{Record}
 use Rattle.trace_line.specs.private.Last.{report_of, last_at}
 use Rattle.trace_line.proofs.RecordLaws.{then_is, whole_as}
 use Rattle.trace_line.proofs.record.read_last.Goals as goal

@@ -1,5 +1,5 @@
 -- `trace_line::record::read_number` meets its contract: a varint, or why none stands there. Assumes nothing.
-use Rattle.prelude.proofs.Basics.{sym, ◌∙◌, rules}
+use Rattle.prelude.proofs.Basics.{sym, ◌∙◌}
 use Rattle.trace_line.proofs.RecordLaws.{number_is}
 use Rattle.trace_line.proofs.record.read_number.Goals as goal
 

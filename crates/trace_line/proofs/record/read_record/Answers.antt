@@ -1,6 +1,6 @@
 -- `trace_line::record::read_record` meets its contract: its first number is the length of its frame. Assumes nothing.
-use Rattle.prelude.proofs.Basics.{◌≡◌, ◌∙◌, rules}
-use Rattle.trace_line.proofs.Names.{and_then, frame_at, record_at, Number}
+use Rattle.prelude.proofs.Basics.{◌∙◌}
+use Rattle.trace_line.proofs.Names.{frame_at, record_at}
 use Rattle.trace_line.proofs.RecordLaws.{then_is}
 use Rattle.trace_line.proofs.record.read_record.Goals as goal
 

@@ -1,5 +1,5 @@
 -- `trace_line::record::read_report` meets its contract: a law for each kind. Assumes nothing.
-use Rattle.prelude.proofs.Basics.{◌∙◌, rules}
+use Rattle.prelude.proofs.Basics.{◌∙◌}
 use Rattle.trace_line.proofs.RecordLaws.{report_bad, report_prepared, report_result, report_failed, report_bare}
 use Rattle.trace_line.proofs.record.read_report.Goals as goal
 

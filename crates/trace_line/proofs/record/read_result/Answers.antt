@@ -1,6 +1,6 @@
 -- `trace_line::record::read_result` meets its contract: its numbers are the columns and the rows. Assumes nothing.
-use Rattle.prelude.proofs.Basics.{◌≡◌, ◌∙◌, rules}
-use Rattle.trace_line.proofs.Names.{and_then, rows_at, result_at, Number}
+use Rattle.prelude.proofs.Basics.{◌∙◌}
+use Rattle.trace_line.proofs.Names.{rows_at, result_at}
 use Rattle.trace_line.proofs.RecordLaws.{then_is, last_rows}
 use Rattle.trace_line.proofs.record.read_result.Goals as goal
 

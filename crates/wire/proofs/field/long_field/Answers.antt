@@ -1,5 +1,5 @@
 -- A tag and what stands behind it, in bytes that are lent anew.
-use Rattle.prelude.proofs.Basics.{ℕ, ◌||◌, ◌≡◌, sym, ap, ◌∙◌, List, length, take-length, rules, or_false, or_same}
+use Rattle.prelude.proofs.Basics.{ℕ, sym, ap, ◌∙◌, List, length, take-length, or_false, or_same}
 use Rattle.prelude.proofs.Basics.{or_then}
 use Rattle.wire.proofs.Names.{padded_at, tag_at, field_of, value_padded, Tag}
 use Rattle.wire.proofs.FieldLaws.{field_tagged}

@@ -1,8 +1,8 @@
 -- `wire::field::read_field` meets its contract: a tag of one byte is judged by that byte; the rest goes the long way.
 -- Assumes nothing.
-use Rattle.prelude.proofs.Basics.{ℕ, ◌+◌, ◌/◌, ◌%◌, ◌<◌, arith, Bool, ◌||◌, ◌≡◌, sym, ap, ◌∙◌, List, length}
-use Rattle.prelude.proofs.Basics.{take-length, rules, or_none, or_same}
-use Rattle.wire.proofs.Names.{of_value, field_of, field_at, value_padded, field_padded, Field}
+use Rattle.prelude.proofs.Basics.{ℕ, arith, sym, ap, ◌∙◌, List, length}
+use Rattle.prelude.proofs.Basics.{take-length, or_none, or_same}
+use Rattle.wire.proofs.Names.{of_value, field_at, field_padded}
 use Rattle.wire.proofs.FieldLaws.{quick_none, quick_low, quick_wire}
 use Rattle.wire.proofs.PaddedLaws.{quick_flag_none, quick_flag_low, quick_flag}
 use Rattle.wire.proofs.field.read_field.Goals as goal

@@ -1,6 +1,6 @@
 -- `wire::field::tagged` meets its contract: wire type 3 skips a group, any other is a value behind the tag.
 -- Assumes nothing.
-use Rattle.prelude.proofs.Basics.{ℕ, sym, ap, ◌∙◌, rules, or_none, or_same}
+use Rattle.prelude.proofs.Basics.{ℕ, sym, ap, ◌∙◌, or_none, or_same}
 use Rattle.wire.proofs.Names.{value_at, max_depth, of_value, of_group}
 use Rattle.wire.proofs.FieldLaws.{field_group, field_value, group_ends}
 use Rattle.wire.proofs.PaddedLaws.{number_flag, group_flag}

@@ -1,5 +1,5 @@
 -- `wire::field::valued` meets its contract: each arm is one clause of of_value. Assumes nothing.
-use Rattle.prelude.proofs.Basics.{sym, ap, rules}
+use Rattle.prelude.proofs.Basics.{sym, ap}
 use Rattle.wire.proofs.Names.{of_value}
 use Rattle.wire.proofs.field.valued.Goals as goal
 

@@ -1,5 +1,5 @@
 -- `wire::tag::long_tag` meets its contract: each test of the code is one of tag_of's, in its order. Assumes nothing.
-use Rattle.prelude.proofs.Basics.{sym, ap, ◌∙◌, rules}
+use Rattle.prelude.proofs.Basics.{sym, ap, ◌∙◌}
 use Rattle.wire.proofs.Names.{tag_of}
 use Rattle.wire.proofs.TagLaws.{tag_high, tag_low, tag_unlisted, tag_good}
 use Rattle.wire.proofs.tag.long_tag.Goals as goal

@@ -1,7 +1,7 @@
 -- A tag of one byte is judged by that byte; the rest goes the long way.
-use Rattle.prelude.proofs.Basics.{◌≤◌, ◌||◌, ◌≡◌, sym, ap, ◌∙◌, length, get_or, take-length, rules, or_none, or_same}
+use Rattle.prelude.proofs.Basics.{◌≤◌, sym, ap, ◌∙◌, length, get_or, take-length, or_none, or_same}
 use Rattle.varint.proofs.FlagLaws.{behind_answer, behind_flag}
-use Rattle.wire.proofs.Names.{padded_at, padded_none, tag_of}
+use Rattle.wire.proofs.Names.{padded_none, tag_of}
 use Rattle.wire.proofs.FieldLaws.{short_low, short_unlisted, short_good}
 use Rattle.wire.proofs.TagLaws.{tag_none}
 use Rattle.wire.proofs.PaddedLaws.{one_flag}

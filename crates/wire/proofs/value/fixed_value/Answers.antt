@@ -1,5 +1,5 @@
 -- `wire::value::fixed_value` meets its contract: each arm is one clause of of_fixed. Assumes nothing.
-use Rattle.prelude.proofs.Basics.{sym, ap, rules}
+use Rattle.prelude.proofs.Basics.{sym, ap}
 use Rattle.wire.proofs.Names.{of_fixed}
 use Rattle.wire.proofs.value.fixed_value.Goals as goal
 

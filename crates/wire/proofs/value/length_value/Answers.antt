@@ -1,5 +1,5 @@
 -- `wire::value::length_value` meets its contract: each arm is one clause of of_length. Assumes nothing.
-use Rattle.prelude.proofs.Basics.{arith, sym, ap, ◌∙◌, rules}
+use Rattle.prelude.proofs.Basics.{arith, sym, ap, ◌∙◌}
 use Rattle.wire.proofs.Names.{of_length}
 use Rattle.wire.proofs.ValueLaws.{varint_ends, length_long, length_good}
 use Rattle.wire.proofs.value.length_value.Goals as goal

@@ -1,5 +1,5 @@
 -- `wire::value::number_value` meets its contract: each arm is one clause of of_varint. Assumes nothing.
-use Rattle.prelude.proofs.Basics.{arith, sym, ap, ◌∙◌, rules}
+use Rattle.prelude.proofs.Basics.{arith, sym, ap, ◌∙◌}
 use Rattle.wire.proofs.Names.{of_varint}
 use Rattle.wire.proofs.ValueLaws.{varint_ends}
 use Rattle.wire.proofs.value.number_value.Goals as goal

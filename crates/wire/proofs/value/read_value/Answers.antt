@@ -1,5 +1,5 @@
 -- `wire::value::read_value` meets its contract: each wire type has its reader, one law for each. Assumes nothing.
-use Rattle.prelude.proofs.Basics.{arith, ap, ◌∙◌, rules, or_none, or_same}
+use Rattle.prelude.proofs.Basics.{arith, ap, ◌∙◌, or_none, or_same}
 use Rattle.wire.proofs.Names.{of_fixed}
 use Rattle.wire.proofs.ValueLaws.{value_number, value_eight, value_length, value_four, value_none}
 use Rattle.wire.proofs.PaddedLaws.{number_flag, length_flag, no_flag}

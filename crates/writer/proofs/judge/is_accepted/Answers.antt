@@ -1,6 +1,6 @@
 -- Each arm is accepted_as at its message type.
 -- what an arm answers at its message type it answers for the draft
-use Rattle.prelude.proofs.Basics.{ℕ, Bool, ◌≡◌, refl, sym, ap, ◌∙◌, List, rules}
+use Rattle.prelude.proofs.Basics.{ℕ, Bool, ◌≡◌, refl, sym, ap, ◌∙◌, List}
 use Rattle.writer.proofs.Names.{accepted_as, accepted, Draft}
 use Rattle.writer.proofs.JudgeLaws.{kind_none}
 use Rattle.writer.proofs.judge.is_accepted.Goals as goal

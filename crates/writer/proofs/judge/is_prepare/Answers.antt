@@ -1,5 +1,5 @@
 -- The two tests are goodPrepare's: the type, then the body.
-use Rattle.prelude.proofs.Basics.{false, sym, ap, ◌∙◌, rules, not-false, not-true, yes, no as without}
+use Rattle.prelude.proofs.Basics.{false, sym, ap, ◌∙◌, yes, no as without}
 use Rattle.writer.proofs.Names.{Arguments, good_body}
 use Rattle.writer.proofs.judge.is_prepare.Goals as goal
 

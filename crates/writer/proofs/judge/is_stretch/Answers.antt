@@ -1,7 +1,7 @@
 -- What is left from the place on answers for the whole stretch.
-use Rattle.prelude.proofs.Basics.{◌-◌, arith, sym, ap, ◌∙◌, length, rules}
+use Rattle.prelude.proofs.Basics.{arith, sym, ap, ◌∙◌}
 use Rattle.writer.proofs.Names.{any_type_of}
-use Rattle.writer.proofs.JudgeLaws.{Judging, starts, ends, no_field, advances, other_number, other_wire}
+use Rattle.writer.proofs.JudgeLaws.{starts, ends, no_field, advances, other_number, other_wire}
 use Rattle.writer.proofs.JudgeLaws.{bad_argument, goes_on_lem}
 use Rattle.writer.proofs.judge.is_stretch.Goals as goal
 

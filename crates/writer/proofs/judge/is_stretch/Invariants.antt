@@ -1,8 +1,6 @@
 -- What is left from the place on answers for the whole stretch.
-use Rattle.prelude.proofs.Basics.{◌-◌, arith, sym, ap, ◌∙◌, length, rules}
-use Rattle.writer.proofs.Names.{any_type_of}
-use Rattle.writer.proofs.JudgeLaws.{Judging, starts, ends, no_field, advances, other_number, other_wire}
-use Rattle.writer.proofs.JudgeLaws.{bad_argument, goes_on_lem}
+use Rattle.prelude.proofs.Basics.{◌-◌, length}
+use Rattle.writer.proofs.JudgeLaws.{Judging}
 use Rattle.writer.proofs.judge.is_stretch.Given as goal
 
 abbrev pub invariant-loop-p : goal.invariant-loop-p

@@ -1,5 +1,5 @@
 -- The sum of its fields' lengths.
-use Rattle.prelude.proofs.Basics.{ℕ, arith, ap, length, rules}
+use Rattle.prelude.proofs.Basics.{ℕ, arith, ap, length}
 use Rattle.writer.proofs.Names.{optional_field, number_short, optional_short}
 use Rattle.writer.proofs.SizeLaws.{execute-parts}
 use Rattle.writer.proofs.payload.execute_len.Goals as goal

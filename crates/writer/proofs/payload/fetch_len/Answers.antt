@@ -1,5 +1,5 @@
 -- The sum of its fields' lengths.
-use Rattle.prelude.proofs.Basics.{arith, rules}
+use Rattle.prelude.proofs.Basics.{arith}
 use Rattle.writer.proofs.Names.{number_short, optional_short}
 use Rattle.writer.proofs.SizeLaws.{fetch_parts}
 use Rattle.writer.proofs.payload.fetch_len.Goals as goal

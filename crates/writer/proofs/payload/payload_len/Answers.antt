@@ -1,5 +1,5 @@
 -- Each arm is payload_as at its message type.
-use Rattle.prelude.proofs.Basics.{sym, ap, ◌∙◌, length, rules}
+use Rattle.prelude.proofs.Basics.{sym, ap, ◌∙◌, length}
 use Rattle.writer.proofs.PayloadLaws.{as_prepare, as_execute, as_deallocate, as_open, as_close, as_fetch}
 use Rattle.writer.proofs.PayloadLaws.{as_none}
 use Rattle.writer.proofs.payload.payload_len.Goals as goal

@@ -1,5 +1,5 @@
 -- The sum of its fields' lengths.
-use Rattle.prelude.proofs.Basics.{ℕ, arith, ap, length, rules}
+use Rattle.prelude.proofs.Basics.{ℕ, arith, ap, length}
 use Rattle.writer.proofs.Names.{prefix_of, number_short, prefix_short}
 use Rattle.writer.proofs.SizeLaws.{prepare-stmt-parts}
 use Rattle.writer.proofs.payload.prepare_stmt_len.Goals as goal

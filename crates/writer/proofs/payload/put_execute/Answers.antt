@@ -1,5 +1,5 @@
 -- The id, the stretch of arguments and compact_metadata, one behind the other. Assumes nothing.
-use Rattle.prelude.proofs.Basics.{ℕ, ap, rules}
+use Rattle.prelude.proofs.Basics.{ℕ, ap}
 use Rattle.writer.proofs.Names.{optional_field, puts_then, puts_as, execute_payload}
 use Rattle.writer.proofs.payload.put_execute.Goals as goal
 

@@ -1,5 +1,4 @@
 -- The id and fetch_rows, one behind the other. Assumes nothing.
-use Rattle.prelude.proofs.Basics.{rules}
 use Rattle.writer.proofs.Names.{puts_then, fetch_payload}
 use Rattle.writer.proofs.payload.put_fetch.Goals as goal
 

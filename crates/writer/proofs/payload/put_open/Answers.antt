@@ -1,5 +1,4 @@
 -- The cursor id, the statement with its length before it and fetch_rows, one behind the other. Assumes nothing.
-use Rattle.prelude.proofs.Basics.{rules}
 use Rattle.writer.proofs.Names.{puts_then, puts_counted, open_stmt_payload, open_payload}
 use Rattle.writer.proofs.payload.put_open.Goals as goal
 

@@ -1,5 +1,4 @@
 -- The type, and the Execute with its length before it. Assumes nothing.
-use Rattle.prelude.proofs.Basics.{rules}
 use Rattle.writer.proofs.Names.{puts_then, puts_counted, execute_payload, open_stmt_payload}
 use Rattle.writer.proofs.payload.put_open_stmt.Goals as goal
 

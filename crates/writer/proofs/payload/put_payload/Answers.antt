@@ -1,5 +1,5 @@
 -- By the message type. Assumes nothing.
-use Rattle.prelude.proofs.Basics.{sym, rules}
+use Rattle.prelude.proofs.Basics.{sym}
 use Rattle.encode.proofs.PutsLaws.{puts_nothing}
 use Rattle.writer.proofs.Names.{puts_as}
 use Rattle.writer.proofs.PayloadLaws.{as_prepare, as_execute, as_deallocate, as_open, as_close, as_fetch}

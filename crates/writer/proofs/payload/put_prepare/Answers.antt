@@ -1,5 +1,4 @@
 -- The id, and the statement with its length before it. Assumes nothing.
-use Rattle.prelude.proofs.Basics.{rules}
 use Rattle.writer.proofs.Names.{puts_then, puts_counted, prepare_stmt_payload, prepare_payload}
 use Rattle.writer.proofs.payload.put_prepare.Goals as goal
 

@@ -1,5 +1,5 @@
 -- The type, and the body in the field that it chooses. Assumes nothing.
-use Rattle.prelude.proofs.Basics.{ℕ, ap, rules}
+use Rattle.prelude.proofs.Basics.{ℕ, ap}
 use Rattle.writer.proofs.Names.{bytes_field, puts_then, puts_as, prepare_stmt_payload}
 use Rattle.writer.proofs.payload.put_prepare_stmt.Goals as goal
 

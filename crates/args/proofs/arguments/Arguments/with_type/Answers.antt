@@ -1,6 +1,6 @@
 -- `args::arguments::Arguments::with_type` meets its contract: each test of the code is one of withType's, in its order.
 -- Assumes nothing.
-use Rattle.prelude.proofs.Basics.{ℕ, ap, ◌∙◌, rules}
+use Rattle.prelude.proofs.Basics.{ℕ, ap, ◌∙◌}
 use native.Mathlib.Nat.{add-sub_cancel}
 use Rattle.args.proofs.Names.{counted}
 use Rattle.args.proofs.ArgumentsLaws.{type_bad, type_scalar, type_later, type_first}
