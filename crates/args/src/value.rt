@@ -276,7 +276,8 @@ fn scalar_value(
     padded: &mut bool,
 ) -> Argument
     requires at_in_bounds { at ≤ length s.now }
-    requires holds { Holds (merged (rows_of scalar) s.now (scalar_by whole s.now at)) true times.now values.now starts.now }
+    requires holds { Holds (merged (rows_of scalar) s.now (scalar_by whole s.now at)) true times.now values.now
+        starts.now }
     ensures answer { result ≡ scalar_in s.now (scalar_by whole s.now at) }
     ensures told { 0 < any_type_of result →
         padded.new

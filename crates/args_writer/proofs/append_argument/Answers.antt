@@ -17,7 +17,8 @@ overflow_add-end c =
 
 pub slice_bounds-bytes-end : goal.slice_bounds-bytes-end
 slice_bounds-bytes-end c = part_within
-    c.args.a c.args.src.now c.args.buf.now c.args.at c.form_of-f.result c.form_of-f.ensures (not-false _ c.if-not-f.false)
+    c.args.a c.args.src.now c.args.buf.now c.args.at c.form_of-f.result c.form_of-f.ensures
+    (not-false _ c.if-not-f.false)
 
 pub returns-then-not-has_room : goal.returns-then-not-has_room
 returns-then-not-has_room c =

@@ -14,12 +14,16 @@ answers : (n : ℕ) {r r' : Reader} {k k' : ℕ} → r ≡ r' → k ≡ k' → a
 answers n {r' = r'} {k = k} e f = ap (λ (q : Reader). answer q k n) e ∙ ap (λ (j : ℕ). answer r' j n) f
 
 pub returns-then-stands_first-eq-BAD_LENGTH : goal.returns-then-stands_first-eq-BAD_LENGTH
-returns-then-stands_first-eq-BAD_LENGTH c = let x = push_bad c.args.store.now c.args.held.start c.args.held.end c.args.arrival.now c.requires
+returns-then-stands_first-eq-BAD_LENGTH c = let x =
+    push_bad c.args.store.now c.args.held.start c.args.held.end c.args.arrival.now c.requires
     c.stands_first.ensures c.if-stands_first-eq-BAD_LENGTH.true in
     record { answer = ap (λ (p : Push). p.answer) x; stored = ap (λ (p : Push). p.store) x }
 
 pub slice_bounds-write_bytes-end : goal.slice_bounds-write_bytes-end
-slice_bounds-write_bytes-end c = sym (length-take-le c.lesser-n.result c.args.arrival.now (omega (arith, c.lesser-n.ensures)))
+slice_bounds-write_bytes-end c = sym (length-take-le c.lesser-n.result c.args.arrival.now (omega (
+  arith,
+  c.lesser-n.ensures,
+)))
 
 pub returns : goal.returns
 returns c = let n = c.lesser-n.result in

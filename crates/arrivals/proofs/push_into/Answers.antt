@@ -12,4 +12,8 @@ push_at-requires c = rw c.usable_reader-held.ensures
 pub returns : goal.returns
 returns c =
     let x = push_usable c.args.store.now c.args.reader c.args.arrival.now c.usable_reader-held.ensures in
-    record { answer = c.push_at.ensures.answer ∙ ap (λ (q : Push). q.answer) x; stored = c.push_at.ensures.stored ∙ ap (λ (q : Push). q.store) x }
+    record {
+      answer = c.push_at.ensures.answer ∙ ap (λ (q : Push). q.answer) x;
+      stored =
+          c.push_at.ensures.stored ∙ ap (λ (q : Push). q.store) x;
+    }

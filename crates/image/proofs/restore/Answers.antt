@@ -7,9 +7,18 @@ pub take_image-requires : goal.take_image-requires
 take_image-requires c = c.fresh-restored.ensures
 
 pub returns-then-not-take_image : goal.returns-then-not-take_image
-returns-then-not-take_image c = let whole = refused_is (session_of c.args.words.now) (session_of c.take_image.new.words) _
-    c.take_image.result c.take_image.ensures (c.if-not-take_image.true) in record { answer = whole.0; session = whole.1 }
+returns-then-not-take_image c = let whole =
+    refused_is (session_of c.args.words.now) (session_of c.take_image.new.words) _
+    c.take_image.result c.take_image.ensures (c.if-not-take_image.true) in record {
+      answer = whole.0;
+      session =
+          whole.1;
+    }
 
 pub returns : goal.returns
 returns c = let whole = accepted_is (session_of c.args.words.now) (session_of c.take_image.new.words) _
-    c.take_image.result c.take_image.ensures (c.if-not-take_image.false) in record { answer = whole.0; session = whole.1 }
+    c.take_image.result c.take_image.ensures (c.if-not-take_image.false) in record {
+      answer = whole.0;
+      session =
+          whole.1;
+    }

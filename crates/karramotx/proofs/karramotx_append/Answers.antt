@@ -6,6 +6,7 @@ use Rattle.karramotx.proofs.karramotx_append.Goals as goal
 
 pub returns : goal.returns
 returns c = (
-  c.append_argument.ensures.0 ∙ ap (λ x. appended_of x c.args.bytes.now (length c.args.buf.now) c.args.at) c.argument_of-a.ensures,
+  c.append_argument.ensures.0 ∙ ap (λ x. appended_of x c.args.bytes.now
+      (length c.args.buf.now) c.args.at) c.argument_of-a.ensures,
   c.append_argument.ensures.1 ∙ ap (λ x. left_by x c.args.bytes.now c.args.buf.now c.args.at) c.argument_of-a.ensures,
 )

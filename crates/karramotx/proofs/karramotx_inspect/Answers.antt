@@ -11,5 +11,6 @@ pub returns : goal.returns
 unfolding look_at
 returns c =
     let s = session_of c.args.session.now in
-    c.inspect.ensures ∙ ap (inspected s c.read_frame-read.result) (flag_says c.args.frame.now _ _ c.read_frame-read.ensures.answer c.read_frame-read.ensures.told)
+    c.inspect.ensures ∙ ap (inspected s c.read_frame-read.result)
+    (flag_says c.args.frame.now _ _ c.read_frame-read.ensures.answer c.read_frame-read.ensures.told)
     ∙ ap (λ x. inspected s x (padded_of c.args.frame.now)) c.read_frame-read.ensures.answer

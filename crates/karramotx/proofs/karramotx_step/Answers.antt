@@ -2,4 +2,9 @@
 use Rattle.karramotx.proofs.karramotx_step.Goals as goal
 
 pub returns : goal.returns
-returns c = record { answer = c.step.ensures.answer; session = c.step.ensures.session; buffer = c.step.ensures.buffer }
+returns c = record {
+  answer = c.step.ensures.answer;
+  session = c.step.ensures.session;
+  buffer =
+      c.step.ensures.buffer;
+}

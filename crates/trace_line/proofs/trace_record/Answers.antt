@@ -18,7 +18,12 @@ returns-in-Whole c = let whole =
     gives_as
     (whole_traced (session_of c.args.words.now) c.args.n c.args.s.now c.args.at c.args.out.now c.args.to
     c.in-Whole.is c.read_record.ensures)
-    (c.trace_frame.ensures.answer, (c.trace_frame.ensures.session, c.trace_frame.ensures.out)) in record { answer = whole.0; session = whole.1.0; out = whole.1.1 }
+    (c.trace_frame.ensures.answer, (c.trace_frame.ensures.session, c.trace_frame.ensures.out)) in record {
+      answer =
+          whole.0;
+      session = whole.1.0;
+      out = whole.1.1;
+    }
 
 pub returns-in-Short : goal.returns-in-Short
 returns-in-Short c = let whole = gives (traced (session_of

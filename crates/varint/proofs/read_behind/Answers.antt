@@ -1,5 +1,4 @@
 -- `varint::read_behind` meets its contract: what was read, and what is left to read, is the whole. Assumes nothing.
--- the flag is as it was until the last group
 use Rattle.prelude.proofs.Basics.{◌%◌, arith, ◌||◌, refl, ap₂, ◌∙◌, or_none}
 use Rattle.varint.proofs.GroupLaws.{starts, whole_end, room, light, whole_last, goes_on_lem, below_top}
 use Rattle.varint.proofs.GroupLaws.{whole_tenth, flag_end, flag_last, flag_tenth}
@@ -14,7 +13,11 @@ loop-k-init c = (
 
 pub returns-then-s-i : goal.returns-then-s-i
 returns-then-s-i c = let l = c.loop-k in
-    let more = c.loop-k-test.true in record { answer = whole_end l.invariant.0 more c.if-s-i.true; told = λ m. l.invariant.1 ∙ or_none _ (flag_end l.invariant.0 more c.if-s-i.true) }
+    let more = c.loop-k-test.true in record {
+      answer = whole_end l.invariant.0 more c.if-s-i.true;
+      told =
+          λ m. l.invariant.1 ∙ or_none _ (flag_end l.invariant.0 more c.if-s-i.true);
+    }
 
 pub overflow_mul-v : goal.overflow_mul-v
 overflow_mul-v c = omega (
@@ -75,4 +78,9 @@ last_group-requires c = below_top c.loop-k.invariant.0 c.loop-k-test.false
 
 pub returns : goal.returns
 returns c = let l = c.loop-k in
-    let nine = c.loop-k-test.false in record { answer = c.last_group.ensures.answer ∙ whole_tenth l.invariant.0 nine; told = λ m. c.last_group.ensures.told ∙ ap₂ ◌||◌ l.invariant.1 (flag_tenth l.invariant.0 nine m) }
+    let nine = c.loop-k-test.false in record {
+      answer =
+          c.last_group.ensures.answer ∙ whole_tenth l.invariant.0 nine;
+      told =
+          λ m. c.last_group.ensures.told ∙ ap₂ ◌||◌ l.invariant.1 (flag_tenth l.invariant.0 nine m);
+    }

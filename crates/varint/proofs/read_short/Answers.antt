@@ -7,19 +7,30 @@ use Rattle.varint.proofs.FlagLaws.{padded_none, padded_one, padded_cut, padded_t
 use Rattle.varint.proofs.read_short.Goals as goal
 
 pub returns-then-n-at : goal.returns-then-n-at
-returns-then-n-at c = record { answer = varint_none c.args.s.now c.args.at c.if-n-at.true; told = or_none c.args.padded.now (padded_none c.args.s.now c.args.at c.if-n-at.true) }
+returns-then-n-at c = record {
+  answer = varint_none c.args.s.now c.args.at c.if-n-at.true;
+  told =
+      or_none c.args.padded.now (padded_none c.args.s.now c.args.at c.if-n-at.true);
+}
 
 pub returns-then-low-lt128 : goal.returns-then-low-lt128
 returns-then-low-lt128 c =
     let inside = c.if-n-at.false in
-    let low = rw c.octet-low.ensures.answer at c.if-low-lt128.true in record { answer = rw c.octet-low.ensures.answer (varint_one c.args.s.now c.args.at inside low); told = or_none c.args.padded.now (padded_one c.args.s.now c.args.at inside low) }
+    let low = rw c.octet-low.ensures.answer at c.if-low-lt128.true in record {
+      answer =
+          rw c.octet-low.ensures.answer (varint_one c.args.s.now c.args.at inside low);
+      told =
+          or_none c.args.padded.now (padded_one c.args.s.now c.args.at inside low);
+    }
 
 pub returns-then-n-at-lt2 : goal.returns-then-n-at-lt2
 returns-then-n-at-lt2 c =
     let inside = c.if-n-at.false in record {
-      answer = varint_cut c.args.s.now c.args.at c.octet-low.result inside c.octet-low.ensures.answer c.if-low-lt128.false
+      answer = varint_cut c.args.s.now c.args.at c.octet-low.result inside c.octet-low.ensures.answer
+          c.if-low-lt128.false
           c.if-n-at-lt2.true;
-      told = or_none c.args.padded.now (padded_cut c.args.s.now c.args.at inside ((rw c.octet-low.ensures.answer at c.if-low-lt128.false)) c.if-n-at-lt2.true);
+      told = or_none c.args.padded.now (padded_cut c.args.s.now c.args.at inside
+          ((rw c.octet-low.ensures.answer at c.if-low-lt128.false)) c.if-n-at-lt2.true);
     }
 
 pub returns-then-high-lt128 : goal.returns-then-high-lt128
@@ -33,7 +44,8 @@ returns-then-high-lt128 c =
       told = c.mark.ensures
           ∙ or_same c.args.padded.now
           (rw high
-          (padded_two s c.args.at inside ((rw c.octet-low.ensures.answer at c.if-low-lt128.false)) (rw c.octet-low.ensures.answer at c.octet-low.ensures.small)
+          (padded_two s c.args.at inside ((rw c.octet-low.ensures.answer at c.if-low-lt128.false))
+          (rw c.octet-low.ensures.answer at c.octet-low.ensures.small)
           (omega arith) (rw high at c.if-high-lt128.true)));
     }
 
@@ -44,7 +56,10 @@ pub returns : goal.returns
 returns c =
     let s = c.args.s.now in
     let inside = c.if-n-at.false in record {
-      answer = c.read_behind.ensures.answer ∙ behind_answer s c.args.at inside ((rw c.octet-low.ensures.answer at c.if-low-lt128.false)) (take-length s);
+      answer = c.read_behind.ensures.answer
+          ∙ behind_answer s c.args.at inside ((rw c.octet-low.ensures.answer at c.if-low-lt128.false))
+          (take-length s);
       told = c.read_behind.ensures.told ((rw c.octet-low.ensures.answer at c.if-low-lt128.false))
-          ∙ or_same c.args.padded.now (behind_flag s c.args.at inside ((rw c.octet-low.ensures.answer at c.if-low-lt128.false)) (take-length s));
+          ∙ or_same c.args.padded.now (behind_flag s c.args.at inside
+          ((rw c.octet-low.ensures.answer at c.if-low-lt128.false)) (take-length s));
     }

@@ -24,5 +24,6 @@ returns c =
     wrote_all c.args.draft c.args.body.now c.args.args.now c.args.buf.now
     (sym c.is_accepted.ensures ∙ c.if-not-is_accepted.false) (omega (arith, c.payload_len-n.ensures))
     (omega (arith, c.payload_len-n.ensures))
-    (puts_as (ap (λ (m : ℕ). four_bytes (m + 1) ++ (c.args.draft.kind % 256 ∷ [])) c.payload_len-n.ensures) c.put_head-at.ensures)
+    (puts_as (ap (λ (m : ℕ). four_bytes (m + 1) ++
+    (c.args.draft.kind % 256 ∷ [])) c.payload_len-n.ensures) c.put_head-at.ensures)
     c.put_payload-end.ensures

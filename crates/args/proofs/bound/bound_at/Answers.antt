@@ -40,7 +40,11 @@ returns-then-not-x c = record {
 }
 
 pub loop-p-smaller-then-is_args : goal.loop-p-smaller-then-is_args
-loop-p-smaller-then-is_args c = omega (arith, (c.loop-p-test.true), ahead c.loop-p.invariant.0 (c.loop-p-test.true) (sym c.field_at.ensures.answer ∙ c.in-Good.is))
+loop-p-smaller-then-is_args c = omega (
+  arith,
+  (c.loop-p-test.true),
+  ahead c.loop-p.invariant.0 (c.loop-p-test.true) (sym c.field_at.ensures.answer ∙ c.in-Good.is),
+)
 
 pub loop-p-preserved-then-is_args : goal.loop-p-preserved-then-is_args
 loop-p-preserved-then-is_args c = let args = sym c.is_args.ensures ∙ c.if-is_args.true in
@@ -49,14 +53,20 @@ loop-p-preserved-then-is_args c = let args = sym c.is_args.ensures ∙ c.if-is_a
       rw c.with_type-x.ensures
           (counts_one c.loop-p.invariant.0 (c.loop-p-test.true) (sym c.field_at.ensures.answer ∙ c.in-Good.is) args _
           c.argument_type.ensures.answer good),
-      marks_on c.loop-p.invariant.1 (c.loop-p-test.true) (sym c.field_at.ensures.answer ∙ c.in-Good.is) c.field_at.ensures.told
+      marks_on c.loop-p.invariant.1 (c.loop-p-test.true) (sym c.field_at.ensures.answer
+          ∙ c.in-Good.is) c.field_at.ensures.told
           (c.argument_type.ensures.told (typed c.loop-p.x c.argument_type.result good)
           ∙ or_same c.field_at.new.padded
-          (inside_args_lem s c.in-Good.number c.in-Good.wire c.in-Good.value c.in-Good.start c.in-Good.len c.in-Good.next args)),
+          (inside_args_lem s c.in-Good.number c.in-Good.wire c.in-Good.value c.in-Good.start c.in-Good.len
+          c.in-Good.next args)),
     )
 
 pub loop-p-smaller : goal.loop-p-smaller
-loop-p-smaller c = omega (arith, (c.loop-p-test.true), ahead c.loop-p.invariant.0 (c.loop-p-test.true) (sym c.field_at.ensures.answer ∙ c.in-Good.is))
+loop-p-smaller c = omega (
+  arith,
+  (c.loop-p-test.true),
+  ahead c.loop-p.invariant.0 (c.loop-p-test.true) (sym c.field_at.ensures.answer ∙ c.in-Good.is),
+)
 
 pub loop-p-preserved : goal.loop-p-preserved
 loop-p-preserved c = let other = sym c.is_args.ensures ∙ c.if-is_args.false in
@@ -64,7 +74,8 @@ loop-p-preserved c = let other = sym c.is_args.ensures ∙ c.if-is_args.false in
       rw c.with_field-k.ensures
           (rw c.wire_by-own.ensures
           (passes c.loop-p.invariant.0 (c.loop-p-test.true) (sym c.field_at.ensures.answer ∙ c.in-Good.is) other)),
-      marks_on c.loop-p.invariant.1 (c.loop-p-test.true) (sym c.field_at.ensures.answer ∙ c.in-Good.is) c.field_at.ensures.told
+      marks_on c.loop-p.invariant.1 (c.loop-p-test.true) (sym c.field_at.ensures.answer
+          ∙ c.in-Good.is) c.field_at.ensures.told
           (or_none c.field_at.new.padded
           (inside_other s c.in-Good.number c.in-Good.wire c.in-Good.value c.in-Good.start c.in-Good.len
           c.in-Good.next other)),

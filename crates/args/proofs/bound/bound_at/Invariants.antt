@@ -5,7 +5,8 @@ use Rattle.args.proofs.BoundLaws.{Binding}
 use Rattle.args.proofs.bound.bound_at.Given as goal
 
 abbrev pub invariant-loop-p : goal.invariant-loop-p
-invariant-loop-p l = Binding l.text l.s l.from l.p l.x l.k × Marking (inside_args l.s) l.s l.from l.p l.initial.padded l.padded
+invariant-loop-p l = Binding l.text l.s l.from l.p l.x l.k × Marking
+    (inside_args l.s) l.s l.from l.p l.initial.padded l.padded
 
 abbrev pub decreases-loop-p : goal.decreases-loop-p
 decreases-loop-p l = length l.s - l.p

@@ -12,7 +12,8 @@ returns-then-s-at-eq-ARGS_TAG c =
           ∙ args_here c.args.s.now c.args.at inside c.if-s-at-eq-ARGS_TAG.true;
       told = c.length_value.ensures.told
           ∙ or_same c.args.padded.now
-          (quick_flag c.args.s.now c.args.at 18 inside (sym c.if-s-at-eq-ARGS_TAG.true) (omega arith) 2 (omega arith) refl
+          (quick_flag c.args.s.now c.args.at 18 inside (sym c.if-s-at-eq-ARGS_TAG.true) (omega arith) 2
+          (omega arith) refl
           (omega arith));
     }
 
@@ -21,4 +22,9 @@ slice_bounds-long_field-end c = sym (ap length (take-length c.args.s.now))
 
 pub returns : goal.returns
 returns c =
-    let whole = take-length c.args.s.now in record { answer = c.long_field.ensures.answer ∙ ap (λ (l : List ℕ). field_at l c.args.at) whole; told = c.long_field.ensures.told ∙ or_same c.args.padded.now (ap (λ (l : List ℕ). field_padded l c.args.at) whole) }
+    let whole = take-length c.args.s.now in record {
+      answer =
+          c.long_field.ensures.answer ∙ ap (λ (l : List ℕ). field_at l c.args.at) whole;
+      told =
+          c.long_field.ensures.told ∙ or_same c.args.padded.now (ap (λ (l : List ℕ). field_padded l c.args.at) whole);
+    }

@@ -15,7 +15,12 @@ loop-p-init c = (
 )
 
 pub returns-in_default : goal.returns-in_default
-returns-in_default c = record { answer = judged_bad c.loop-p.invariant.0 (c.loop-p-test.true) (sym c.long_field.ensures.answer ∙ c.in_default.is); told = λ h. absurd (let z : ◌≡◌ {A = ℕ} 0 1 = cc in omega arith) }
+returns-in_default c = record {
+  answer =
+      judged_bad c.loop-p.invariant.0 (c.loop-p-test.true) (sym c.long_field.ensures.answer ∙ c.in_default.is);
+  told =
+      λ h. absurd (let z : ◌≡◌ {A = ℕ} 0 1 = cc in omega arith);
+}
 
 pub returns-then-any_type-eq-NONE : goal.returns-then-any_type-eq-NONE
 returns-then-any_type-eq-NONE c = record {
@@ -27,7 +32,13 @@ returns-then-any_type-eq-NONE c = record {
 }
 
 pub loop-p-smaller-else-any_type-eq-NONE : goal.loop-p-smaller-else-any_type-eq-NONE
-loop-p-smaller-else-any_type-eq-NONE c = omega (arith, (field_ahead c.args.s.now c.loop-p.p (sym c.long_field.ensures.answer ∙ c.in-Good.is)), (c.loop-p-test.true))
+loop-p-smaller-else-any_type-eq-NONE c =
+    omega (
+      arith,
+      (field_ahead c.args.s.now c.loop-p.p (sym c.long_field.ensures.answer
+          ∙ c.in-Good.is)),
+      (c.loop-p-test.true),
+    )
 
 pub loop-p-preserved-else-any_type-eq-NONE : goal.loop-p-preserved-else-any_type-eq-NONE
 loop-p-preserved-else-any_type-eq-NONE c = let args = sym c.is_args.ensures ∙ c.if-is_args.true in
@@ -35,24 +46,36 @@ loop-p-preserved-else-any_type-eq-NONE c = let args = sym c.is_args.ensures ∙ 
     let s = c.args.s.now in (
       judged_good c.loop-p.invariant.0 (c.loop-p-test.true) (sym c.long_field.ensures.answer ∙ c.in-Good.is) args
           (λ z. c.if-any_type-eq-NONE.false (sym type ∙ ap any_type_of c.long_argument.ensures.answer ∙ z)),
-      marks_on c.loop-p.invariant.1 (c.loop-p-test.true) (sym c.long_field.ensures.answer ∙ c.in-Good.is) c.long_field.ensures.told
+      marks_on c.loop-p.invariant.1 (c.loop-p-test.true) (sym c.long_field.ensures.answer
+          ∙ c.in-Good.is) c.long_field.ensures.told
           (c.long_argument.ensures.told (omega (arith, type, c.if-any_type-eq-NONE.false))
           ∙ or_same c.long_field.new.padded
-          (inside_args_lem s c.in-Good.number c.in-Good.wire c.in-Good.value c.in-Good.start c.in-Good.len c.in-Good.next args)),
+          (inside_args_lem s c.in-Good.number c.in-Good.wire c.in-Good.value c.in-Good.start c.in-Good.len
+          c.in-Good.next args)),
     )
 
 pub loop-p-smaller : goal.loop-p-smaller
-loop-p-smaller c = omega (arith, (field_ahead c.args.s.now c.loop-p.p (sym c.long_field.ensures.answer ∙ c.in-Good.is)), (c.loop-p-test.true))
+loop-p-smaller c = omega (
+  arith,
+  (field_ahead c.args.s.now c.loop-p.p (sym c.long_field.ensures.answer
+      ∙ c.in-Good.is)),
+  (c.loop-p-test.true),
+)
 
 pub loop-p-preserved : goal.loop-p-preserved
 loop-p-preserved c = let other = sym c.is_args.ensures ∙ c.if-is_args.false in
     let s = c.args.s.now in (
       judged_other c.loop-p.invariant.0 (c.loop-p-test.true) (sym c.long_field.ensures.answer ∙ c.in-Good.is) other,
-      marks_on c.loop-p.invariant.1 (c.loop-p-test.true) (sym c.long_field.ensures.answer ∙ c.in-Good.is) c.long_field.ensures.told
+      marks_on c.loop-p.invariant.1 (c.loop-p-test.true) (sym c.long_field.ensures.answer
+          ∙ c.in-Good.is) c.long_field.ensures.told
           (or_none c.long_field.new.padded
           (inside_other s c.in-Good.number c.in-Good.wire c.in-Good.value c.in-Good.start c.in-Good.len
           c.in-Good.next other)),
     )
 
 pub returns : goal.returns
-returns c = record { answer = judged c.loop-p.invariant.0 c.loop-p-test.false; told = λ _. marked c.loop-p.invariant.1 c.loop-p-test.false }
+returns c = record {
+  answer = judged c.loop-p.invariant.0 c.loop-p-test.false;
+  told =
+      λ _. marked c.loop-p.invariant.1 c.loop-p-test.false;
+}

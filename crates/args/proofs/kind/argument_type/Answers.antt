@@ -8,10 +8,22 @@ use Rattle.args.proofs.InsideLaws.{object_flag, array_flag, scalar_flag, any_aga
 use Rattle.args.proofs.kind.argument_type.Goals as goal
 
 pub returns-then-alone-eq-OBJECT : goal.returns-then-alone-eq-OBJECT
-returns-then-alone-eq-OBJECT c = record { answer = ap any_type_of (object_read c.args.s.now c.args.at c.args.n c.read_lone-alone.ensures c.if-alone-eq-OBJECT.true); told = λ _. or_none c.args.padded.now (object_flag c.args.s.now c.args.at c.args.n c.read_lone-alone.ensures c.if-alone-eq-OBJECT.true) }
+returns-then-alone-eq-OBJECT c = record {
+  answer =
+      ap any_type_of (object_read c.args.s.now c.args.at c.args.n c.read_lone-alone.ensures
+      c.if-alone-eq-OBJECT.true);
+  told =
+      λ _. or_none c.args.padded.now (object_flag c.args.s.now c.args.at c.args.n c.read_lone-alone.ensures
+      c.if-alone-eq-OBJECT.true);
+}
 
 pub returns-then-alone-eq-ARRAY : goal.returns-then-alone-eq-ARRAY
-returns-then-alone-eq-ARRAY c = record { answer = ap any_type_of (array_read c.args.s.now c.args.at c.args.n c.read_lone-alone.ensures c.if-alone-eq-ARRAY.true); told = λ _. or_none c.args.padded.now (array_flag c.args.s.now c.args.at c.args.n c.read_lone-alone.ensures c.if-alone-eq-ARRAY.true) }
+returns-then-alone-eq-ARRAY c = record {
+  answer =
+      ap any_type_of (array_read c.args.s.now c.args.at c.args.n c.read_lone-alone.ensures c.if-alone-eq-ARRAY.true);
+  told = λ _. or_none c.args.padded.now
+      (array_flag c.args.s.now c.args.at c.args.n c.read_lone-alone.ensures c.if-alone-eq-ARRAY.true);
+}
 
 pub overflow_mul-first : goal.overflow_mul-first
 overflow_mul-first c = omega (arith, named_fits (record { is = sym c.read_pair.ensures.answer ∙ c.in-Two.is }))
@@ -22,11 +34,17 @@ overflow_add-first c = omega (arith, named_fits (record { is = sym c.read_pair.e
 pub returns-then-first-tag-eq-SCALAR_KEY : goal.returns-then-first-tag-eq-SCALAR_KEY
 returns-then-first-tag-eq-SCALAR_KEY c =
     record {
-      answer = c.scalar_type.ensures.answer ∙ ap any_type_of (scalar_read (record { is = sym c.read_pair.ensures.answer ∙ c.in-Two.is }) c.if-first-tag-eq-SCALAR_KEY.true);
+      answer = c.scalar_type.ensures.answer ∙ ap any_type_of (scalar_read (record {
+        is =
+            sym c.read_pair.ensures.answer ∙ c.in-Two.is;
+      }) c.if-first-tag-eq-SCALAR_KEY.true);
       told = λ h.
           or_then c.args.padded.now (pair_padded c.args.s.now c.args.at c.args.n)
           (scalar_padded c.args.s.now (one_part c.in-Two.start c.in-Two.value)) c.read_pair.ensures.told
-          (c.scalar_type.ensures.told h) (scalar_flag (record { is = sym c.read_pair.ensures.answer ∙ c.in-Two.is }) c.if-first-tag-eq-SCALAR_KEY.true);
+          (c.scalar_type.ensures.told h) (scalar_flag (record {
+            is =
+                sym c.read_pair.ensures.answer ∙ c.in-Two.is;
+          }) c.if-first-tag-eq-SCALAR_KEY.true);
     }
 
 pub slice_bounds-long_argument-end : goal.slice_bounds-long_argument-end

@@ -6,18 +6,32 @@ use Rattle.args.proofs.PaddedLaws.{flag_short, flag_other, flag_long_first, flag
 use Rattle.args.proofs.pair.pair_at.Goals as goal
 
 pub returns-then-end-at : goal.returns-then-end-at
-returns-then-end-at c = record { answer = at_short c.args.s.now c.args.at (omega arith); told = or_none c.args.padded.now (flag_short c.args.s.now c.args.at (omega arith)) }
+returns-then-end-at c = record {
+  answer = at_short c.args.s.now c.args.at (omega arith);
+  told =
+      or_none c.args.padded.now (flag_short c.args.s.now c.args.at (omega arith));
+}
 
 pub returns-then-end-at-lt3 : goal.returns-then-end-at-lt3
-returns-then-end-at-lt3 c = record { answer = at_short c.args.s.now c.args.at (omega arith); told = or_none c.args.padded.now (flag_short c.args.s.now c.args.at (omega arith)) }
+returns-then-end-at-lt3 c = record {
+  answer = at_short c.args.s.now c.args.at (omega arith);
+  told =
+      or_none c.args.padded.now (flag_short c.args.s.now c.args.at (omega arith));
+}
 
 pub returns-then-s-at-ne-FIRST_TAG : goal.returns-then-s-at-ne-FIRST_TAG
-returns-then-s-at-ne-FIRST_TAG c = record { answer = at_other c.args.s.now c.args.at (omega arith) c.if-s-at-ne-FIRST_TAG.true; told = or_none c.args.padded.now (flag_other c.args.s.now c.args.at (omega arith) c.if-s-at-ne-FIRST_TAG.true) }
+returns-then-s-at-ne-FIRST_TAG c = record {
+  answer =
+      at_other c.args.s.now c.args.at (omega arith) c.if-s-at-ne-FIRST_TAG.true;
+  told =
+      or_none c.args.padded.now (flag_other c.args.s.now c.args.at (omega arith) c.if-s-at-ne-FIRST_TAG.true);
+}
 
 pub returns-then-first-ge128 : goal.returns-then-first-ge128
 returns-then-first-ge128 c =
     record {
-      answer = at_long_first c.args.s.now c.args.at (omega arith) (omega arith) c.wide-first.result c.wide-first.ensures c.if-first-ge128.true;
+      answer = at_long_first c.args.s.now c.args.at (omega arith)
+          (omega arith) c.wide-first.result c.wide-first.ensures c.if-first-ge128.true;
       told = or_none c.args.padded.now
           (flag_long_first c.args.s.now c.args.at (omega arith) (omega arith) c.wide-first.result c.wide-first.ensures
           c.if-first-ge128.true);
@@ -26,10 +40,12 @@ returns-then-first-ge128 c =
 pub returns-then-tag-ge128 : goal.returns-then-tag-ge128
 returns-then-tag-ge128 c =
     record {
-      answer = at_long_tag c.args.s.now c.args.at (omega arith) (omega arith) c.wide-first.result c.wide-first.ensures (omega arith)
+      answer = at_long_tag c.args.s.now c.args.at (omega arith)
+          (omega arith) c.wide-first.result c.wide-first.ensures (omega arith)
           c.wide-tag.result c.wide-tag.ensures c.if-tag-ge128.true;
       told = or_none c.args.padded.now
-          (flag_long_tag c.args.s.now c.args.at (omega arith) (omega arith) c.wide-first.result c.wide-first.ensures (omega arith)
+          (flag_long_tag c.args.s.now c.args.at (omega arith)
+          (omega arith) c.wide-first.result c.wide-first.ensures (omega arith)
           c.wide-tag.result c.wide-tag.ensures c.if-tag-ge128.true);
     }
 
@@ -37,10 +53,12 @@ pub returns : goal.returns
 returns c =
     record {
       answer = c.paired.ensures
-          ∙ at_pair c.args.s.now c.args.at (omega arith) (omega arith) c.wide-first.result c.wide-first.ensures (omega arith)
+          ∙ at_pair c.args.s.now c.args.at (omega arith) (omega arith) c.wide-first.result c.wide-first.ensures
+          (omega arith)
           c.wide-tag.result c.wide-tag.ensures (omega arith) _ c.value_at.ensures.answer;
       told = c.value_at.ensures.told
           ∙ or_same c.args.padded.now
-          (flag_pair c.args.s.now c.args.at (omega arith) (omega arith) c.wide-first.result c.wide-first.ensures (omega arith)
+          (flag_pair c.args.s.now c.args.at (omega arith) (omega arith) c.wide-first.result c.wide-first.ensures
+          (omega arith)
           c.wide-tag.result c.wide-tag.ensures (omega arith));
     }

@@ -5,13 +5,26 @@ use Rattle.args.proofs.PaddedLaws.{text_flag_past, text_flag_cut}
 use Rattle.args.proofs.pair.read_text.Goals as goal
 
 pub returns-then-s-at : goal.returns-then-s-at
-returns-then-s-at c = record { answer = text_past c.args.s.now c.args.at c.args.n (omega arith); told = or_none c.args.padded.now (text_flag_past c.args.s.now c.args.at c.args.n (omega arith)) }
+returns-then-s-at c = record {
+  answer = text_past c.args.s.now c.args.at c.args.n (omega arith);
+  told =
+      or_none c.args.padded.now (text_flag_past c.args.s.now c.args.at c.args.n (omega arith));
+}
 
 pub returns-then-s-at-2 : goal.returns-then-s-at-2
-returns-then-s-at-2 c = record { answer = text_past c.args.s.now c.args.at c.args.n (omega arith); told = or_none c.args.padded.now (text_flag_past c.args.s.now c.args.at c.args.n (omega arith)) }
+returns-then-s-at-2 c = record {
+  answer = text_past c.args.s.now c.args.at c.args.n (omega arith);
+  told =
+      or_none c.args.padded.now (text_flag_past c.args.s.now c.args.at c.args.n (omega arith));
+}
 
 pub slice_bounds-text_at-end : goal.slice_bounds-text_at-end
 slice_bounds-text_at-end c = omega (arith, length-take (c.args.at + c.args.n) c.args.s.now)
 
 pub returns : goal.returns
-returns c = record { answer = c.text_at.ensures.answer ∙ text_cut c.args.s.now c.args.at c.args.n (omega arith); told = c.text_at.ensures.told ∙ or_same c.args.padded.now (text_flag_cut c.args.s.now c.args.at c.args.n (omega arith)) }
+returns c = record {
+  answer = c.text_at.ensures.answer
+      ∙ text_cut c.args.s.now c.args.at c.args.n (omega arith);
+  told =
+      c.text_at.ensures.told ∙ or_same c.args.padded.now (text_flag_cut c.args.s.now c.args.at c.args.n (omega arith));
+}

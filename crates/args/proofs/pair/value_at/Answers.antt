@@ -9,7 +9,8 @@ use Rattle.args.proofs.pair.value_at.Goals as goal
 pub returns-then-wire-eq-VARINT : goal.returns-then-wire-eq-VARINT
 returns-then-wire-eq-VARINT c =
     let inside = c.if-at-n.true in record {
-      answer = quick_number c.args.s.now c.args.wire c.args.at c.wide-v.result inside c.wide-v.ensures c.if-v-lt128.true c.if-wire-eq-VARINT.true;
+      answer = quick_number c.args.s.now c.args.wire c.args.at c.wide-v.result inside c.wide-v.ensures
+          c.if-v-lt128.true c.if-wire-eq-VARINT.true;
       told = or_none c.args.padded.now
           (sym (number_flag c.args.s.now c.args.wire c.args.at c.if-wire-eq-VARINT.true)
           ∙ one_flag c.args.s.now c.args.at c.wide-v.result inside c.wide-v.ensures c.if-v-lt128.true);
@@ -18,7 +19,8 @@ returns-then-wire-eq-VARINT c =
 pub returns-then-len-n : goal.returns-then-len-n
 returns-then-len-n c =
     let inside = c.if-at-n.true in record {
-      answer = quick_length c.args.s.now c.args.wire c.args.at c.wide-v.result inside c.wide-v.ensures c.if-v-lt128.true
+      answer = quick_length c.args.s.now c.args.wire c.args.at c.wide-v.result inside c.wide-v.ensures
+          c.if-v-lt128.true
           c.if-wire-eq-LEN.true c.if-len-n.true;
       told = or_none c.args.padded.now
           (sym (length_flag c.args.s.now c.args.wire c.args.at c.if-wire-eq-LEN.true)

@@ -7,7 +7,11 @@ use Rattle.args.proofs.PartedLaws.{here, parted_cut, parted_flag_cut}
 use Rattle.args.proofs.value.any_scalar.Goals as goal
 
 pub returns-then-times-eq0 : goal.returns-then-times-eq0
-returns-then-times-eq0 c = record { answer = yes bad _ (eq-eqb c.args.times 0 c.if-times-eq0.true); told = λ h. absurd (omega (arith, h)) }
+returns-then-times-eq0 c = record {
+  answer = yes bad _ (eq-eqb c.args.times 0 c.if-times-eq0.true);
+  told =
+      λ h. absurd (omega (arith, h));
+}
 
 pub returns-then-times-eq1 : goal.returns-then-times-eq1
 returns-then-times-eq1 c =

@@ -6,7 +6,11 @@ use Rattle.args.proofs.PartedLaws.{here, one_padded}
 use Rattle.args.proofs.value.bytes_value.Goals as goal
 
 pub returns-then-times-eq0 : goal.returns-then-times-eq0
-returns-then-times-eq0 c = record { answer = yes bad _ (eq-eqb c.args.times 0 c.if-times-eq0.true); told = λ h. absurd (omega (arith, h)) }
+returns-then-times-eq0 c = record {
+  answer = yes bad _ (eq-eqb c.args.times 0 c.if-times-eq0.true);
+  told =
+      λ h. absurd (omega (arith, h));
+}
 
 pub returns-then-times-eq1 : goal.returns-then-times-eq1
 returns-then-times-eq1 c =
@@ -23,4 +27,8 @@ pub parted_bytes-requires : goal.parted_bytes-requires
 parted_bytes-requires c = c.requires.at_in_bounds
 
 pub returns : goal.returns
-returns c = record { answer = c.parted_bytes.ensures.answer ∙ here c.args.times _ c.if-times-eq0.false; told = c.parted_bytes.ensures.told }
+returns c = record {
+  answer = c.parted_bytes.ensures.answer ∙ here c.args.times _ c.if-times-eq0.false;
+  told =
+      c.parted_bytes.ensures.told;
+}

@@ -25,7 +25,11 @@ any_scalar-requires c =
     let s = c.args.s.now in
     let held = rw c.any_rows-rows.ensures at c.fill_part.ensures.holds in
     let good = c.if-not-fill_part.false in
-    record { counted = scalar_counted s c.args.at c.args.n held good; n_in_bounds = held_within (rows_of any) s c.args.at c.args.n held good }
+    record {
+      counted = scalar_counted s c.args.at c.args.n held good;
+      n_in_bounds =
+          held_within (rows_of any) s c.args.at c.args.n held good;
+    }
 
 -- the scalar, which is there or not
 pub returns-in-1 : goal.returns-in-1
@@ -88,7 +92,8 @@ returns-in_default c =
     let held = rw c.any_rows-rows.ensures at c.fill_part.ensures.holds in
     let good = sym held.answer ∙ c.if-not-fill_part.false in
     let type = ap low32 (held_value held 1) in record {
-      answer = any_type_none s ps x _ c.in_default.in_default-own.rest.0.0.1 c.in_default.in_default-own.rest.0.1 c.in_default.in_default-own.rest.1
+      answer = any_type_none s ps x _ c.in_default.in_default-own.rest.0.0.1 c.in_default.in_default-own.rest.0.1
+          c.in_default.in_default-own.rest.1
           ∙ ap (of_any_type s ps x) type
           ∙ any_good s ps x good;
       told = λ h. absurd (omega (arith, h));

@@ -21,38 +21,46 @@ pub overflow_add-end : goal.overflow_add-end
 overflow_add-end c = omega (
   arith,
   (
-      held_within (rows_of scalar) c.args.s.now c.args.at c.args.n (rw c.scalar_rows-rows.ensures at c.fill_part.ensures.holds) (c.if-not-fill_part.false)),
+      held_within (rows_of scalar) c.args.s.now c.args.at c.args.n
+      (rw c.scalar_rows-rows.ensures at c.fill_part.ensures.holds) (c.if-not-fill_part.false)),
 )
 
 pub slice_bounds-scalar_value-end : goal.slice_bounds-scalar_value-end
 slice_bounds-scalar_value-end c =
     sym (length-take-le (c.args.at + c.args.n) c.args.s.now (
-    held_within (rows_of scalar) c.args.s.now c.args.at c.args.n (rw c.scalar_rows-rows.ensures at c.fill_part.ensures.holds) (c.if-not-fill_part.false)))
+    held_within (rows_of scalar) c.args.s.now c.args.at c.args.n
+    (rw c.scalar_rows-rows.ensures at c.fill_part.ensures.holds) (c.if-not-fill_part.false)))
 
 pub scalar_value-requires : goal.scalar_value-requires
 scalar_value-requires c = record {
   at_in_bounds = omega (
     arith,
     length-take-le (c.args.at + c.args.n) c.args.s.now (
-        held_within (rows_of scalar) c.args.s.now c.args.at c.args.n (rw c.scalar_rows-rows.ensures at c.fill_part.ensures.holds) (c.if-not-fill_part.false)),
+        held_within (rows_of scalar) c.args.s.now c.args.at c.args.n
+        (rw c.scalar_rows-rows.ensures at c.fill_part.ensures.holds) (c.if-not-fill_part.false)),
   );
   holds = held_good (held_cut c.args.s.now c.args.at c.args.n (
-      held_within (rows_of scalar) c.args.s.now c.args.at c.args.n (rw c.scalar_rows-rows.ensures at c.fill_part.ensures.holds) (c.if-not-fill_part.false)) (rw c.scalar_rows-rows.ensures at c.fill_part.ensures.holds)) (c.if-not-fill_part.false);
+      held_within (rows_of scalar) c.args.s.now c.args.at c.args.n
+      (rw c.scalar_rows-rows.ensures at c.fill_part.ensures.holds) (c.if-not-fill_part.false))
+      (rw c.scalar_rows-rows.ensures at c.fill_part.ensures.holds)) (c.if-not-fill_part.false);
 }
 
 pub returns : goal.returns
 returns c =
     let s = c.args.s.now in record {
       answer = c.scalar_value.ensures.answer ∙ whole_cut s c.args.at c.args.n (
-          held_within (rows_of scalar) c.args.s.now c.args.at c.args.n (rw c.scalar_rows-rows.ensures at c.fill_part.ensures.holds) (c.if-not-fill_part.false));
+          held_within (rows_of scalar) c.args.s.now c.args.at c.args.n
+          (rw c.scalar_rows-rows.ensures at c.fill_part.ensures.holds) (c.if-not-fill_part.false));
       told = λ h.
           or_then c.args.padded.now (part_padded s c.args.at c.args.n)
           (inside_scalar s (one_part c.args.at c.args.n) (merged (rows_of scalar) s (one_part c.args.at c.args.n)))
           c.fill_part.ensures.told
           (c.scalar_value.ensures.told h
           ∙ or_same c.fill_part.new.padded (whole_inside s c.args.at c.args.n (
-          held_within (rows_of scalar) c.args.s.now c.args.at c.args.n (rw c.scalar_rows-rows.ensures at c.fill_part.ensures.holds) (c.if-not-fill_part.false))))
-          (ap (λ b. b || inside_scalar s (one_part c.args.at c.args.n) (merged (rows_of scalar) s (one_part c.args.at c.args.n)))
+          held_within (rows_of scalar) c.args.s.now c.args.at c.args.n
+          (rw c.scalar_rows-rows.ensures at c.fill_part.ensures.holds) (c.if-not-fill_part.false))))
+          (ap (λ b. b || inside_scalar s (one_part c.args.at c.args.n) (merged (rows_of scalar) s
+          (one_part c.args.at c.args.n)))
           (one_flag s c.args.at c.args.n)
           ∙ scalar_whole s (one_part c.args.at c.args.n));
     }

@@ -26,7 +26,8 @@ returns-then-whole c =
           good;
       told = λ _.
           c.merge_fields.ensures.told good
-          ∙ or_same c.args.padded.now (ap (parts_padded c.args.s.now) (by_whole c.args.s.now c.args.at c.requires c.args.whole
+          ∙ or_same c.args.padded.now (ap (parts_padded c.args.s.now)
+          (by_whole c.args.s.now c.args.at c.requires c.args.whole
           c.if-whole.true c.args.k));
     }
 

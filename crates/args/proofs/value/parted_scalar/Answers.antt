@@ -13,7 +13,11 @@ returns-then-not-merge_fields c = record {
 }
 
 pub scalar_value-requires : goal.scalar_value-requires
-scalar_value-requires c = record { at_in_bounds = c.requires; holds = held_good (rw c.scalar_rows-rows.ensures at c.merge_fields.ensures.holds) (c.if-not-merge_fields.false) }
+scalar_value-requires c = record {
+  at_in_bounds = c.requires;
+  holds =
+      held_good (rw c.scalar_rows-rows.ensures at c.merge_fields.ensures.holds) (c.if-not-merge_fields.false);
+}
 
 pub returns : goal.returns
 returns c =

@@ -1,5 +1,4 @@
 -- By the laws on one field and on two, a short way answers what the rows do; the rest goes the long way.
--- where a pair is read, the bytes hold it
 use Rattle.prelude.proofs.Basics.{arith, sym, ap, ◌∙◌, length, take-length}
 use Rattle.args.proofs.ScalarLaws.{named_fits, object_read, array_read, scalar_read, long_argument_read}
 use Rattle.args.proofs.value.read_argument.Goals as goal
@@ -19,7 +18,10 @@ pub overflow_add-first : goal.overflow_add-first
 overflow_add-first c = omega (arith, named_fits (record { is = sym c.read_pair.ensures.answer ∙ c.in-Two.is }))
 
 pub returns-then-first-tag-eq-SCALAR_KEY : goal.returns-then-first-tag-eq-SCALAR_KEY
-returns-then-first-tag-eq-SCALAR_KEY c = c.read_scalar.ensures ∙ scalar_read (record { is = sym c.read_pair.ensures.answer ∙ c.in-Two.is })
+returns-then-first-tag-eq-SCALAR_KEY c = c.read_scalar.ensures ∙ scalar_read (record {
+  is =
+      sym c.read_pair.ensures.answer ∙ c.in-Two.is;
+})
     c.if-first-tag-eq-SCALAR_KEY.true
 
 pub slice_bounds-long_argument-end : goal.slice_bounds-long_argument-end

@@ -33,8 +33,10 @@ slice_bounds-long_bytes-end c = sym (ap length (take-length c.args.s.now))
 pub returns : goal.returns
 returns c =
     let s = c.args.s.now in record {
-      answer = c.long_bytes.ensures.answer ∙ ap (λ (l : List ℕ). bytes_in c.args.octets l (one_part c.args.at c.args.n)) (take-length s);
-      told = or_then c.args.padded.now (text_padded s c.args.at c.args.n) (part_padded s c.args.at c.args.n) c.read_text.ensures.told
+      answer = c.long_bytes.ensures.answer
+          ∙ ap (λ (l : List ℕ). bytes_in c.args.octets l (one_part c.args.at c.args.n)) (take-length s);
+      told = or_then c.args.padded.now (text_padded s c.args.at c.args.n)
+          (part_padded s c.args.at c.args.n) c.read_text.ensures.told
           (c.long_bytes.ensures.told
           ∙ or_same c.read_text.new.padded
           (ap (λ (l : List ℕ). part_padded l c.args.at c.args.n) (take-length s)))

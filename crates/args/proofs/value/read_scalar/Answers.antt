@@ -1,5 +1,4 @@
 -- Each key names a type and the tag of its value, and a law says what the rows make of the two.
--- where a pair is read, the bytes hold it
 use Rattle.prelude.proofs.Basics.{arith, sym, ap, ◌∙◌, length, take-length}
 use Rattle.args.proofs.ScalarLaws.{named_fits, null_read, long_scalar_read, sint_read, uint_read}
 use Rattle.args.proofs.ScalarLaws.{octets_read, double_read, float_read, bool_read, string_read}
@@ -16,7 +15,10 @@ pub overflow_add-named : goal.overflow_add-named
 overflow_add-named c = omega (arith, named_fits (record { is = sym c.read_pair.ensures.answer ∙ c.in-Two.is }))
 
 pub returns-in-272 : goal.returns-in-272
-returns-in-272 c = c.signed_argument.ensures ∙ sint_read (record { is = sym c.read_pair.ensures.answer ∙ c.in-Two.is }) c.in-272.is
+returns-in-272 c = c.signed_argument.ensures ∙ sint_read (record {
+  is =
+      sym c.read_pair.ensures.answer ∙ c.in-Two.is;
+}) c.in-272.is
 
 pub returns-in-536 : goal.returns-in-536
 returns-in-536 c = uint_read (record { is = sym c.read_pair.ensures.answer ∙ c.in-Two.is }) c.in-536.is
@@ -29,10 +31,16 @@ returns-in-1066 c = octets_read (record { is = sym c.read_pair.ensures.answer �
     c.read_bytes.ensures.answer
 
 pub returns-in-1329 : goal.returns-in-1329
-returns-in-1329 c = c.double_argument.ensures ∙ double_read (record { is = sym c.read_pair.ensures.answer ∙ c.in-Two.is }) c.in-1329.is
+returns-in-1329 c = c.double_argument.ensures ∙ double_read (record {
+  is =
+      sym c.read_pair.ensures.answer ∙ c.in-Two.is;
+}) c.in-1329.is
 
 pub returns-in-1597 : goal.returns-in-1597
-returns-in-1597 c = c.float_argument.ensures ∙ float_read (record { is = sym c.read_pair.ensures.answer ∙ c.in-Two.is }) c.in-1597.is
+returns-in-1597 c = c.float_argument.ensures ∙ float_read (record {
+  is =
+      sym c.read_pair.ensures.answer ∙ c.in-Two.is;
+}) c.in-1597.is
 
 pub returns-in-1856 : goal.returns-in-1856
 returns-in-1856 c = bool_read (record { is = sym c.read_pair.ensures.answer ∙ c.in-Two.is }) c.in-1856.is

@@ -9,5 +9,6 @@ returns-then-b c = c.value_form.ensures ∙ ap (λ (b : Bool). value_form Scalar
     (sym c.if-b.true)
 
 pub returns-else-b : goal.returns-else-b
-returns-else-b c = c.value_form-else-b.ensures ∙ ap (λ (b : Bool). value_form Scalars.bool Scalars.bool_field 0 (cond b 1 0))
+returns-else-b c = c.value_form-else-b.ensures
+    ∙ ap (λ (b : Bool). value_form Scalars.bool Scalars.bool_field 0 (cond b 1 0))
     (sym c.if-b.false)

@@ -9,8 +9,10 @@ use Rattle.args_writer.proofs.form.double_nan_form.Goals as goal
 
 pub returns-then-bits-le9218868437227405312 : goal.returns-then-bits-le9218868437227405312
 returns-then-bits-le9218868437227405312 c = let n = c.args.bits in c.no_form.ensures ∙ no
-    (value_form Scalars.double Scalars.double_field 1 n) no_form (no_nan binary64 n c.if-bits-le9218868437227405312.true)
+    (value_form Scalars.double Scalars.double_field 1 n) no_form
+    (no_nan binary64 n c.if-bits-le9218868437227405312.true)
 
 pub returns : goal.returns
 returns c = let n = c.args.bits in c.value_form.ensures ∙ yes
-    (value_form Scalars.double Scalars.double_field 1 n) no_form (is_nan_lem binary64 n c.if-bits-le9218868437227405312.false)
+    (value_form Scalars.double Scalars.double_field 1 n) no_form
+    (is_nan_lem binary64 n c.if-bits-le9218868437227405312.false)

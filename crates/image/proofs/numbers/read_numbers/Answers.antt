@@ -12,7 +12,11 @@ pub shape_of-numbers-in_default : goal.shape_of-numbers-in_default
 shape_of-numbers-in_default c = c.loop-i.invariant.long
 
 pub returns-in_default : goal.returns-in_default
-returns-in_default c = let l = c.loop-i.invariant in record { read = fetching_breaks l c.loop-i-test.true (sym c.in_default.is ∙ c.read_number.ensures); long = l.long }
+returns-in_default c = let l = c.loop-i.invariant in record {
+  read =
+      fetching_breaks l c.loop-i-test.true (sym c.in_default.is ∙ c.read_number.ensures);
+  long = l.long;
+}
 
 pub overflow_cast-numbers : goal.overflow_cast-numbers
 overflow_cast-numbers c = omega (arith, number_small _ _ _ _ (sym c.read_number.ensures ∙ c.in-Number.is))

@@ -9,5 +9,7 @@ returns-then-size-lt-LONGEST c = sym (lt-leb (c.args.at + most_number) c.args.si
 pub returns : goal.returns
 returns c =
     less_or_not (c.args.size - most_number) c.args.at
-    (λ h. lt-leb c.args.at (c.args.size - most_number) h ∙ sym (lt-leb (c.args.at + most_number) c.args.size (omega arith)))
-    (λ h. le-leb c.args.at (c.args.size - most_number) h ∙ sym (le-leb (c.args.at + most_number) c.args.size (omega arith)))
+    (λ h. lt-leb c.args.at (c.args.size - most_number) h
+    ∙ sym (lt-leb (c.args.at + most_number) c.args.size (omega arith)))
+    (λ h. le-leb c.args.at (c.args.size - most_number) h
+    ∙ sym (le-leb (c.args.at + most_number) c.args.size (omega arith)))

@@ -13,7 +13,10 @@ pub bounds-buf-at-4 : goal.bounds-buf-at-4
 bounds-buf-at-4 c = rw (length-set, length-set, length-set) (omega (arith, c.requires.most_number_in_bounds))
 
 pub bounds-buf-at-5 : goal.bounds-buf-at-5
-bounds-buf-at-5 c = rw (length-set, length-set, length-set, length-set) (omega (arith, c.requires.most_number_in_bounds))
+bounds-buf-at-5 c = rw (length-set, length-set, length-set, length-set) (omega (
+  arith,
+  c.requires.most_number_in_bounds,
+))
 
 pub returns : goal.returns
 returns c =

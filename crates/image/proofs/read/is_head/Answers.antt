@@ -11,8 +11,10 @@ returns-then-closed-gt1 c =
 
 pub returns-then-closed-eq0 : goal.returns-then-closed-eq0
 returns-then-closed-eq0 c =
-    head_open c.args.form c.args.closed c.args.stmts c.if-form-ne-FORM.false c.if-closed-gt1.false c.if-closed-eq0.true
+    head_open c.args.form c.args.closed c.args.stmts c.if-form-ne-FORM.false c.if-closed-gt1.false
+    c.if-closed-eq0.true
 
 pub returns-else-closed-eq0 : goal.returns-else-closed-eq0
 returns-else-closed-eq0 c =
-    head_empty c.args.form c.args.closed c.args.stmts c.if-form-ne-FORM.false c.if-closed-gt1.false c.if-closed-eq0.false
+    head_empty c.args.form c.args.closed c.args.stmts c.if-form-ne-FORM.false c.if-closed-gt1.false
+    c.if-closed-eq0.false

@@ -10,7 +10,8 @@ use Rattle.image.proofs.SeenLaws.{Unseen}
 use Rattle.image.proofs.read.take_cursors.Given as goal
 
 abbrev pub invariant-loop-left : goal.invariant-loop-left
-invariant-loop-left l = (entries_of cursor_table l.left l.next (drop l.i (take (cursor_width * l.count) l.numbers)) l.end (session_of l.words)
+invariant-loop-left l = (entries_of cursor_table l.left l.next (drop l.i (take
+    (cursor_width * l.count) l.numbers)) l.end (session_of l.words)
     ≡ entries_at cursor_table l.count 0 l.image l.at (session_of l.initial.words))
     × ((l.i + cursor_width * l.left ≡ cursor_width * l.count)
     × (Unseen is_live_cursor (λ c. c.id) false l.ids (session_of l.words).cursors

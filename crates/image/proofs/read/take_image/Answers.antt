@@ -14,7 +14,8 @@ pub returns-in_default : goal.returns-in_default
 returns-in_default c = whole_broken _ (front_broken _ _ c.in_default.is c.read_numbers.ensures.read)
 
 pub returns-then-not-is_head : goal.returns-then-not-is_head
-returns-then-not-is_head c = whole_head _ c.read_numbers.new.numbers _ (front_at_lem _ _ c.in-At.is c.read_numbers.ensures.read)
+returns-then-not-is_head c = whole_head _ c.read_numbers.new.numbers _
+    (front_at_lem _ _ c.in-At.is c.read_numbers.ensures.read)
     (sym c.is_head.ensures ∙ c.if-not-is_head.true)
 
 pub begin-requires : goal.begin-requires
@@ -37,7 +38,14 @@ returns-in_default-take_stmts c = whole_refused _ c.read_numbers.new.numbers _
 -- and no cursor, before and after the statements are taken
 pub take_rest-requires : goal.take_rest-requires
 take_rest-requires c = let closed = get_or c.read_numbers.new.numbers 1 0 in
-    let same = c.take_stmts.ensures.kept ∙ ap (λ s. s.cursors) c.begin.ensures in record { hints_len = c.take_stmts.ensures.long; by_index = λ id. ap (λ cs. how_many (is_cursor id) cs) same ∙ begun_no_cursor closed id; by_index_2 = λ id. ap (λ cs. how_many (on_stmt id) cs) same ∙ begun_none_on closed id }
+    let same = c.take_stmts.ensures.kept ∙ ap (λ s. s.cursors) c.begin.ensures in record {
+      hints_len =
+          c.take_stmts.ensures.long;
+      by_index =
+          λ id. ap (λ cs. how_many (is_cursor id) cs) same ∙ begun_no_cursor closed id;
+      by_index_2 =
+          λ id. ap (λ cs. how_many (on_stmt id) cs) same ∙ begun_none_on closed id;
+    }
 
 pub returns : goal.returns
 returns c = whole_read _ c.read_numbers.new.numbers _

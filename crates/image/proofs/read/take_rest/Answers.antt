@@ -11,7 +11,12 @@ pub returns-in_default : goal.returns-in_default
 returns-in_default c = rest_broken _ _ _ (front_broken _ _ c.in_default.is c.read_numbers.ensures.read)
 
 pub take_cursors-requires : goal.take_cursors-requires
-take_cursors-requires c = record { hints_len = c.requires.hints_len; by_index = c.requires.by_index; by_index_2 = c.requires.by_index_2 }
+take_cursors-requires c = record {
+  hints_len = c.requires.hints_len;
+  by_index = c.requires.by_index;
+  by_index_2 =
+      c.requires.by_index_2;
+}
 
 pub returns-in_default-take_cursors : goal.returns-in_default-take_cursors
 returns-in_default-take_cursors c = rest_refused _ _ _ c.read_numbers.new.numbers _

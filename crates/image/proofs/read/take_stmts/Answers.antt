@@ -15,13 +15,25 @@ use Rattle.image.proofs.SeenLaws.{unseen_starts, unseen_goes_on, slot_inside}
 use Rattle.image.proofs.read.take_stmts.Goals as goal
 
 pub returns-then-count-gt-MAX_STMTS : goal.returns-then-count-gt-MAX_STMTS
-returns-then-count-gt-MAX_STMTS c = record { read = entries_few stmt_table max_stmts stmt_places _ 0 _ _ _ (omega arith) (omega (arith, c.if-count-gt-MAX_STMTS.true)); kept = refl; long = c.requires.hints_len }
+returns-then-count-gt-MAX_STMTS c = record {
+  read =
+      entries_few stmt_table max_stmts stmt_places _ 0 _ _ _ (omega arith) (omega (
+        arith,
+        c.if-count-gt-MAX_STMTS.true,
+      ));
+  kept = refl;
+  long = c.requires.hints_len;
+}
 
 pub overflow_mul-count : goal.overflow_mul-count
 overflow_mul-count c = omega (arith, c.if-count-gt-MAX_STMTS.false)
 
 pub read_numbers-requires : goal.read_numbers-requires
-read_numbers-requires c = record { k_in_bounds = omega (arith, c.if-count-gt-MAX_STMTS.false); k_le_most = omega (arith, c.if-count-gt-MAX_STMTS.false) }
+read_numbers-requires c = record {
+  k_in_bounds = omega (arith, c.if-count-gt-MAX_STMTS.false);
+  k_le_most =
+      omega (arith, c.if-count-gt-MAX_STMTS.false);
+}
 
 pub returns-in_default : goal.returns-in_default
 returns-in_default c = let e = front_broken _ _ c.in_default.is c.read_numbers.ensures.read in
@@ -38,55 +50,72 @@ loop-left-init c = (
 
 pub offset_bounds-numbers-i : goal.offset_bounds-numbers-i
 offset_bounds-numbers-i c =
-    let inside : c.loop-left.i + stmt_width ≤ stmt_width * (c.args.count) = omega (arith, c.loop-left-test.true, c.loop-left.invariant.1.0) in
-    let few : c.loop-left.i + stmt_width ≤ stmt_width * max_stmts = omega (arith, inside, c.if-count-gt-MAX_STMTS.false) in
+    let inside : c.loop-left.i + stmt_width ≤ stmt_width * (c.args.count) =
+    omega (arith, c.loop-left-test.true, c.loop-left.invariant.1.0) in
+    let few : c.loop-left.i + stmt_width ≤ stmt_width * max_stmts =
+    omega (arith, inside, c.if-count-gt-MAX_STMTS.false) in
     omega (arith, few)
 
 pub bounds-numbers-i : goal.bounds-numbers-i
 bounds-numbers-i c =
-    let inside : c.loop-left.i + stmt_width ≤ stmt_width * (c.args.count) = omega (arith, c.loop-left-test.true, c.loop-left.invariant.1.0) in
-    let few : c.loop-left.i + stmt_width ≤ stmt_width * max_stmts = omega (arith, inside, c.if-count-gt-MAX_STMTS.false) in
+    let inside : c.loop-left.i + stmt_width ≤ stmt_width * (c.args.count) =
+    omega (arith, c.loop-left-test.true, c.loop-left.invariant.1.0) in
+    let few : c.loop-left.i + stmt_width ≤ stmt_width * max_stmts =
+    omega (arith, inside, c.if-count-gt-MAX_STMTS.false) in
     omega (arith, few)
 
 pub overflow_add-e : goal.overflow_add-e
 overflow_add-e c =
-    let inside : c.loop-left.i + stmt_width ≤ stmt_width * (c.args.count) = omega (arith, c.loop-left-test.true, c.loop-left.invariant.1.0) in
-    let few : c.loop-left.i + stmt_width ≤ stmt_width * max_stmts = omega (arith, inside, c.if-count-gt-MAX_STMTS.false) in
+    let inside : c.loop-left.i + stmt_width ≤ stmt_width * (c.args.count) =
+    omega (arith, c.loop-left-test.true, c.loop-left.invariant.1.0) in
+    let few : c.loop-left.i + stmt_width ≤ stmt_width * max_stmts =
+    omega (arith, inside, c.if-count-gt-MAX_STMTS.false) in
     omega (arith, few)
 
 pub offset_bounds-numbers-i-in-loop-left : goal.offset_bounds-numbers-i-in-loop-left
 offset_bounds-numbers-i-in-loop-left c =
-    let inside : c.loop-left.i + stmt_width ≤ stmt_width * (c.args.count) = omega (arith, c.loop-left-test.true, c.loop-left.invariant.1.0) in
-    let few : c.loop-left.i + stmt_width ≤ stmt_width * max_stmts = omega (arith, inside, c.if-count-gt-MAX_STMTS.false) in
+    let inside : c.loop-left.i + stmt_width ≤ stmt_width * (c.args.count) =
+    omega (arith, c.loop-left-test.true, c.loop-left.invariant.1.0) in
+    let few : c.loop-left.i + stmt_width ≤ stmt_width * max_stmts =
+    omega (arith, inside, c.if-count-gt-MAX_STMTS.false) in
     omega (arith, few)
 
 pub bounds-numbers-i-in-loop-left : goal.bounds-numbers-i-in-loop-left
 bounds-numbers-i-in-loop-left c =
-    let inside : c.loop-left.i + stmt_width ≤ stmt_width * (c.args.count) = omega (arith, c.loop-left-test.true, c.loop-left.invariant.1.0) in
-    let few : c.loop-left.i + stmt_width ≤ stmt_width * max_stmts = omega (arith, inside, c.if-count-gt-MAX_STMTS.false) in
+    let inside : c.loop-left.i + stmt_width ≤ stmt_width * (c.args.count) =
+    omega (arith, c.loop-left-test.true, c.loop-left.invariant.1.0) in
+    let few : c.loop-left.i + stmt_width ≤ stmt_width * max_stmts =
+    omega (arith, inside, c.if-count-gt-MAX_STMTS.false) in
     omega (arith, few)
 
 pub overflow_add-e-in-loop-left : goal.overflow_add-e-in-loop-left
 overflow_add-e-in-loop-left c =
-    let inside : c.loop-left.i + stmt_width ≤ stmt_width * (c.args.count) = omega (arith, c.loop-left-test.true, c.loop-left.invariant.1.0) in
-    let few : c.loop-left.i + stmt_width ≤ stmt_width * max_stmts = omega (arith, inside, c.if-count-gt-MAX_STMTS.false) in
+    let inside : c.loop-left.i + stmt_width ≤ stmt_width * (c.args.count) =
+    omega (arith, c.loop-left-test.true, c.loop-left.invariant.1.0) in
+    let few : c.loop-left.i + stmt_width ≤ stmt_width * max_stmts =
+    omega (arith, inside, c.if-count-gt-MAX_STMTS.false) in
     omega (arith, few)
 
 pub offset_bounds-numbers-i-in-loop-left-2 : goal.offset_bounds-numbers-i-in-loop-left-2
 offset_bounds-numbers-i-in-loop-left-2 c =
-    let inside : c.loop-left.i + stmt_width ≤ stmt_width * (c.args.count) = omega (arith, c.loop-left-test.true, c.loop-left.invariant.1.0) in
-    let few : c.loop-left.i + stmt_width ≤ stmt_width * max_stmts = omega (arith, inside, c.if-count-gt-MAX_STMTS.false) in
+    let inside : c.loop-left.i + stmt_width ≤ stmt_width * (c.args.count) =
+    omega (arith, c.loop-left-test.true, c.loop-left.invariant.1.0) in
+    let few : c.loop-left.i + stmt_width ≤ stmt_width * max_stmts =
+    omega (arith, inside, c.if-count-gt-MAX_STMTS.false) in
     omega (arith, few)
 
 pub bounds-numbers-i-in-loop-left-2 : goal.bounds-numbers-i-in-loop-left-2
 bounds-numbers-i-in-loop-left-2 c =
-    let inside : c.loop-left.i + stmt_width ≤ stmt_width * (c.args.count) = omega (arith, c.loop-left-test.true, c.loop-left.invariant.1.0) in
-    let few : c.loop-left.i + stmt_width ≤ stmt_width * max_stmts = omega (arith, inside, c.if-count-gt-MAX_STMTS.false) in
+    let inside : c.loop-left.i + stmt_width ≤ stmt_width * (c.args.count) =
+    omega (arith, c.loop-left-test.true, c.loop-left.invariant.1.0) in
+    let few : c.loop-left.i + stmt_width ≤ stmt_width * max_stmts =
+    omega (arith, inside, c.if-count-gt-MAX_STMTS.false) in
     omega (arith, few)
 
 pub bounds-hints-slot : goal.bounds-hints-slot
 bounds-hints-slot c =
-    let slotted : (id : ℕ) → id % slots < length c.loop-left.hints = (λ id. omega (arith, slot_inside id, c.loop-left.invariant.1.1.0.long)) in
+    let slotted : (id : ℕ) → id % slots < length c.loop-left.hints =
+    (λ id. omega (arith, slot_inside id, c.loop-left.invariant.1.1.0.long)) in
     (slotted _)
 
 pub takes_stmt-requires : goal.takes_stmt-requires
@@ -94,15 +123,17 @@ takes_stmt-requires c = c.loop-left.invariant.1.1.0.none _
 
 pub shape_of-hints-then-not-takes_stmt : goal.shape_of-hints-then-not-takes_stmt
 shape_of-hints-then-not-takes_stmt c =
-    let same : length c.loop-left.hints ≡ length c.args.hints.now = c.loop-left.invariant.1.1.0.long ∙ sym c.requires.hints_len in
+    let same : length c.loop-left.hints ≡ length c.args.hints.now =
+    c.loop-left.invariant.1.1.0.long ∙ sym c.requires.hints_len in
     same
 
 pub returns-then-not-takes_stmt : goal.returns-then-not-takes_stmt
 returns-then-not-takes_stmt c =
-    let inside : c.loop-left.i + stmt_width ≤ stmt_width * (c.args.count) = omega (arith, c.loop-left-test.true, c.loop-left.invariant.1.0) in
+    let inside : c.loop-left.i + stmt_width ≤ stmt_width * (c.args.count) =
+    omega (arith, c.loop-left-test.true, c.loop-left.invariant.1.0) in
     let h = c.loop-left.invariant in
     let ns = (c.read_numbers.new.numbers) in record {
-      read = entries_refuse stmt_table _ _ _ _ _ (stmt_from ns c.loop-left.i) (stmt_entry_lem ns _ _ (inside))
+      read = entries_refuse stmt_table _ _ _ _ _ (stmt_from ns c.loop-left.i) (stmt_entry_lem ns _ _ inside)
           c.loop-left-test.true (sym c.takes_stmt.ensures ∙ c.if-not-takes_stmt.true)
           ∙ h.0;
       kept = h.1.1.1;
@@ -112,37 +143,43 @@ returns-then-not-takes_stmt c =
 pub overflow_add-next : goal.overflow_add-next
 overflow_add-next c =
     let placed : (stmt_from (c.read_numbers.new.numbers)
-    c.loop-left.i).place < max_stmts = (stmt_places c.loop-left.next (stmt_from (c.read_numbers.new.numbers) c.loop-left.i)
+    c.loop-left.i).place < max_stmts =
+    (stmt_places c.loop-left.next (stmt_from (c.read_numbers.new.numbers) c.loop-left.i)
     (session_of c.loop-left.words) (sym c.takes_stmt.ensures ∙ c.if-not-takes_stmt.false)).1 in
     omega (arith, placed)
 
 pub overflow_cast-hints : goal.overflow_cast-hints
 overflow_cast-hints c =
     let placed : (stmt_from (c.read_numbers.new.numbers)
-    c.loop-left.i).place < max_stmts = (stmt_places c.loop-left.next (stmt_from (c.read_numbers.new.numbers) c.loop-left.i)
+    c.loop-left.i).place < max_stmts =
+    (stmt_places c.loop-left.next (stmt_from (c.read_numbers.new.numbers) c.loop-left.i)
     (session_of c.loop-left.words) (sym c.takes_stmt.ensures ∙ c.if-not-takes_stmt.false)).1 in
     omega (arith, placed)
 
 pub bounds-hints-slot-in-loop-left : goal.bounds-hints-slot-in-loop-left
 bounds-hints-slot-in-loop-left c =
-    let slotted : (id : ℕ) → id % slots < length c.loop-left.hints = (λ id. omega (arith, slot_inside id, c.loop-left.invariant.1.1.0.long)) in
+    let slotted : (id : ℕ) → id % slots < length c.loop-left.hints =
+    (λ id. omega (arith, slot_inside id, c.loop-left.invariant.1.1.0.long)) in
     (slotted _)
 
 pub overflow_add-i : goal.overflow_add-i
 overflow_add-i c =
-    let inside : c.loop-left.i + stmt_width ≤ stmt_width * (c.args.count) = omega (arith, c.loop-left-test.true, c.loop-left.invariant.1.0) in
-    let few : c.loop-left.i + stmt_width ≤ stmt_width * max_stmts = omega (arith, inside, c.if-count-gt-MAX_STMTS.false) in
+    let inside : c.loop-left.i + stmt_width ≤ stmt_width * (c.args.count) =
+    omega (arith, c.loop-left-test.true, c.loop-left.invariant.1.0) in
+    let few : c.loop-left.i + stmt_width ≤ stmt_width * max_stmts =
+    omega (arith, inside, c.if-count-gt-MAX_STMTS.false) in
     omega (arith, few)
 
 pub loop-left-preserved : goal.loop-left-preserved
 loop-left-preserved c =
-    let inside : c.loop-left.i + stmt_width ≤ stmt_width * (c.args.count) = omega (arith, c.loop-left-test.true, c.loop-left.invariant.1.0) in
+    let inside : c.loop-left.i + stmt_width ≤ stmt_width * (c.args.count) =
+    omega (arith, c.loop-left-test.true, c.loop-left.invariant.1.0) in
     let h = c.loop-left.invariant in
     let i = c.loop-left.i in
     let ns = (c.read_numbers.new.numbers) in
     let it = stmt_from ns i in
     let more =
-    entries_go_on stmt_table _ _ _ _ _ it (stmt_entry_lem ns _ _ (inside)) c.loop-left-test.true
+    entries_go_on stmt_table _ _ _ _ _ it (stmt_entry_lem ns _ _ inside) c.loop-left-test.true
     (sym c.takes_stmt.ensures ∙ c.if-not-takes_stmt.false) c.put_stmt.ensures
     (drop-drop stmt_width i _) ∙ h.0 in (
       more,
@@ -159,9 +196,15 @@ loop-left-preserved c =
 
 pub shape_of-hints : goal.shape_of-hints
 shape_of-hints c =
-    let same : length c.loop-left.hints ≡ length c.args.hints.now = c.loop-left.invariant.1.1.0.long ∙ sym c.requires.hints_len in
+    let same : length c.loop-left.hints ≡ length c.args.hints.now =
+    c.loop-left.invariant.1.1.0.long ∙ sym c.requires.hints_len in
     same
 
 pub returns : goal.returns
 returns c = let h = c.loop-left.invariant in
-    record { read = entries_end stmt_table _ _ _ _ _ c.loop-left-test.false ∙ h.0; kept = h.1.1.1; long = h.1.1.0.long }
+    record {
+      read = entries_end stmt_table _ _ _ _ _ c.loop-left-test.false ∙ h.0;
+      kept = h.1.1.1;
+      long =
+          h.1.1.0.long;
+    }

@@ -10,7 +10,8 @@ use Rattle.image.proofs.SeenLaws.{Unseen}
 use Rattle.image.proofs.read.take_stmts.Given as goal
 
 abbrev pub invariant-loop-left : goal.invariant-loop-left
-invariant-loop-left l = (entries_of stmt_table l.left l.next (drop l.i (take (stmt_width * l.count) l.numbers)) l.end (session_of l.words)
+invariant-loop-left l = (entries_of stmt_table l.left l.next (drop l.i (take
+    (stmt_width * l.count) l.numbers)) l.end (session_of l.words)
     ≡ entries_at stmt_table l.count 0 l.image l.at (session_of l.initial.words))
     × ((l.i + stmt_width * l.left ≡ stmt_width * l.count)
     × (Unseen is_live_stmt (λ t. t.id) 0 l.hints (session_of l.words).stmts

@@ -9,7 +9,8 @@ pub returns-then-not-rises : goal.returns-then-not-rises
 returns-then-not-rises c = and_off _ (sym c.rises.ensures ∙ c.if-not-rises.true)
 
 pub returns-then-e-gt-MAX_PLACEHOLDERS : goal.returns-then-e-gt-MAX_PLACEHOLDERS
-returns-then-e-gt-MAX_PLACEHOLDERS c = and_on (sym c.rises.ensures ∙ c.if-not-rises.false) (and_off _ (lt-leb _ _ c.if-e-gt-MAX_PLACEHOLDERS.true))
+returns-then-e-gt-MAX_PLACEHOLDERS c =
+    and_on (sym c.rises.ensures ∙ c.if-not-rises.false) (and_off _ (lt-leb _ _ c.if-e-gt-MAX_PLACEHOLDERS.true))
 
 pub returns-then-hint-eq0 : goal.returns-then-hint-eq0
 returns-then-hint-eq0 c = and_on (sym c.rises.ensures ∙ c.if-not-rises.false)

@@ -6,10 +6,12 @@ use Rattle.image.proofs.write.hand_over.Goals as goal
 
 pub returns-in-Next : goal.returns-in-Next
 returns-in-Next c =
-    let answers : of_put c.write_bytes.result ≡ handed c.args.image.now c.args.buf.now = ap of_put c.write_bytes.ensures.0 ∙ handed_by_lem c.args.image.now c.args.buf.now in
+    let answers : of_put c.write_bytes.result ≡ handed c.args.image.now c.args.buf.now =
+    ap of_put c.write_bytes.ensures.0 ∙ handed_by_lem c.args.image.now c.args.buf.now in
     record { answer = ap of_put (sym c.in-Next.is) ∙ answers; buffer = c.write_bytes.ensures.1 }
 
 pub returns-in-Full : goal.returns-in-Full
 returns-in-Full c =
-    let answers : of_put c.write_bytes.result ≡ handed c.args.image.now c.args.buf.now = ap of_put c.write_bytes.ensures.0 ∙ handed_by_lem c.args.image.now c.args.buf.now in
+    let answers : of_put c.write_bytes.result ≡ handed c.args.image.now c.args.buf.now =
+    ap of_put c.write_bytes.ensures.0 ∙ handed_by_lem c.args.image.now c.args.buf.now in
     record { answer = ap of_put (sym c.in-Full.is) ∙ answers; buffer = c.write_bytes.ensures.1 }

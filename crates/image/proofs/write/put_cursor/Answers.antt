@@ -12,7 +12,8 @@ use Rattle.image.proofs.write.put_cursor.Goals as goal
 
 pub returns : goal.returns
 returns c =
-    let short : length (cursor_bytes_at c.args.place c.args.c) ≤ most_cursor = cursor_short c.args.place c.args.c c.requires (omega arith) (omega arith) (omega arith) (omega arith) in
+    let short : length (cursor_bytes_at c.args.place c.args.c) ≤ most_cursor =
+    cursor_short c.args.place c.args.c c.requires (omega arith) (omega arith) (omega arith) (omega arith) in
     let numbers =
     number_then c.put_number-at.ensures
     (number_then c.put_number-at-2.ensures
@@ -22,8 +23,12 @@ returns c =
 
 pub returns-then-c-eq0 : goal.returns-then-c-eq0
 returns-then-c-eq0 c =
-    let short : length (cursor_bytes_at c.args.place c.args.c) ≤ most_cursor = cursor_short c.args.place c.args.c c.requires (omega arith) (omega arith) (omega arith) (omega arith) in
-    record { put = puts_free (bytes_of (cursor_numbers (cursor_entry c.args.place c.args.c))) c.if-c-eq0.true; short = short }
+    let short : length (cursor_bytes_at c.args.place c.args.c) ≤ most_cursor =
+    cursor_short c.args.place c.args.c c.requires (omega arith) (omega arith) (omega arith) (omega arith) in
+    record {
+      put = puts_free (bytes_of (cursor_numbers (cursor_entry c.args.place c.args.c))) c.if-c-eq0.true;
+      short = short;
+    }
 
 pub shape_of-buf : goal.shape_of-buf
 shape_of-buf c = puts_length (returns c).put

@@ -22,7 +22,12 @@ put_cursor-p-requires c =
 
 -- where one is left one can go
 pub overflow_sub-left : goal.overflow_sub-left
-overflow_sub-left c = omega (arith, c.one-left.ensures, one_le (is_live_cursor c.cursor_at-c.result), c.loop-left-test.true)
+overflow_sub-left c = omega (
+  arith,
+  c.one-left.ensures,
+  one_le (is_live_cursor c.cursor_at-c.result),
+  c.loop-left-test.true,
+)
 
 pub overflow_add-i : goal.overflow_add-i
 overflow_add-i c =
@@ -38,7 +43,7 @@ pub loop-left-preserved : goal.loop-left-preserved
 loop-left-preserved c =
     let inside : c.loop-left.i < max_cursors = within c.loop-left.invariant c.loop-left-test.true in
     let words = c.args.words.now in
-    let same = c.cursor_at-c.ensures ∙ get_d_build (cursor_in words) max_cursors c.loop-left.i no_cursor (inside) in
+    let same = c.cursor_at-c.ensures ∙ get_d_build (cursor_in words) max_cursors c.loop-left.i no_cursor inside in
     fills_on c.loop-left.invariant c.loop-left-test.true c.one-left.result
     (c.one-left.ensures ∙ ap (λ x. cond (is_live_cursor x) 1 0) same) (ap (cursor_bytes_at c.loop-left.i) same)
     (c.put_cursor-p.ensures.put, c.put_cursor-p.ensures.short)
@@ -47,5 +52,6 @@ pub shape_of-buf : goal.shape_of-buf
 shape_of-buf c = puts_length c.loop-left.invariant.put
 
 pub returns : goal.returns
-returns c = let whole = filled is_live_cursor cursor_entry cursor_numbers (cursor_in c.args.words.now) c.loop-left.invariant
+returns c = let whole = filled is_live_cursor cursor_entry cursor_numbers
+    (cursor_in c.args.words.now) c.loop-left.invariant
     c.loop-left-test.false in record { put = whole.0; short = whole.1 }

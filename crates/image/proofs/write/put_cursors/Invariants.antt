@@ -9,7 +9,8 @@ use Rattle.image.proofs.WriteLaws.{Filling}
 use Rattle.image.proofs.write.put_cursors.Given as goal
 
 abbrev pub invariant-loop-left : goal.invariant-loop-left
-invariant-loop-left l = Filling is_live_cursor (cursor_in l.words) (λ k. cursor_bytes_at k (cursor_in l.words k)) most_cursor max_cursors
+invariant-loop-left l = Filling is_live_cursor (cursor_in l.words) (λ k. cursor_bytes_at k
+    (cursor_in l.words k)) most_cursor max_cursors
     l.initial.buf l.at l.buf l.p l.i l.left
 
 abbrev pub decreases-loop-left : goal.decreases-loop-left

@@ -12,7 +12,8 @@ use Rattle.image.proofs.write.put_stmt.Goals as goal
 
 pub returns : goal.returns
 returns c =
-    let short : length (stmt_bytes_at c.args.place c.args.t) ≤ most_stmt = stmt_short c.args.place c.args.t c.requires (omega arith) (omega arith) in
+    let short : length (stmt_bytes_at c.args.place c.args.t) ≤ most_stmt =
+    stmt_short c.args.place c.args.t c.requires (omega arith) (omega arith) in
     let numbers =
     number_then c.put_number-at.ensures
     (number_then c.put_number-at-2.ensures (last_number c.put_number.ensures)) in
@@ -20,8 +21,13 @@ returns c =
 
 pub returns-then-t-eq0 : goal.returns-then-t-eq0
 returns-then-t-eq0 c =
-    let short : length (stmt_bytes_at c.args.place c.args.t) ≤ most_stmt = stmt_short c.args.place c.args.t c.requires (omega arith) (omega arith) in
-    record { put = puts_free (bytes_of (stmt_numbers (stmt_entry c.args.place c.args.t))) c.if-t-eq0.true; short = short }
+    let short : length (stmt_bytes_at c.args.place c.args.t) ≤ most_stmt =
+    stmt_short c.args.place c.args.t c.requires (omega arith) (omega arith) in
+    record {
+      put = puts_free (bytes_of (stmt_numbers (stmt_entry c.args.place c.args.t))) c.if-t-eq0.true;
+      short =
+          short;
+    }
 
 pub shape_of-buf : goal.shape_of-buf
 shape_of-buf c = puts_length (returns c).put

@@ -22,7 +22,12 @@ put_stmt-p-requires c =
 
 -- where one is left one can go
 pub overflow_sub-left : goal.overflow_sub-left
-overflow_sub-left c = omega (arith, c.one-left.ensures, one_le (is_live_stmt c.stmt_at-t.result), c.loop-left-test.true)
+overflow_sub-left c = omega (
+  arith,
+  c.one-left.ensures,
+  one_le (is_live_stmt c.stmt_at-t.result),
+  c.loop-left-test.true,
+)
 
 pub overflow_add-i : goal.overflow_add-i
 overflow_add-i c =
@@ -38,9 +43,10 @@ pub loop-left-preserved : goal.loop-left-preserved
 loop-left-preserved c =
     let inside : c.loop-left.i < max_stmts = within c.loop-left.invariant c.loop-left-test.true in
     let words = c.args.words.now in
-    let same = c.stmt_at-t.ensures ∙ get_d_build (stmt_in words) max_stmts c.loop-left.i no_stmt (inside) in
+    let same = c.stmt_at-t.ensures ∙ get_d_build (stmt_in words) max_stmts c.loop-left.i no_stmt inside in
     fills_on c.loop-left.invariant c.loop-left-test.true c.one-left.result
-    (c.one-left.ensures ∙ ap (λ x. cond (is_live_stmt x) 1 0) same) (ap (stmt_bytes_at c.loop-left.i) same) (c.put_stmt-p.ensures.put, c.put_stmt-p.ensures.short)
+    (c.one-left.ensures ∙ ap (λ x. cond (is_live_stmt x) 1 0) same) (ap (stmt_bytes_at c.loop-left.i) same)
+    (c.put_stmt-p.ensures.put, c.put_stmt-p.ensures.short)
 
 pub shape_of-buf : goal.shape_of-buf
 shape_of-buf c = puts_length c.loop-left.invariant.put

@@ -9,7 +9,8 @@ use Rattle.image.proofs.WriteLaws.{Filling}
 use Rattle.image.proofs.write.put_stmts.Given as goal
 
 abbrev pub invariant-loop-left : goal.invariant-loop-left
-invariant-loop-left l = Filling is_live_stmt (stmt_in l.words) (λ k. stmt_bytes_at k (stmt_in l.words k)) most_stmt max_stmts l.initial.buf l.at l.buf l.p l.i l.left
+invariant-loop-left l = Filling is_live_stmt (stmt_in l.words) (λ k. stmt_bytes_at k
+    (stmt_in l.words k)) most_stmt max_stmts l.initial.buf l.at l.buf l.p l.i l.left
 
 abbrev pub decreases-loop-left : goal.decreases-loop-left
 decreases-loop-left l = max_stmts - l.i

@@ -26,7 +26,8 @@ look-with {l} {w = w} e f g =
 
 pub returns : goal.returns
 returns c =
-    let says = c.said.ensures ∙ ap (λ y. said y.reason c.args.padded) c.message_of-message.ensures ∙ where_said c.args.frame c.args.padded in
+    let says = c.said.ensures ∙ ap (λ y. said y.reason c.args.padded) c.message_of-message.ensures
+    ∙ where_said c.args.frame c.args.padded in
     together _ _ (look-with c.inspect-found.ensures.look c.said-2.ensures says)
     (ap (λ (b : Bool). message_says b c.message_of-message.result) says
     ∙ ap (message_says (where_read c.args.frame c.args.padded)) c.message_of-message.ensures)

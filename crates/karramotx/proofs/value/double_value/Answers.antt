@@ -10,9 +10,9 @@ returns-then-d c = rw (differs_nan c.args.d c.if-d.true) c.refused.ensures
 pub float_to_bits-d : goal.float_to_bits-d
 float_to_bits-d c =
     let number : is_nan c.args.d ≡ false = same_number c.args.d c.if-d.false in
-    asked c.args.d (number)
+    asked c.args.d number
 
 pub returns : goal.returns
 returns c =
     let number : is_nan c.args.d ≡ false = same_number c.args.d c.if-d.false in
-    rw (number) c.numbered.ensures
+    rw number c.numbered.ensures

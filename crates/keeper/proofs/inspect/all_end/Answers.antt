@@ -7,4 +7,9 @@ use Rattle.keeper.proofs.InspectLaws.{reset_touches}
 use Rattle.keeper.proofs.inspect.all_end.Goals as goal
 
 pub returns : goal.returns
-returns c = let s = session_of c.args.words.now in record { look = c.told.ensures.look ∙ closed_or_look s Request.Reset _ (reset_looks s) _ (reset_wants s); touches = c.told.ensures.touches ∙ c.touches-all.ensures ∙ reset_touches s c.live.ensures }
+returns c = let s = session_of c.args.words.now in record {
+  look =
+      c.told.ensures.look ∙ closed_or_look s Request.Reset _ (reset_looks s) _ (reset_wants s);
+  touches =
+      c.told.ensures.touches ∙ c.touches-all.ensures ∙ reset_touches s c.live.ensures;
+}

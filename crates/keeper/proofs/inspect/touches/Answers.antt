@@ -9,5 +9,10 @@ pub returns : goal.returns
 returns c =
     ap {B = Touches} (λ (k : ℕ). record { stmt = k; cursor = c.index-2.result; ends = c.args.ends })
     c.index.ensures
-    ∙ ap {B = Touches} (λ (k : ℕ). record { stmt = index_of no_stmt_place c.args.stmt; cursor = k; ends = c.args.ends })
+    ∙ ap {B = Touches} (λ (k : ℕ). record {
+      stmt = index_of no_stmt_place c.args.stmt;
+      cursor = k;
+      ends =
+          c.args.ends;
+    })
     c.index-2.ensures

@@ -1,6 +1,5 @@
 -- `keeper::look::look_at` meets its contract: closed comes first, then each request by its own entries. Assumes
 -- nothing.
--- where the request is looked at, the session is open
 use Rattle.prelude.proofs.Basics.{ℕ, false, cond, ◌≡◌, sym, ◌∙◌, eqb}
 use Rattle.protocol.specs.Reason as Reason
 use Rattle.message.specs.declared.request.Frame.TheVariants.{Good}
@@ -32,11 +31,14 @@ look_fetch-requires c =
     unclosed
 
 pub returns-in-Reset : goal.returns-in-Reset
-returns-in-Reset c = let s = session_of c.args.words.now in told (session_of c.args.words.now) c.args.request (sym c.is_closed.ensures ∙ c.if-is_closed.false)
+returns-in-Reset c = let s = session_of c.args.words.now in
+    told (session_of c.args.words.now) c.args.request (sym c.is_closed.ensures ∙ c.if-is_closed.false)
     c.in-Reset.is (reset_looks s) (reset_wants s) c.found.ensures
 
 pub returns-in-SessionClose : goal.returns-in-SessionClose
-returns-in-SessionClose c = let s = session_of c.args.words.now in told (session_of c.args.words.now) c.args.request (sym c.is_closed.ensures ∙ c.if-is_closed.false)
+returns-in-SessionClose c = let s =
+    session_of c.args.words.now in told (session_of c.args.words.now) c.args.request (sym c.is_closed.ensures
+    ∙ c.if-is_closed.false)
     c.in-SessionClose.is (session_close_looks s) (session_close_wants s) c.found-in-SessionClose.ensures
 
 pub returns-in-Prepare : goal.returns-in-Prepare
@@ -46,12 +48,14 @@ returns-in-Prepare c = let s = session_of c.args.words.now in
     c.found-in-Prepare.ensures
 
 pub returns-in-Execute : goal.returns-in-Execute
-returns-in-Execute c = told (session_of c.args.words.now) c.args.request (sym c.is_closed.ensures ∙ c.if-is_closed.false) c.in-Execute.is
+returns-in-Execute c = told (session_of c.args.words.now) c.args.request (sym c.is_closed.ensures
+    ∙ c.if-is_closed.false) c.in-Execute.is
     c.execute.ensures (execute_wants _ _) c.found-in-Execute.ensures
 
 pub returns-in-Deallocate : goal.returns-in-Deallocate
 returns-in-Deallocate c = let s = session_of c.args.words.now in
-    told (session_of c.args.words.now) c.args.request (sym c.is_closed.ensures ∙ c.if-is_closed.false) c.in-Deallocate.is
+    told (session_of c.args.words.now) c.args.request (sym c.is_closed.ensures
+    ∙ c.if-is_closed.false) c.in-Deallocate.is
     (deallocate_looks s _ c.find_stmt-place.ensures c.stmt_at-entry.ensures
     c.dead_stmt.ensures) (deallocate_wants s _) c.found-in-Deallocate.ensures
 

@@ -15,6 +15,7 @@ returns-then-refusal-ne-ACCEPTED c =
 pub returns : goal.returns
 returns c =
     let s = session_of c.args.words.now in
-    fetch_wanted s c.args.f c.requires (cursor_found s c.args.f.cursor c.find_cursor-place.ensures c.cursor_at-cursor.ensures)
+    fetch_wanted s c.args.f c.requires
+    (cursor_found s c.args.f.cursor c.find_cursor-place.ensures c.cursor_at-cursor.ensures)
     c.fetch-refusal.ensures c.if-refusal-ne-ACCEPTED.false
     c.fetch_count.ensures

@@ -5,7 +5,8 @@ use Rattle.keeper.proofs.RequestLaws.{close_decides, close_sends, close_after}
 use Rattle.keeper.proofs.step.close.Goals as goal
 
 pub returns-then-reason-ne-ACCEPTED : goal.returns-then-reason-ne-ACCEPTED
-returns-then-reason-ne-ACCEPTED c = refuses (close_decides c.args.used c.args.report c.requires c.find_cursor-place.ensures
+returns-then-reason-ne-ACCEPTED c =
+    refuses (close_decides c.args.used c.args.report c.requires c.find_cursor-place.ensures
     c.cursor_at.ensures c.dead_cursor-reason.ensures)
     c.if-reason-ne-ACCEPTED.true c.unbound.ensures c.refuse.ensures
 

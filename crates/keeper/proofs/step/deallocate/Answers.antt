@@ -5,7 +5,8 @@ use Rattle.keeper.proofs.RequestLaws.{deallocate_decides, deallocate_sends, deal
 use Rattle.keeper.proofs.step.deallocate.Goals as goal
 
 pub returns-then-reason-ne-ACCEPTED : goal.returns-then-reason-ne-ACCEPTED
-returns-then-reason-ne-ACCEPTED c = refuses (deallocate_decides c.args.used c.args.report c.requires c.find_stmt-place.ensures
+returns-then-reason-ne-ACCEPTED c =
+    refuses (deallocate_decides c.args.used c.args.report c.requires c.find_stmt-place.ensures
     c.stmt_at.ensures c.dead_stmt-reason.ensures)
     c.if-reason-ne-ACCEPTED.true c.unbound.ensures c.refuse.ensures
 

@@ -6,7 +6,8 @@ use Rattle.keeper.proofs.RequestLaws.{execute_decides, execute_sends, execute_af
 use Rattle.keeper.proofs.step.execute.Goals as goal
 
 pub returns-then-reason-ne-ACCEPTED : goal.returns-then-reason-ne-ACCEPTED
-returns-then-reason-ne-ACCEPTED c = refuses (execute_decides c.args.used c.args.report c.requires c.execute-looked.ensures
+returns-then-reason-ne-ACCEPTED c =
+    refuses (execute_decides c.args.used c.args.report c.requires c.execute-looked.ensures
     c.is_result.ensures c.report-suited.ensures c.or_else-reason.ensures)
     c.if-reason-ne-ACCEPTED.true c.bound-names.ensures c.refuse.ensures
 

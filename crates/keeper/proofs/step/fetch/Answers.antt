@@ -7,7 +7,8 @@ use Rattle.keeper.proofs.RequestLaws.{cursor_found, fetch_decides, fetch_sends, 
 use Rattle.keeper.proofs.step.fetch.Goals as goal
 
 pub returns-then-reason-ne-ACCEPTED : goal.returns-then-reason-ne-ACCEPTED
-returns-then-reason-ne-ACCEPTED c = let found = cursor_found (session_of c.args.words.now) c.args.f.cursor c.find_cursor-place.ensures
+returns-then-reason-ne-ACCEPTED c = let found =
+    cursor_found (session_of c.args.words.now) c.args.f.cursor c.find_cursor-place.ensures
     c.cursor_at-cursor.ensures in
     refuses (fetch_decides c.args.used c.args.report c.requires found c.fetch-looked.ensures
     c.is_done.ensures c.report-suited.ensures c.or_else-reason.ensures)
@@ -35,7 +36,9 @@ returns c =
     let found = cursor_found s c.args.f.cursor c.find_cursor-place.ensures c.cursor_at-cursor.ensures in
     accepts (fetch_decides c.args.used c.args.report c.requires found c.fetch-looked.ensures
     c.is_done.ensures c.report-suited.ensures c.or_else-reason.ensures)
-    c.if-reason-ne-ACCEPTED.false (fetch_sends s c.args.f c.args.report found c.fetch_count-count.ensures c.fetched.ensures)
-    (fetch_after s c.args.f c.args.report c.find_cursor-place.ensures found c.fetch_count-count.ensures c.put_sent.ensures
+    c.if-reason-ne-ACCEPTED.false (fetch_sends s c.args.f c.args.report found c.fetch_count-count.ensures
+    c.fetched.ensures)
+    (fetch_after s c.args.f c.args.report c.find_cursor-place.ensures found c.fetch_count-count.ensures
+    c.put_sent.ensures
     c.sent_after.ensures)
     c.accept.ensures

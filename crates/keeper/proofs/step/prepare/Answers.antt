@@ -7,7 +7,8 @@ use Rattle.keeper.proofs.RequestLaws.{prepare_decides, prepare_sends, prepare_af
 use Rattle.keeper.proofs.step.prepare.Goals as goal
 
 pub returns-then-reason-ne-ACCEPTED : goal.returns-then-reason-ne-ACCEPTED
-returns-then-reason-ne-ACCEPTED c = refuses (prepare_decides c.args.used c.args.report c.requires c.stmt_place-place.ensures
+returns-then-reason-ne-ACCEPTED c =
+    refuses (prepare_decides c.args.used c.args.report c.requires c.stmt_place-place.ensures
     c.full-looked.ensures c.is_prepared.ensures c.report-suited.ensures
     c.or_else-reason.ensures)
     c.if-reason-ne-ACCEPTED.true c.bound-names.ensures c.refuse.ensures

@@ -1,6 +1,5 @@
 -- `keeper::step::step` meets its contract: room comes first, then what the frame is by itself, then its request.
 -- Assumes nothing.
--- there is room, where the frame was read; one that is not read to its end says nothing of padding
 use Rattle.prelude.proofs.Basics.{refl}
 use Rattle.keeper.proofs.Names.{frame_of, padded_of, session_of}
 use Rattle.keeper.proofs.FrameLaws.{short_step, cut_step, length_step, unknown_refuses, payload_refuses}
@@ -11,7 +10,12 @@ use Rattle.keeper.proofs.step.step.Goals as goal
 pub returns-then-reply-lt-MIN_BUFFER : goal.returns-then-reply-lt-MIN_BUFFER
 returns-then-reply-lt-MIN_BUFFER c = let whole = clauses (sym_answer c.refuse_silently.ensures
     (short_step (session_of c.args.words.now) c.args.report c.args.reply.now (frame_of c.args.frame.now)
-    (padded_of c.args.frame.now) c.if-reply-lt-MIN_BUFFER.true)) in record { answer = whole.0; session = whole.1.0; buffer = whole.1.1 }
+    (padded_of c.args.frame.now) c.if-reply-lt-MIN_BUFFER.true)) in record {
+      answer = whole.0;
+      session =
+          whole.1.0;
+      buffer = whole.1.1;
+    }
 
 pub step_on-answer-requires : goal.step_on-answer-requires
 step_on-answer-requires c = readable c.args.frame.now
@@ -21,25 +25,39 @@ pub returns-in-NotAllThere : goal.returns-in-NotAllThere
 returns-in-NotAllThere c =
     let whole = clauses (does_unread (session_of c.args.words.now) c.args.frame.now c.args.report c.args.reply.now
     c.read_frame.ensures.answer c.in-NotAllThere.is (λ _. refl) (sym_answer c.refuse_silently-in-NotAllThere.ensures
-    (cut_step (session_of c.args.words.now) c.args.report c.args.reply.now c.if-reply-lt-MIN_BUFFER.false))) in record { answer = whole.0; session = whole.1.0; buffer = whole.1.1 }
+    (cut_step (session_of c.args.words.now) c.args.report c.args.reply.now c.if-reply-lt-MIN_BUFFER.false))) in
+    record { answer = whole.0; session = whole.1.0; buffer = whole.1.1 }
 
 pub returns-in-BadLength : goal.returns-in-BadLength
 returns-in-BadLength c =
     let whole = clauses (does_unread (session_of c.args.words.now) c.args.frame.now c.args.report c.args.reply.now
     c.read_frame.ensures.answer c.in-BadLength.is (λ _. refl) (sym_answer c.refuse_silently-in-BadLength.ensures
-    (length_step (session_of c.args.words.now) c.args.report c.args.reply.now c.if-reply-lt-MIN_BUFFER.false))) in record { answer = whole.0; session = whole.1.0; buffer = whole.1.1 }
+    (length_step (session_of c.args.words.now) c.args.report c.args.reply.now c.if-reply-lt-MIN_BUFFER.false))) in
+    record { answer = whole.0; session = whole.1.0; buffer = whole.1.1 }
 
 pub returns-in-UnknownType : goal.returns-in-UnknownType
 returns-in-UnknownType c =
     let whole = clauses (does_unread (session_of c.args.words.now) c.args.frame.now c.args.report c.args.reply.now
-    c.read_frame.ensures.answer c.in-UnknownType.is (λ _. refl) (unknown_refuses (session_of c.args.words.now) _ c.args.report c.args.reply.now c.if-reply-lt-MIN_BUFFER.false
-    c.closed_or-refusal.ensures c.refuse.ensures)) in record { answer = whole.0; session = whole.1.0; buffer = whole.1.1 }
+    c.read_frame.ensures.answer c.in-UnknownType.is (λ _. refl) (unknown_refuses
+    (session_of c.args.words.now) _ c.args.report c.args.reply.now c.if-reply-lt-MIN_BUFFER.false
+    c.closed_or-refusal.ensures c.refuse.ensures)) in record {
+      answer = whole.0;
+      session = whole.1.0;
+      buffer =
+          whole.1.1;
+    }
 
 pub returns-in-BadPayload : goal.returns-in-BadPayload
 returns-in-BadPayload c =
     let whole = clauses (does_unread (session_of c.args.words.now) c.args.frame.now c.args.report c.args.reply.now
-    c.read_frame.ensures.answer c.in-BadPayload.is (λ _. refl) (payload_refuses (session_of c.args.words.now) _ c.args.report c.args.reply.now c.if-reply-lt-MIN_BUFFER.false _
-    c.closed_or-refusal-in-BadPayload.ensures c.refuse-in-BadPayload.ensures)) in record { answer = whole.0; session = whole.1.0; buffer = whole.1.1 }
+    c.read_frame.ensures.answer c.in-BadPayload.is (λ _. refl) (payload_refuses
+    (session_of c.args.words.now) _ c.args.report c.args.reply.now c.if-reply-lt-MIN_BUFFER.false _
+    c.closed_or-refusal-in-BadPayload.ensures c.refuse-in-BadPayload.ensures)) in record {
+      answer =
+          whole.0;
+      session = whole.1.0;
+      buffer = whole.1.1;
+    }
 
 pub returns-in-BodyTwice : goal.returns-in-BodyTwice
 returns-in-BodyTwice c = let whole =

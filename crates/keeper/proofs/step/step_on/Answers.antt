@@ -9,7 +9,8 @@ use Rattle.keeper.proofs.step.step_on.Goals as goal
 
 pub returns-then-is_closed : goal.returns-then-is_closed
 returns-then-is_closed c =
-    closed_refuses (session_of c.args.words.now) c.args.used c.args.request c.args.report c.args.buf.now c.requires.room
+    closed_refuses (session_of c.args.words.now) c.args.used c.args.request c.args.report c.args.buf.now
+    c.requires.room
     c.requires.read
     (sym c.is_closed.ensures ∙ c.if-is_closed.true) c.refuse.ensures
 
@@ -58,7 +59,8 @@ returns-in-Deallocate c = (does_as (session_of c.args.words.now) c.args.used c.a
 pub returns-in-Reset : goal.returns-in-Reset
 returns-in-Reset c = let s = session_of c.args.words.now in
     (does_as (session_of c.args.words.now) c.args.used c.args.report c.args.buf.now) c.in-Reset.is
-    (accepts (reset_decides c.args.used c.args.report (ready c.requires c.in-Reset.is (sym c.is_closed.ensures ∙ c.if-is_closed.false)))
+    (accepts (reset_decides c.args.used c.args.report (ready c.requires c.in-Reset.is (sym c.is_closed.ensures
+    ∙ c.if-is_closed.false)))
     refl (reset_sends s c.args.report) (reset_after s c.args.report c.clear.ensures)
     c.accept.ensures)
 
@@ -66,6 +68,7 @@ pub returns-in-SessionClose : goal.returns-in-SessionClose
 returns-in-SessionClose c = let s = session_of c.args.words.now in
     (does_as (session_of c.args.words.now) c.args.used c.args.report c.args.buf.now) c.in-SessionClose.is
     (accepts
-    (session_close_decides c.args.used c.args.report (ready c.requires c.in-SessionClose.is (sym c.is_closed.ensures ∙ c.if-is_closed.false)))
+    (session_close_decides c.args.used c.args.report (ready c.requires c.in-SessionClose.is
+    (sym c.is_closed.ensures ∙ c.if-is_closed.false)))
     refl (session_close_sends s c.args.report) (session_close_after s c.args.report c.close-in-SessionClose.ensures)
     c.accept-in-SessionClose.ensures)

@@ -7,7 +7,12 @@ use Rattle.layout.proofs.PaddedLaws.{padded_outside, padded_inside}
 use Rattle.layout.proofs.fields.fill_fields.Goals as goal
 
 pub returns-then-s-end : goal.returns-then-s-end
-returns-then-s-end c = record { holds = holds_outside c.args.rows.now c.args.s.now c.args.from c.args.end c.if-s-end.true c.clear.ensures; told = or_none c.args.padded.now (padded_outside c.args.s.now c.args.from c.args.end c.if-s-end.true) }
+returns-then-s-end c = record {
+  holds =
+      holds_outside c.args.rows.now c.args.s.now c.args.from c.args.end c.if-s-end.true c.clear.ensures;
+  told =
+      or_none c.args.padded.now (padded_outside c.args.s.now c.args.from c.args.end c.if-s-end.true);
+}
 
 pub slice_bounds-list_fields-end : goal.slice_bounds-list_fields-end
 slice_bounds-list_fields-end c = omega
@@ -16,7 +21,8 @@ slice_bounds-list_fields-end c = omega
 pub returns : goal.returns
 returns c = record {
   holds = holds_inside c.args.rows.now c.args.s.now c.args.from c.args.end c.if-s-end.false
-      (c.settle.ensures.message _ ((c.list_fields-good.ensures.listed.onto no_slots refl (holds_none c.clear.ensures))));
+      (c.settle.ensures.message _ ((c.list_fields-good.ensures.listed.onto no_slots refl
+      (holds_none c.clear.ensures))));
   told = (
       c.list_fields-good.ensures.told
       ∙ or_same c.args.padded.now (padded_inside c.args.s.now c.args.from c.args.end c.if-s-end.false));

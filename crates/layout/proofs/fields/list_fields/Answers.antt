@@ -1,6 +1,5 @@
 -- `layout::fields::list_fields` meets its contract: each turn reads the field at the place and notes it by its row.
 -- Assumes nothing.
--- whatever good slots the arrays held at first
 use Rattle.prelude.proofs.Basics.{◌<◌, arith, refl, sym, ◌∙◌, length, or_false}
 use Rattle.wire.proofs.NumberLaws.{field_number}
 use Rattle.layout.proofs.Names.{nothing_inside}
@@ -16,7 +15,12 @@ loop-p-init c = (
 )
 
 pub returns-in_default : goal.returns-in_default
-returns-in_default c = let bad = (sym c.read_field.ensures.answer ∙ c.in_default.is) in record { listed = record { onto = λ x g n. spoiled (c.loop-p.invariant.0 x g n) c.loop-p-test.true bad }; told = marks_bad c.loop-p.invariant.1 c.loop-p-test.true bad refl c.read_field.ensures.told }
+returns-in_default c = let bad = (sym c.read_field.ensures.answer ∙ c.in_default.is) in record {
+  listed =
+      record { onto = λ x g n. spoiled (c.loop-p.invariant.0 x g n) c.loop-p-test.true bad };
+  told =
+      marks_bad c.loop-p.invariant.1 c.loop-p-test.true bad refl c.read_field.ensures.told;
+}
 
 pub use_of-requires : goal.use_of-requires
 use_of-requires c = field_number c.args.s.now _
@@ -109,4 +113,11 @@ loop-p-preserved c = (
 )
 
 pub returns : goal.returns
-returns c = record { listed = record { onto = λ x g n. filled (c.loop-p.invariant.0 x g n) c.loop-p-test.false }; told = marked c.loop-p.invariant.1 c.loop-p-test.false }
+returns c = record {
+  listed = record {
+    onto =
+        λ x g n. filled (c.loop-p.invariant.0 x g n) c.loop-p-test.false;
+  };
+  told =
+      marked c.loop-p.invariant.1 c.loop-p-test.false;
+}

@@ -18,7 +18,12 @@ returns-in_default c =
     let l = c.loop-p.invariant in
     let none =
     subst (Tells c.args.outer c.args.s.now c.loop-p.p) c.in_default.is c.next_part.ensures in
-    let ps = parts_of c.args.outer c.args.s.now c.args.from in record { listed = inner_done c.args.rows.now c.args.s.now c.args.k ps (passed l none); told = λ _. passed_flag l none ∙ inner_told c.args.s.now c.args.k ps c.args.padded.now }
+    let ps = parts_of c.args.outer c.args.s.now c.args.from in record {
+      listed =
+          inner_done c.args.rows.now c.args.s.now c.args.k ps (passed l none);
+      told =
+          λ _. passed_flag l none ∙ inner_told c.args.s.now c.args.k ps c.args.padded.now;
+    }
 
 pub overflow_add-end : goal.overflow_add-end
 overflow_add-end c = omega (
@@ -39,7 +44,11 @@ pub returns-then-not-list_parts : goal.returns-then-not-list_parts
 returns-then-not-list_parts c = record {
   listed = inner_done c.args.rows.now c.args.s.now c.args.k (parts_of c.args.outer c.args.s.now c.args.from)
       (spoils c.loop-p.invariant ((subst (Tells c.args.outer c.args.s.now c.loop-p.p) c.in-At.is
-      c.next_part.ensures)) ((inner_adds c.args.rows.now c.args.s.now ((record { start = c.in-At.start; len = c.in-At.len }))
+      c.next_part.ensures)) ((inner_adds c.args.rows.now c.args.s.now ((record {
+        start = c.in-At.start;
+        len =
+            c.in-At.len;
+      }))
       ((subst (Tells c.args.outer c.args.s.now c.loop-p.p) c.in-At.is
       c.next_part.ensures)).inside c.args.k
       (rw (c.if-not-list_parts.true) at c.list_parts.ensures.listed))));
@@ -56,16 +65,29 @@ loop-p-smaller c = omega (
 
 pub loop-p-preserved : goal.loop-p-preserved
 loop-p-preserved c = passes c.loop-p.invariant ((subst (Tells c.args.outer c.args.s.now c.loop-p.p) c.in-At.is
-    c.next_part.ensures)) ((inner_adds c.args.rows.now c.args.s.now ((record { start = c.in-At.start; len = c.in-At.len }))
+    c.next_part.ensures)) ((inner_adds c.args.rows.now c.args.s.now ((record {
+      start = c.in-At.start;
+      len =
+          c.in-At.len;
+    }))
     ((subst (Tells c.args.outer c.args.s.now c.loop-p.p) c.in-At.is
     c.next_part.ensures)).inside c.args.k
     (rw (c.if-not-list_parts.false) at c.list_parts.ensures.listed)))
     (c.list_parts.ensures.told (c.if-not-list_parts.false)
     ∙ or_same c.loop-p.padded
-    (inner_flag c.args.s.now ((record { start = c.in-At.start; len = c.in-At.len })) ((subst (Tells c.args.outer c.args.s.now c.loop-p.p) c.in-At.is
+    (inner_flag c.args.s.now ((record {
+      start = c.in-At.start;
+      len =
+          c.in-At.len;
+    })) ((subst (Tells c.args.outer c.args.s.now c.loop-p.p) c.in-At.is
     c.next_part.ensures)).inside c.args.k))
 
 pub returns : goal.returns
 returns c = let l = c.loop-p.invariant in
     let none = ended l c.loop-p-test.false in
-    let ps = parts_of c.args.outer c.args.s.now c.args.from in record { listed = inner_done c.args.rows.now c.args.s.now c.args.k ps (passed l none); told = λ _. passed_flag l none ∙ inner_told c.args.s.now c.args.k ps c.args.padded.now }
+    let ps = parts_of c.args.outer c.args.s.now c.args.from in record {
+      listed =
+          inner_done c.args.rows.now c.args.s.now c.args.k ps (passed l none);
+      told =
+          λ _. passed_flag l none ∙ inner_told c.args.s.now c.args.k ps c.args.padded.now;
+    }

@@ -16,7 +16,12 @@ pub returns-in_default : goal.returns-in_default
 returns-in_default c =
     let l = c.loop-p.invariant in
     let none = subst (Tells c.args.k c.args.s.now c.loop-p.p) c.in_default.is c.next_part.ensures in
-    let ps = parts_of c.args.k c.args.s.now c.args.from in record { listed = own_done c.args.rows.now c.args.s.now ps (passed l none); told = λ _. passed_flag l none ∙ own_told c.args.s.now ps c.args.padded.now }
+    let ps = parts_of c.args.k c.args.s.now c.args.from in record {
+      listed =
+          own_done c.args.rows.now c.args.s.now ps (passed l none);
+      told =
+          λ _. passed_flag l none ∙ own_told c.args.s.now ps c.args.padded.now;
+    }
 
 pub overflow_add-end : goal.overflow_add-end
 overflow_add-end c = omega (
@@ -37,7 +42,11 @@ pub returns-then-not-long_list : goal.returns-then-not-long_list
 returns-then-not-long_list c = record {
   listed = own_done c.args.rows.now c.args.s.now (parts_of c.args.k c.args.s.now c.args.from)
       (spoils c.loop-p.invariant ((subst (Tells c.args.k c.args.s.now c.loop-p.p) c.in-At.is
-      c.next_part.ensures)) ((own_adds c.args.rows.now c.args.s.now ((record { start = c.in-At.start; len = c.in-At.len })) ((subst (Tells c.args.k c.args.s.now c.loop-p.p) c.in-At.is
+      c.next_part.ensures)) ((own_adds c.args.rows.now c.args.s.now ((record {
+        start = c.in-At.start;
+        len =
+            c.in-At.len;
+      })) ((subst (Tells c.args.k c.args.s.now c.loop-p.p) c.in-At.is
       c.next_part.ensures)).inside
       (rw (c.if-not-long_list.true) at c.long_list.ensures.listed))));
   told = λ e. not_both e refl;
@@ -53,14 +62,27 @@ loop-p-smaller c = omega (
 
 pub loop-p-preserved : goal.loop-p-preserved
 loop-p-preserved c = passes c.loop-p.invariant ((subst (Tells c.args.k c.args.s.now c.loop-p.p) c.in-At.is
-    c.next_part.ensures)) ((own_adds c.args.rows.now c.args.s.now ((record { start = c.in-At.start; len = c.in-At.len })) ((subst (Tells c.args.k c.args.s.now c.loop-p.p) c.in-At.is
+    c.next_part.ensures)) ((own_adds c.args.rows.now c.args.s.now ((record {
+      start = c.in-At.start;
+      len =
+          c.in-At.len;
+    })) ((subst (Tells c.args.k c.args.s.now c.loop-p.p) c.in-At.is
     c.next_part.ensures)).inside
     (rw (c.if-not-long_list.false) at c.long_list.ensures.listed)))
     (c.long_list.ensures.told
-    ∙ or_same c.loop-p.padded (own_flag c.args.s.now ((record { start = c.in-At.start; len = c.in-At.len })) ((subst (Tells c.args.k c.args.s.now c.loop-p.p) c.in-At.is
+    ∙ or_same c.loop-p.padded (own_flag c.args.s.now ((record {
+      start = c.in-At.start;
+      len =
+          c.in-At.len;
+    })) ((subst (Tells c.args.k c.args.s.now c.loop-p.p) c.in-At.is
     c.next_part.ensures)).inside))
 
 pub returns : goal.returns
 returns c = let l = c.loop-p.invariant in
     let none = ended l c.loop-p-test.false in
-    let ps = parts_of c.args.k c.args.s.now c.args.from in record { listed = own_done c.args.rows.now c.args.s.now ps (passed l none); told = λ _. passed_flag l none ∙ own_told c.args.s.now ps c.args.padded.now }
+    let ps = parts_of c.args.k c.args.s.now c.args.from in record {
+      listed =
+          own_done c.args.rows.now c.args.s.now ps (passed l none);
+      told =
+          λ _. passed_flag l none ∙ own_told c.args.s.now ps c.args.padded.now;
+    }

@@ -6,5 +6,10 @@ use Rattle.layout.proofs.FieldsLaws.{holds_none, settled_good}
 use Rattle.layout.proofs.merge.merge_fields.Goals as goal
 
 pub returns : goal.returns
-returns c = let held = c.settle.ensures.message _ ((c.list_parts-good.ensures.listed.onto no_slots refl (holds_none c.clear.ensures))) in
-    record { holds = held; told = λ e. c.list_parts-good.ensures.told (settled_good c.args.rows.now ((c.list_parts-good.ensures.listed.onto no_slots refl (holds_none c.clear.ensures))) held e) }
+returns c = let held = c.settle.ensures.message _ ((c.list_parts-good.ensures.listed.onto no_slots refl
+    (holds_none c.clear.ensures))) in
+    record {
+      holds = held;
+      told = λ e. c.list_parts-good.ensures.told (settled_good c.args.rows.now
+          ((c.list_parts-good.ensures.listed.onto no_slots refl (holds_none c.clear.ensures))) held e);
+    }

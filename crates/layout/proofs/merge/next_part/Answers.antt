@@ -12,7 +12,8 @@ loop-p-init c = (refl, omega arith)
 pub returns-in_default : goal.returns-in_default
 returns-in_default c =
     sym c.loop-p.invariant.0
-    ∙ no_more c.args.k c.args.s.now c.loop-p.p c.loop-p-test.true ((sym c.long_field.ensures.answer ∙ c.in_default.is))
+    ∙ no_more c.args.k c.args.s.now c.loop-p.p c.loop-p-test.true ((sym c.long_field.ensures.answer
+    ∙ c.in_default.is))
 
 pub returns-then-is_part : goal.returns-then-is_part
 returns-then-is_part c =
@@ -20,14 +21,24 @@ returns-then-is_part c =
     c.loop-p.invariant.0 c.loop-p.invariant.1 (sym c.is_part.ensures ∙ c.if-is_part.true)
 
 pub loop-p-smaller : goal.loop-p-smaller
-loop-p-smaller c = omega (arith, (field_ahead c.args.s.now c.loop-p.p ((sym c.long_field.ensures.answer ∙ c.in-Good.is))), c.loop-p-test.true)
+loop-p-smaller c = omega (
+  arith,
+  (field_ahead c.args.s.now c.loop-p.p ((sym c.long_field.ensures.answer
+      ∙ c.in-Good.is))),
+  c.loop-p-test.true,
+)
 
 pub loop-p-preserved : goal.loop-p-preserved
 loop-p-preserved c = (
   passes_by c.args.k c.args.s.now c.loop-p.p c.loop-p-test.true ((sym c.long_field.ensures.answer ∙ c.in-Good.is))
       (sym c.is_part.ensures ∙ c.if-is_part.false)
       ∙ c.loop-p.invariant.0,
-  omega (arith, (field_ahead c.args.s.now c.loop-p.p ((sym c.long_field.ensures.answer ∙ c.in-Good.is))), c.loop-p.invariant.1),
+  omega (
+    arith,
+    (field_ahead c.args.s.now c.loop-p.p ((sym c.long_field.ensures.answer
+        ∙ c.in-Good.is))),
+    c.loop-p.invariant.1,
+  ),
 )
 
 pub returns : goal.returns

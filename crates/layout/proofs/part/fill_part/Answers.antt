@@ -7,7 +7,10 @@ use Rattle.layout.proofs.part.fill_part.Goals as goal
 
 pub returns-then-s-start : goal.returns-then-s-start
 returns-then-s-start c = record {
-  holds = holds_past c.args.rows.now c.args.s.now c.args.start c.args.len (omega (arith, c.if-s-start.true)) c.clear.ensures;
+  holds = holds_past c.args.rows.now c.args.s.now c.args.start c.args.len (omega (
+    arith,
+    c.if-s-start.true,
+  )) c.clear.ensures;
   told = or_none c.args.padded.now
       (padded_outside c.args.s.now c.args.start (c.args.start + c.args.len) (omega (arith, c.if-s-start.true)));
 }

@@ -7,19 +7,22 @@ use Rattle.message.proofs.execute.execute_from.Goals as goal
 pub returns-then-not-b : goal.returns-then-not-b
 returns-then-not-b c = record {
   answer = ap (execute_from c.args.s.now)
-      (run_lost c.args.s.now payload c.args.n c.read_bound-b.result c.read_bound-b.ensures.answer (not-true _ c.if-not-b.true));
+      (run_lost c.args.s.now payload c.args.n c.read_bound-b.result c.read_bound-b.ensures.answer
+      (not-true _ c.if-not-b.true));
   told = tt;
 }
 
 pub overflow_add-n : goal.overflow_add-n
 overflow_add-n c =
-    let f = bound_found false c.args.s.now payload c.args.n c.read_bound-b.result c.read_bound-b.ensures.answer (not-false _ c.if-not-b.false) in
+    let f = bound_found false c.args.s.now payload c.args.n c.read_bound-b.result c.read_bound-b.ensures.answer
+    (not-false _ c.if-not-b.false) in
     record { fits = omega (arith, f.inside) }
 
 pub returns : goal.returns
 returns c =
     let good = not-false _ c.if-not-b.false in record {
       answer = ap (λ (x : Execute). Frame.Good (length c.args.s.now) (Request.Execute x)) c.execute_of-execute.ensures
-          ∙ ap (execute_from c.args.s.now) (run_found c.args.s.now payload c.args.n c.read_bound-b.result c.read_bound-b.ensures.answer good);
+          ∙ ap (execute_from c.args.s.now)
+          (run_found c.args.s.now payload c.args.n c.read_bound-b.result c.read_bound-b.ensures.answer good);
       told = c.read_bound-b.ensures.told good;
     }

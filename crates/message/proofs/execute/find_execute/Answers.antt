@@ -21,13 +21,13 @@ pub overflow_mul-first : goal.overflow_mul-first
 overflow_mul-first c =
     let held : Held c.args.s.now c.args.at c.args.n c.in-Two.first c.in-Two.tag c.in-Two.value
     c.in-Two.start = record { is = sym c.read_pair.ensures.answer ∙ c.in-Two.is } in
-    omega (arith, named_fits (held))
+    omega (arith, named_fits held)
 
 pub overflow_add-first : goal.overflow_add-first
 overflow_add-first c =
     let held : Held c.args.s.now c.args.at c.args.n c.in-Two.first c.in-Two.tag c.in-Two.value
     c.in-Two.start = record { is = sym c.read_pair.ensures.answer ∙ c.in-Two.is } in
-    omega (arith, named_fits (held))
+    omega (arith, named_fits held)
 
 pub returns-then-first-tag-eq-CHOSEN_EXECUTE : goal.returns-then-first-tag-eq-CHOSEN_EXECUTE
 returns-then-first-tag-eq-CHOSEN_EXECUTE c =
@@ -37,15 +37,17 @@ returns-then-first-tag-eq-CHOSEN_EXECUTE c =
     let s = c.args.s.now in
     let found = Inner.At c.in-Two.start c.in-Two.value in
     let flag = c.read_pair.new.padded in record {
-      answer = subst (λ (ps : List Part). Runs s ps found) (sym (whole)) (open_paired (held) c.if-first-tag-eq-CHOSEN_EXECUTE.true);
-      told = subst (λ (ps : List Part). TellsInner s ps found c.args.padded.now flag) (sym (whole)) (
+      answer = subst (λ (ps : List Part). Runs s ps found) (sym whole)
+          (open_paired held c.if-first-tag-eq-CHOSEN_EXECUTE.true);
+      told = subst (λ (ps : List Part). TellsInner s ps found c.args.padded.now flag) (sym whole) (
         (
           c.read_pair.ensures.told
               ∙ or_same c.args.padded.now
-              (pair_part (held) (omega (arith, held_short (held), c.if-first-tag-eq-CHOSEN_EXECUTE.true)) ∙ one_flag s c.args.at c.args.n),
-          open_good (held) c.if-first-tag-eq-CHOSEN_EXECUTE.true,
+              (pair_part held (omega (arith, held_short held, c.if-first-tag-eq-CHOSEN_EXECUTE.true))
+              ∙ one_flag s c.args.at c.args.n),
+          open_good held c.if-first-tag-eq-CHOSEN_EXECUTE.true,
         ),
-        execute_one (held) c.if-first-tag-eq-CHOSEN_EXECUTE.true,
+        execute_one held c.if-first-tag-eq-CHOSEN_EXECUTE.true,
       );
     }
 
@@ -60,9 +62,9 @@ returns c =
     let answer = c.long_inner.result in
     let mid = c.read_pair.new.padded in
     let flag = c.long_inner.new.padded in record {
-      answer = subst (λ (ps : List Part). Runs s ps answer) (sym (whole))
+      answer = subst (λ (ps : List Part). Runs s ps answer) (sym whole)
           (subst (λ (l : List ℕ). Runs l (one_part c.args.at c.args.n) answer) all c.long_inner.ensures.answer);
-      told = subst (λ (ps : List Part). TellsInner s ps answer c.args.padded.now flag) (sym (whole))
+      told = subst (λ (ps : List Part). TellsInner s ps answer c.args.padded.now flag) (sym whole)
           (inner_again s c.args.at c.args.n answer c.args.padded.now mid flag c.read_pair.ensures.told
           (subst (λ (l : List ℕ). TellsInner l (one_part c.args.at c.args.n) answer mid flag) all
           c.long_inner.ensures.told));

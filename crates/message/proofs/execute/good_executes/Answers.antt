@@ -7,7 +7,8 @@ use Rattle.message.proofs.execute.good_executes.Goals as goal
 pub returns-then-not-is_message : goal.returns-then-not-is_message
 returns-then-not-is_message c =
     let judged : (let s = c.args.s.now in
-    c.is_message.result ≡ (merged (rows_of Client.execute) s (execute_parts s)).good) = rw c.execute_rows-rows.ensures at c.is_message.ensures in
+    c.is_message.result ≡ (merged (rows_of Client.execute) s (execute_parts s)).good) =
+    rw c.execute_rows-rows.ensures at c.is_message.ensures in
     let s = c.args.s.now in record {
       answer = ap (λ (b : Bool). b && arguments_good s (execute_parts s))
           (sym (c.if-not-is_message.true) ∙ judged);
@@ -17,7 +18,8 @@ returns-then-not-is_message c =
 pub returns : goal.returns
 returns c =
     let judged : (let s = c.args.s.now in
-    c.is_message.result ≡ (merged (rows_of Client.execute) s (execute_parts s)).good) = rw c.execute_rows-rows.ensures at c.is_message.ensures in
+    c.is_message.result ≡ (merged (rows_of Client.execute) s (execute_parts s)).good) =
+    rw c.execute_rows-rows.ensures at c.is_message.ensures in
     let s = c.args.s.now in record {
       answer = c.good_arguments.ensures.answer
           ∙ ap (λ (b : Bool). b && arguments_good s (execute_parts s))

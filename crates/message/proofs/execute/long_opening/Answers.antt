@@ -5,9 +5,18 @@ use Rattle.message.proofs.ArrayLaws.{open_refused, open_whole, open_once}
 use Rattle.message.proofs.execute.long_opening.Goals as goal
 
 pub returns-then-not-fill_payload : goal.returns-then-not-fill_payload
-returns-then-not-fill_payload c = let s = c.args.s.now in record { answer = open_refused s (rw c.open_rows-rows.ensures at c.fill_payload.ensures.holds) (c.if-not-fill_payload.true); told = tt }
+returns-then-not-fill_payload c = let s = c.args.s.now in record {
+  answer =
+      open_refused s (rw c.open_rows-rows.ensures at c.fill_payload.ensures.holds) (c.if-not-fill_payload.true);
+  told = tt;
+}
 
 pub returns : goal.returns
 returns c = let s = c.args.s.now in
     let good = c.if-not-fill_payload.false in
-    let held = rw c.open_rows-rows.ensures at c.fill_payload.ensures.holds in record { answer = (open_whole s held good, open_once s held good); told = c.fill_payload.ensures.told ∙ ap (λ (b : Bool). b || own_padded s) c.requires }
+    let held = rw c.open_rows-rows.ensures at c.fill_payload.ensures.holds in record {
+      answer =
+          (open_whole s held good, open_once s held good);
+      told =
+          c.fill_payload.ensures.told ∙ ap (λ (b : Bool). b || own_padded s) c.requires;
+    }

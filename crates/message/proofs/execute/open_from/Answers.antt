@@ -6,8 +6,13 @@ use Rattle.message.proofs.execute.open_from.Goals as goal
 
 pub returns-then-not-b : goal.returns-then-not-b
 returns-then-not-b c = record {
-  answer = ap (open_from c.args.s.now c.args.id (optional_by c.args.has c.args.asked) (record { start = c.args.start; len = c.args.len }))
-      (run_lost c.args.s.now c.args.start c.args.len c.read_bound-b.result c.read_bound-b.ensures.answer (not-true _ c.if-not-b.true));
+  answer = ap (open_from c.args.s.now c.args.id (optional_by c.args.has c.args.asked) (record {
+    start =
+        c.args.start;
+    len = c.args.len;
+  }))
+      (run_lost c.args.s.now c.args.start c.args.len c.read_bound-b.result c.read_bound-b.ensures.answer
+      (not-true _ c.if-not-b.true));
   told = tt;
 }
 
@@ -25,6 +30,7 @@ returns c =
           (rw c.low.ensures
           (ap (open_from c.args.s.now c.args.id (optional_by c.args.has c.args.asked)
           (record { start = c.args.start; len = c.args.len }))
-          (run_found c.args.s.now c.args.start c.args.len c.read_bound-b.result c.read_bound-b.ensures.answer good))));
+          (run_found c.args.s.now c.args.start c.args.len c.read_bound-b.result c.read_bound-b.ensures.answer
+          good))));
       told = c.read_bound-b.ensures.told good;
     }

@@ -17,7 +17,13 @@ slice_bounds-result-end c = omega
 pub returns : goal.returns
 returns c = let s = c.args.s.now in
     let bytes =
-    ap (λ (k : ℕ). take k (drop c.chosen_part-body.result.start s)) (add-sub_cancel_left c.chosen_part-body.result.start c.chosen_part-body.result.len)
+    ap (λ (k : ℕ). take k (drop c.chosen_part-body.result.start s))
+    (add-sub_cancel_left c.chosen_part-body.result.start c.chosen_part-body.result.len)
     ∙ ap (body_in s) c.chosen_part-body.ensures in
     let q = c.args.s.ref_ptr in
-    record { bytes = bytes; place = ap (λ (x : Part). (q.0, x.start + q.1)) c.chosen_part-body.ensures; size = ap length bytes ∙ body_length s }
+    record {
+      bytes = bytes;
+      place = ap (λ (x : Part). (q.0, x.start + q.1)) c.chosen_part-body.ensures;
+      size =
+          ap length bytes ∙ body_length s;
+    }

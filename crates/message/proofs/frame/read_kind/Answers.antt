@@ -12,22 +12,38 @@ returns-in-6 c = let whole = as_kind c.args.s.now c.read_reset.result _
 pub returns-in-7 : goal.returns-in-7
 unfolding frame_in kind_padded
 returns-in-7 c = let whole = as_kind c.args.s.now c.read_session_close.result _
-    c.in-7.is (c.read_session_close.ensures.answer, c.read_session_close.ensures.told) in record { answer = whole.0; told = whole.1 }
+    c.in-7.is (c.read_session_close.ensures.answer, c.read_session_close.ensures.told) in record {
+      answer =
+          whole.0;
+      told = whole.1;
+    }
 
 pub returns-in-40 : goal.returns-in-40
 unfolding frame_in kind_padded
 returns-in-40 c = let whole = as_kind c.args.s.now c.read_prepare.result _
-    c.in-40.is (c.read_prepare.ensures.answer, c.read_prepare.ensures.told) in record { answer = whole.0; told = whole.1 }
+    c.in-40.is (c.read_prepare.ensures.answer, c.read_prepare.ensures.told) in record {
+      answer = whole.0;
+      told =
+          whole.1;
+    }
 
 pub returns-in-41 : goal.returns-in-41
 unfolding frame_in kind_padded
 returns-in-41 c = let whole = as_kind c.args.s.now c.read_execute.result _
-    c.in-41.is (c.read_execute.ensures.answer, c.read_execute.ensures.told) in record { answer = whole.0; told = whole.1 }
+    c.in-41.is (c.read_execute.ensures.answer, c.read_execute.ensures.told) in record {
+      answer = whole.0;
+      told =
+          whole.1;
+    }
 
 pub returns-in-42 : goal.returns-in-42
 unfolding frame_in kind_padded
 returns-in-42 c = let whole = as_kind c.args.s.now c.read_deallocate.result _
-    c.in-42.is (c.read_deallocate.ensures.answer, c.read_deallocate.ensures.told) in record { answer = whole.0; told = whole.1 }
+    c.in-42.is (c.read_deallocate.ensures.answer, c.read_deallocate.ensures.told) in record {
+      answer =
+          whole.0;
+      told = whole.1;
+    }
 
 pub returns-in-43 : goal.returns-in-43
 unfolding frame_in kind_padded

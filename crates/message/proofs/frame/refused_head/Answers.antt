@@ -5,7 +5,9 @@ use Rattle.message.proofs.Names.{Frame}
 use Rattle.message.proofs.frame.refused_head.Goals as goal
 
 pub returns-then-reason-eq-BAD_LENGTH : goal.returns-then-reason-eq-BAD_LENGTH
-returns-then-reason-eq-BAD_LENGTH c = yes Frame.BadLength Frame.NotAllThere (eq-eqb c.args.reason Reason.bad_length c.if-reason-eq-BAD_LENGTH.true)
+returns-then-reason-eq-BAD_LENGTH c =
+    yes Frame.BadLength Frame.NotAllThere (eq-eqb c.args.reason Reason.bad_length c.if-reason-eq-BAD_LENGTH.true)
 
 pub returns : goal.returns
-returns c = without Frame.BadLength Frame.NotAllThere (ne_eqb c.args.reason Reason.bad_length c.if-reason-eq-BAD_LENGTH.false)
+returns c = without Frame.BadLength Frame.NotAllThere
+    (ne_eqb c.args.reason Reason.bad_length c.if-reason-eq-BAD_LENGTH.false)

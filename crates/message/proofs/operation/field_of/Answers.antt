@@ -10,7 +10,11 @@ pub returns-then-t-eq-INSERT : goal.returns-then-t-eq-INSERT
 returns-then-t-eq-INSERT c = (chosen_insert c.args.t c.if-t-eq-FIND.false c.if-t-eq-INSERT.true, omega arith)
 
 pub returns-then-t-eq-UPDATE : goal.returns-then-t-eq-UPDATE
-returns-then-t-eq-UPDATE c = (chosen_update c.args.t c.if-t-eq-FIND.false c.if-t-eq-INSERT.false c.if-t-eq-UPDATE.true, omega arith)
+returns-then-t-eq-UPDATE c = (
+  chosen_update c.args.t c.if-t-eq-FIND.false c.if-t-eq-INSERT.false
+      c.if-t-eq-UPDATE.true,
+  omega arith,
+)
 
 pub returns-then-t-eq-DELETE : goal.returns-then-t-eq-DELETE
 returns-then-t-eq-DELETE c = (

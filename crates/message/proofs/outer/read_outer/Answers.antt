@@ -15,15 +15,16 @@ returns-in_default-length_value c = record { answer = tt; told = tt }
 
 pub returns-then-s-next : goal.returns-then-s-next
 returns-then-s-next c =
-    let begun : Starts c.args.s.now 34 c.in-At.id c.in-At.behind = subst (Begins c.args.s.now 34) c.in-At.is c.read_first.ensures.answer in
+    let begun : Starts c.args.s.now 34 c.in-At.id c.in-At.behind =
+    subst (Begins c.args.s.now 34) c.in-At.is c.read_first.ensures.answer in
     let begun-flag : TellsFirst c.args.s.now (First.At c.in-At.id c.in-At.behind)
     c.args.padded.now c.read_first.new.padded = subst (λ (r : First). TellsFirst c.args.s.now r c.args.padded.now
     c.read_first.new.padded) c.in-At.is c.read_first.ensures.told in
     let stmt = sym c.length_value.ensures.answer ∙ c.in-Good.is in record {
       answer = rw c.fields.ensures
-          (opens_two (begun) stmt c.if-s-next.true, parts_two (begun) stmt c.if-s-next.true);
+          (opens_two begun stmt c.if-s-next.true, parts_two begun stmt c.if-s-next.true);
       told = rw c.fields.ensures
-          (outer_two (begun) stmt c.args.padded.now (begun-flag) c.length_value.ensures.told
+          (outer_two begun stmt c.args.padded.now begun-flag c.length_value.ensures.told
           c.if-s-next.true);
     }
 
@@ -41,7 +42,8 @@ returns-then-end-s c = record { answer = tt; told = tt }
 
 pub returns : goal.returns
 returns c =
-    let begun : Starts c.args.s.now 34 c.in-At.id c.in-At.behind = subst (Begins c.args.s.now 34) c.in-At.is c.read_first.ensures.answer in
+    let begun : Starts c.args.s.now 34 c.in-At.id c.in-At.behind =
+    subst (Begins c.args.s.now 34) c.in-At.is c.read_first.ensures.answer in
     let begun-flag : TellsFirst c.args.s.now (First.At c.in-At.id c.in-At.behind)
     c.args.padded.now c.read_first.new.padded = subst (λ (r : First). TellsFirst c.args.s.now r c.args.padded.now
     c.read_first.new.padded) c.in-At.is c.read_first.ensures.told in
@@ -49,11 +51,11 @@ returns c =
     let stmt = sym c.length_value.ensures.answer ∙ c.in-Good.is in
     let rows = sym (rw (take-length s) at c.read_varint.ensures.answer) ∙ c.in-Number.is in record {
       answer = rw c.fields-2.ensures (
-        opens_three (begun) stmt c.if-s-next.false c.if-s-next-ne-ROWS_TAG.false rows (omega (arith, c.if-end-s.false)),
-        parts_three (begun) stmt c.if-s-next.false c.if-s-next-ne-ROWS_TAG.false rows (omega (arith, c.if-end-s.false)),
+        opens_three begun stmt c.if-s-next.false c.if-s-next-ne-ROWS_TAG.false rows (omega (arith, c.if-end-s.false)),
+        parts_three begun stmt c.if-s-next.false c.if-s-next-ne-ROWS_TAG.false rows (omega (arith, c.if-end-s.false)),
       );
       told = rw c.fields-2.ensures
-          (outer_three (begun) stmt c.args.padded.now (begun-flag) c.length_value.ensures.told c.if-s-next.false
+          (outer_three begun stmt c.args.padded.now begun-flag c.length_value.ensures.told c.if-s-next.false
           c.if-s-next-ne-ROWS_TAG.false rows (omega (arith, c.if-end-s.false))
           (rw (take-length s) at c.read_varint.ensures.told));
     }

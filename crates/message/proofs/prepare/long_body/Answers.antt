@@ -8,13 +8,15 @@ use Rattle.message.proofs.prepare.long_body.Goals as goal
 pub returns-then-not-b : goal.returns-then-not-b
 returns-then-not-b c =
     c.bad.ensures
-    ∙ body_lost c.args.s.now c.args.operation c.args.at c.args.n c.if-operation-eq-STMT_EXECUTE.true c.read_bound-b.result
+    ∙ body_lost c.args.s.now c.args.operation c.args.at c.args.n c.if-operation-eq-STMT_EXECUTE.true
+    c.read_bound-b.result
     c.read_bound-b.ensures.answer
     (not-true _ c.if-not-b.true)
 
 pub overflow_add-at : goal.overflow_add-at
 overflow_add-at c =
-    let f = bound_found true c.args.s.now c.args.at c.args.n c.read_bound-b.result c.read_bound-b.ensures.answer (not-false _ c.if-not-b.false) in
+    let f = bound_found true c.args.s.now c.args.at c.args.n c.read_bound-b.result c.read_bound-b.ensures.answer
+    (not-false _ c.if-not-b.false) in
     record { fits = omega (arith, f.inside) }
 
 pub returns-then-operation-eq-STMT_EXECUTE : goal.returns-then-operation-eq-STMT_EXECUTE

@@ -14,4 +14,9 @@ returns-then-not-fill_payload c = let s = c.args.s.now in record {
 pub returns : goal.returns
 returns c = let s = c.args.s.now in
     let good = c.if-not-fill_payload.false in
-    let held = rw c.prepare_rows-rows.ensures at c.fill_payload.ensures.holds in record { answer = (prepare_whole s held good, prepare_once s held good); told = c.fill_payload.ensures.told ∙ ap (λ (b : Bool). b || own_padded s) c.requires }
+    let held = rw c.prepare_rows-rows.ensures at c.fill_payload.ensures.holds in record {
+      answer =
+          (prepare_whole s held good, prepare_once s held good);
+      told =
+          c.fill_payload.ensures.told ∙ ap (λ (b : Bool). b || own_padded s) c.requires;
+    }

@@ -16,7 +16,11 @@ returns-then-not-args c =
       args = c.read_body-args.result;
     }))
     {good = c.read_body-args.result.good} (not-true _ c.if-not-args.true)
-    ∙ ap (prepare_from c.args.s.now c.args.id c.args.operation (record { start = c.args.start; len = c.args.len })) c.read_body-args.ensures
+    ∙ ap (prepare_from c.args.s.now c.args.id c.args.operation (record {
+      start = c.args.start;
+      len =
+          c.args.len;
+    })) c.read_body-args.ensures
 
 pub returns : goal.returns
 returns c =
@@ -31,4 +35,8 @@ returns c =
       args = c.read_body-args.result;
     }))
     {good = c.read_body-args.result.good} (not-false _ c.if-not-args.false)
-    ∙ ap (prepare_from c.args.s.now c.args.id c.args.operation (record { start = c.args.start; len = c.args.len })) c.read_body-args.ensures))
+    ∙ ap (prepare_from c.args.s.now c.args.id c.args.operation (record {
+      start = c.args.start;
+      len =
+          c.args.len;
+    })) c.read_body-args.ensures))

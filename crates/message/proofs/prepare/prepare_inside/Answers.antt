@@ -36,4 +36,8 @@ returns-in-Twice c =
 pub returns-in-Bad : goal.returns-in-Bad
 returns-in-Bad c =
     let s = c.args.s.now in
-    record { answer = ap (of_chosen s (stmt_parts s) c.args.id) (sym c.in-Bad.is) ∙ c.find_body.ensures.answer c.args.id; told = tt }
+    record {
+      answer = ap (of_chosen s (stmt_parts s) c.args.id) (sym c.in-Bad.is)
+          ∙ c.find_body.ensures.answer c.args.id;
+      told = tt;
+    }

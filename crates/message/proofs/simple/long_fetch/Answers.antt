@@ -6,7 +6,11 @@ use Rattle.message.proofs.simple.long_fetch.Goals as goal
 
 pub returns-then-not-fill_payload : goal.returns-then-not-fill_payload
 unfolding fetch_frame
-returns-then-not-fill_payload c = let s = c.args.s.now in record { answer = fetch_spoiled s (rw c.fetch_rows-rows.ensures at c.fill_payload.ensures.holds) (c.if-not-fill_payload.true); told = tt }
+returns-then-not-fill_payload c = let s = c.args.s.now in record {
+  answer =
+      fetch_spoiled s (rw c.fetch_rows-rows.ensures at c.fill_payload.ensures.holds) (c.if-not-fill_payload.true);
+  told = tt;
+}
 
 pub returns : goal.returns
 unfolding fetch_frame

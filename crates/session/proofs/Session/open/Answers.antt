@@ -6,4 +6,5 @@ use Rattle.session.proofs.Session.open.Goals as goal
 
 pub returns : goal.returns
 returns c = c.open.ensures ∙ ap
-    (λ p. opened_at (session_of c.args.self.words) p c.args.id c.args.stmt c.args.rows c.args.sent) c.cursor_place-place.ensures
+    (λ p. opened_at (session_of c.args.self.words) p c.args.id c.args.stmt c.args.rows c.args.sent)
+    c.cursor_place-place.ensures

@@ -5,8 +5,11 @@ use Rattle.session.proofs.EntryLaws.{owes_dead, owes_live}
 use Rattle.session.proofs.count.owes.Goals as goal
 
 pub returns-then-cursor_live-eq0 : goal.returns-then-cursor_live-eq0
-returns-then-cursor_live-eq0 c =
-    (owes_dead (cursor_in c.args.words.now c.args.i) (sym c.cursor_live.ensures ∙ c.if-cursor_live-eq0.true), omega arith)
+returns-then-cursor_live-eq0 c = (
+  owes_dead (cursor_in c.args.words.now c.args.i) (sym c.cursor_live.ensures
+      ∙ c.if-cursor_live-eq0.true),
+  omega arith,
+)
 
 pub returns-then-rows-sent : goal.returns-then-rows-sent
 returns-then-rows-sent c = (

@@ -8,7 +8,8 @@ pub returns-then-i-lt-MAX_CURSORS : goal.returns-then-i-lt-MAX_CURSORS
 returns-then-i-lt-MAX_CURSORS c =
     let w = c.args.words.now in
     c.store_sent.ensures
-    ∙ ap (with_cursors (session_of w)) (sent_there w c.args.place _ c.args.sent c.index-i.ensures c.if-i-lt-MAX_CURSORS.true)
+    ∙ ap (with_cursors (session_of w))
+    (sent_there w c.args.place _ c.args.sent c.index-i.ensures c.if-i-lt-MAX_CURSORS.true)
 
 pub returns-else-i-lt-MAX_CURSORS : goal.returns-else-i-lt-MAX_CURSORS
 returns-else-i-lt-MAX_CURSORS c = let w = c.args.words.now in ap (with_cursors (session_of w))

@@ -14,7 +14,8 @@ pub bounds-words-at-4 : goal.bounds-words-at-4
 bounds-words-at-4 c = still_below c.args.words.now _ c.args.c.id (c.args.c.stmt ∷ c.args.c.rows ∷ []) _ (omega arith)
 
 pub bounds-words-at-5 : goal.bounds-words-at-5
-bounds-words-at-5 c = still_below c.args.words.now _ c.args.c.id (c.args.c.stmt ∷ c.args.c.rows ∷ c.args.c.sent ∷ []) _
+bounds-words-at-5 c = still_below c.args.words.now _ c.args.c.id
+    (c.args.c.stmt ∷ c.args.c.rows ∷ c.args.c.sent ∷ []) _
     (omega arith)
 
 pub returns : goal.returns

@@ -20,5 +20,6 @@ pub returns-in-1 : goal.returns-in-1
 returns-in-1 c = ap letter_of (sym c.in-1.is)
 
 pub returns-in_default : goal.returns-in_default
-returns-in_default c = let r = c.in_default.in_default-own.rest in letter_none c.args.kind r.0.0.0.0.1 r.0.0.0.1 r.0.0.1
+returns-in_default c = let r = c.in_default.in_default-own.rest in
+    letter_none c.args.kind r.0.0.0.0.1 r.0.0.0.1 r.0.0.1
     r.0.1 r.1

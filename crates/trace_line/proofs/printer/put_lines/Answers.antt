@@ -28,8 +28,11 @@ overflow_add-at c =
     × (c.loop-at.at
     + c.in-Next.next
     ≤ length c.args.s.now) = place_within c.loop-at.invariant c.loop-at-test.true c.if-out-to-lt-MAX_LINE.false
-    (to_end c.args.s.now c.loop-at.at) c.in-Next.is (c.trace_record-t.ensures.answer, (c.trace_record-t.ensures.session, c.trace_record-t.ensures.out)) in
-    let g : c.loop-at.at + c.in-Next.next < 2 ^ 64 = omega (arith, (within).1, c.well_formed, c.ranges) in
+    (to_end c.args.s.now c.loop-at.at) c.in-Next.is (
+      c.trace_record-t.ensures.answer,
+      (c.trace_record-t.ensures.session, c.trace_record-t.ensures.out),
+    ) in
+    let g : c.loop-at.at + c.in-Next.next < 2 ^ 64 = omega (arith, within.1, c.well_formed, c.ranges) in
     record { fits = g }
 
 pub loop-at-smaller : goal.loop-at-smaller
@@ -37,38 +40,56 @@ loop-at-smaller c = let w : (0 < c.in-Next.next)
     × (c.loop-at.at
     + c.in-Next.next
     ≤ length c.args.s.now) = place_within c.loop-at.invariant c.loop-at-test.true c.if-out-to-lt-MAX_LINE.false
-    (to_end c.args.s.now c.loop-at.at) c.in-Next.is (c.trace_record-t.ensures.answer, (c.trace_record-t.ensures.session, c.trace_record-t.ensures.out)) in omega (arith, w.0, w.1)
+    (to_end c.args.s.now c.loop-at.at) c.in-Next.is (
+      c.trace_record-t.ensures.answer,
+      (c.trace_record-t.ensures.session, c.trace_record-t.ensures.out),
+    ) in omega (arith, w.0, w.1)
 
 pub loop-at-preserved : goal.loop-at-preserved
 loop-at-preserved c = rw (c.wrapping_add_u64-n.ensures.value, c.place_behind-to.ensures)
     (walk_on c.loop-at.invariant c.loop-at-test.true c.if-out-to-lt-MAX_LINE.false
-    (to_end c.args.s.now c.loop-at.at) c.in-Next.is (c.trace_record-t.ensures.answer, (c.trace_record-t.ensures.session, c.trace_record-t.ensures.out)))
+    (to_end c.args.s.now c.loop-at.at) c.in-Next.is (
+      c.trace_record-t.ensures.answer,
+      (c.trace_record-t.ensures.session, c.trace_record-t.ensures.out),
+    ))
 
 pub shape_of-out-in-Short : goal.shape_of-out-in-Short
 shape_of-out-in-Short c =
     let kept : length c.trace_record-t.new.out
-    ≡ length c.args.out.now = traced_length (session_of c.loop-at.words) c.loop-at.n _ c.loop-at.out c.loop-at.to (c.trace_record-t.ensures.answer, (c.trace_record-t.ensures.session, c.trace_record-t.ensures.out))
+    ≡ length c.args.out.now = traced_length (session_of c.loop-at.words) c.loop-at.n _ c.loop-at.out c.loop-at.to
+    (c.trace_record-t.ensures.answer, (c.trace_record-t.ensures.session, c.trace_record-t.ensures.out))
     ∙ c.loop-at.invariant.kept in
     kept
 
 pub returns-in-Short : goal.returns-in-Short
 returns-in-Short c = walk_stops
     c.loop-at.invariant c.loop-at-test.true c.if-out-to-lt-MAX_LINE.false
-    (to_end c.args.s.now c.loop-at.at)
-    (c.trace_record-t.ensures.answer, (c.trace_record-t.ensures.session, c.trace_record-t.ensures.out)) (inl c.in-Short.is)
+    (to_end c.args.s.now c.loop-at.at) (
+      c.trace_record-t.ensures.answer,
+      (
+        c.trace_record-t.ensures.session,
+        c.trace_record-t.ensures.out,
+      ),
+    ) (inl c.in-Short.is)
 
 pub shape_of-out-in-Bad : goal.shape_of-out-in-Bad
 shape_of-out-in-Bad c =
     let kept : length c.trace_record-t.new.out
-    ≡ length c.args.out.now = traced_length (session_of c.loop-at.words) c.loop-at.n _ c.loop-at.out c.loop-at.to (c.trace_record-t.ensures.answer, (c.trace_record-t.ensures.session, c.trace_record-t.ensures.out))
+    ≡ length c.args.out.now = traced_length (session_of c.loop-at.words) c.loop-at.n _ c.loop-at.out c.loop-at.to
+    (c.trace_record-t.ensures.answer, (c.trace_record-t.ensures.session, c.trace_record-t.ensures.out))
     ∙ c.loop-at.invariant.kept in
     kept
 
 pub returns-in-Bad : goal.returns-in-Bad
 returns-in-Bad c = walk_stops
     c.loop-at.invariant c.loop-at-test.true c.if-out-to-lt-MAX_LINE.false
-    (to_end c.args.s.now c.loop-at.at)
-    (c.trace_record-t.ensures.answer, (c.trace_record-t.ensures.session, c.trace_record-t.ensures.out)) (inr c.in-Bad.is)
+    (to_end c.args.s.now c.loop-at.at) (
+      c.trace_record-t.ensures.answer,
+      (
+        c.trace_record-t.ensures.session,
+        c.trace_record-t.ensures.out,
+      ),
+    ) (inr c.in-Bad.is)
 
 pub shape_of-out : goal.shape_of-out
 shape_of-out c = c.loop-at.invariant.kept

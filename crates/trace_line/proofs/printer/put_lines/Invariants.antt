@@ -6,7 +6,8 @@ use Rattle.trace_line.proofs.WalkLaws.{Walking}
 use Rattle.trace_line.proofs.printer.put_lines.Given as goal
 
 abbrev pub invariant-loop-at : goal.invariant-loop-at
-invariant-loop-at l = Walking (session_of l.initial.words) l.first l.s l.initial.out (session_of l.words) l.n l.at l.to l.out
+invariant-loop-at l = Walking (session_of l.initial.words) l.first l.s l.initial.out
+    (session_of l.words) l.n l.at l.to l.out
 
 abbrev pub decreases-loop-at : goal.decreases-loop-at
 decreases-loop-at l = length l.s - l.at

@@ -6,7 +6,8 @@ use Rattle.trace_line.proofs.record.read_kind.Goals as goal
 
 pub returns-in-Value : goal.returns-in-Value
 unfolding kind_at
-returns-in-Value c = c.read_report.ensures ∙ (then_is (report_at c.args.s.now c.args.start c.args.len) c.in-Value.is c.read_number.ensures)
+returns-in-Value c = c.read_report.ensures
+    ∙ (then_is (report_at c.args.s.now c.args.start c.args.len) c.in-Value.is c.read_number.ensures)
 
 pub returns-in-Short : goal.returns-in-Short
 unfolding kind_at

@@ -7,7 +7,8 @@ use Rattle.trace_line.proofs.record.read_result.Goals as goal
 pub returns-in-Value : goal.returns-in-Value
 unfolding result_at
 returns-in-Value c = c.read_last.ensures ∙ last_rows
-    c.args.s.now c.args.start c.args.len _ _ ∙ (then_is (rows_at c.args.s.now c.args.start c.args.len) c.in-Value.is c.read_number.ensures)
+    c.args.s.now c.args.start c.args.len _ _
+    ∙ (then_is (rows_at c.args.s.now c.args.start c.args.len) c.in-Value.is c.read_number.ensures)
 
 pub returns-in-Short : goal.returns-in-Short
 unfolding result_at

@@ -19,7 +19,8 @@ returns-in-Field c =
       answer = c.tagged.ensures.answer
           ∙ ap (λ (l : List ℕ). field_of l c.in-Field.number c.in-Field.wire c.in-Field.next) (take-length s)
           ∙ sym (field_tagged s c.args.at _ ((
-          sym (c.read_tag.ensures.answer ∙ ap (λ (l : List ℕ). tag_at l c.args.at) (take-length c.args.s.now)) ∙ c.in-Field.is)));
+          sym (c.read_tag.ensures.answer ∙ ap (λ (l : List ℕ). tag_at l c.args.at) (take-length c.args.s.now))
+          ∙ c.in-Field.is)));
       told = or_then c.args.padded.now (padded_at s c.args.at) (value_padded s c.in-Field.wire c.in-Field.next) ((
           c.read_tag.ensures.told
           ∙ or_same c.args.padded.now (ap (λ (l : List ℕ). padded_at l c.args.at) (take-length c.args.s.now))))
@@ -27,18 +28,21 @@ returns-in-Field c =
           ∙ or_same c.read_tag.new.padded
           (ap (λ (l : List ℕ). value_padded l c.in-Field.wire c.in-Field.next) (take-length s)))
           (field_flag s c.args.at _ ((
-          sym (c.read_tag.ensures.answer ∙ ap (λ (l : List ℕ). tag_at l c.args.at) (take-length c.args.s.now)) ∙ c.in-Field.is)));
+          sym (c.read_tag.ensures.answer ∙ ap (λ (l : List ℕ). tag_at l c.args.at) (take-length c.args.s.now))
+          ∙ c.in-Field.is)));
     }
 
 pub returns-in-Bad : goal.returns-in-Bad
 returns-in-Bad c =
     let s = c.args.s.now in record {
       answer = sym (field_tagged s c.args.at _ ((
-          sym (c.read_tag.ensures.answer ∙ ap (λ (l : List ℕ). tag_at l c.args.at) (take-length c.args.s.now)) ∙ c.in-Bad.is)));
+          sym (c.read_tag.ensures.answer ∙ ap (λ (l : List ℕ). tag_at l c.args.at) (take-length c.args.s.now))
+          ∙ c.in-Bad.is)));
       told = (
           c.read_tag.ensures.told
           ∙ or_same c.args.padded.now (ap (λ (l : List ℕ). padded_at l c.args.at) (take-length c.args.s.now)))
           ∙ or_same c.args.padded.now
           (or_false (padded_at s c.args.at) ∙ field_flag s c.args.at Tag.Bad ((
-          sym (c.read_tag.ensures.answer ∙ ap (λ (l : List ℕ). tag_at l c.args.at) (take-length c.args.s.now)) ∙ c.in-Bad.is)));
+          sym (c.read_tag.ensures.answer ∙ ap (λ (l : List ℕ). tag_at l c.args.at) (take-length c.args.s.now))
+          ∙ c.in-Bad.is)));
     }

@@ -29,10 +29,12 @@ pub returns-then-wire-eq-VARINT : goal.returns-then-wire-eq-VARINT
 returns-then-wire-eq-VARINT c =
     let w = c.if-wire-eq-VARINT.true in record {
       answer = c.valued.ensures
-          ∙ ap (of_value c.args.n 0) (c.number_value.ensures.answer ∙ value_number c.args.s.now c.args.wire c.args.at w)
+          ∙ ap (of_value c.args.n 0) (c.number_value.ensures.answer
+          ∙ value_number c.args.s.now c.args.wire c.args.at w)
           ∙ ap (λ (k : ℕ). of_value c.args.n k (value_at c.args.s.now c.args.wire c.args.at)) (sym w)
           ∙ field_value c.args.s.now c.args.n c.args.wire c.args.at c.if-wire-eq-GROUP_START.false;
-      told = c.number_value.ensures.told ∙ or_same c.args.padded.now (number_flag c.args.s.now c.args.wire c.args.at w);
+      told = c.number_value.ensures.told
+          ∙ or_same c.args.padded.now (number_flag c.args.s.now c.args.wire c.args.at w);
     }
 
 pub returns : goal.returns

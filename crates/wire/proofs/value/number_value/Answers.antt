@@ -18,4 +18,8 @@ returns-in-Number c = record {
 }
 
 pub returns-in-Bad : goal.returns-in-Bad
-returns-in-Bad c = record { answer = ap (of_varint c.args.at) (sym c.in-Bad.is ∙ c.read_varint.ensures.answer); told = c.read_varint.ensures.told }
+returns-in-Bad c = record {
+  answer =
+      ap (of_varint c.args.at) (sym c.in-Bad.is ∙ c.read_varint.ensures.answer);
+  told = c.read_varint.ensures.told;
+}

@@ -18,7 +18,10 @@ returns-then-wire-eq-I64 c = record {
       ∙ ap (of_fixed 8 c.args.at) c.read_fixed64.ensures
       ∙ value_eight _ _ _ c.if-wire-eq-VARINT.false c.if-wire-eq-I64.true;
   told = or_none c.args.padded.now
-      (no_flag c.args.s.now c.args.wire c.args.at c.if-wire-eq-VARINT.false (λ z. absurd (omega (arith, c.if-wire-eq-I64.true))));
+      (no_flag c.args.s.now c.args.wire c.args.at c.if-wire-eq-VARINT.false (λ z. absurd (omega (
+        arith,
+        c.if-wire-eq-I64.true,
+      ))));
 }
 
 pub returns-then-wire-eq-LEN : goal.returns-then-wire-eq-LEN
@@ -40,4 +43,9 @@ returns-then-wire-eq-I32 c =
 
 pub returns : goal.returns
 returns c =
-    let zero = c.if-wire-eq-VARINT.false in record { answer = value_none _ _ _ zero c.if-wire-eq-I64.false c.if-wire-eq-LEN.false c.if-wire-eq-I32.false; told = or_none c.args.padded.now (no_flag c.args.s.now c.args.wire c.args.at zero c.if-wire-eq-LEN.false) }
+    let zero = c.if-wire-eq-VARINT.false in record {
+      answer =
+          value_none _ _ _ zero c.if-wire-eq-I64.false c.if-wire-eq-LEN.false c.if-wire-eq-I32.false;
+      told =
+          or_none c.args.padded.now (no_flag c.args.s.now c.args.wire c.args.at zero c.if-wire-eq-LEN.false);
+    }

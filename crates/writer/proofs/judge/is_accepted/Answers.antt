@@ -1,10 +1,10 @@
 -- Each arm is accepted_as at its message type.
--- what an arm answers at its message type it answers for the draft
 use Rattle.prelude.proofs.Basics.{ℕ, Bool, ◌≡◌, refl, sym, ap, ◌∙◌, List}
 use Rattle.writer.proofs.Names.{accepted_as, accepted, Draft}
 use Rattle.writer.proofs.JudgeLaws.{kind_none}
 use Rattle.writer.proofs.judge.is_accepted.Goals as goal
 
+-- what an arm answers at its message type it answers for the draft
 arm : (d : Draft) (body args : List ℕ) {k : ℕ} {b : Bool} → d.kind ≡ k → b ≡ accepted_as k d.operation body args →
     b ≡ accepted d body args
 arm d body args e h = h ∙ ap (λ (k : ℕ). accepted_as k d.operation body args) (sym e)
@@ -53,6 +53,7 @@ pub returns-in_default : goal.returns-in_default
 returns-in_default c =
     kind_none c.args.draft.kind c.args.draft.operation c.args.body.now c.args.args.now
     c.in_default.in_default-own.rest.0.0.0.0.0.0.0.1
-    c.in_default.in_default-own.rest.0.0.0.0.0.0.1 c.in_default.in_default-own.rest.0.0.0.0.0.1 c.in_default.in_default-own.rest.0.0.0.0.1
+    c.in_default.in_default-own.rest.0.0.0.0.0.0.1 c.in_default.in_default-own.rest.0.0.0.0.0.1
+    c.in_default.in_default-own.rest.0.0.0.0.1
     c.in_default.in_default-own.rest.0.0.0.1
     c.in_default.in_default-own.rest.0.0.1 c.in_default.in_default-own.rest.0.1 c.in_default.in_default-own.rest.1

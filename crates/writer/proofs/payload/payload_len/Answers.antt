@@ -32,4 +32,5 @@ pub returns-in_default : goal.returns-in_default
 returns-in_default c =
     ap length (sym (as_none c.args.draft c.args.body.now c.args.args.now c.in_default.in_default-own.rest.0.0.0.0.0.1
     c.in_default.in_default-own.rest.0.0.0.0.1
-    c.in_default.in_default-own.rest.0.0.0.1 c.in_default.in_default-own.rest.0.0.1 c.in_default.in_default-own.rest.0.1 c.in_default.in_default-own.rest.1))
+    c.in_default.in_default-own.rest.0.0.0.1 c.in_default.in_default-own.rest.0.0.1
+    c.in_default.in_default-own.rest.0.1 c.in_default.in_default-own.rest.1))
