@@ -8,7 +8,7 @@ use Rattle.varint.specs.Varint.{varint_at}
 use Rattle.varint.specs.Padded.{padded_at}
 use Rattle.session.specs.Sound.{max_number}
 use Rattle.image_rules.specs.Numbers.{Front, ahead, on_varint, front_at}
-use Rattle.image.specs.private.Ends.{small, number_at}
+use Rattle.image.specs.private.Ends.{most, small, number_at}
 
 -- ---- one number
 
@@ -91,21 +91,21 @@ unfolding ahead_all
 all_then [] n f = refl
 all_then (m ∷ ns) n f = ap (ahead m) (all_then ns n f)
 
--- the loop, over an array of n numbers: what was read, and what is left to read, is the whole
-pub record Fetching (k : ℕ) (s : List ℕ) (at n : ℕ) (ns : List ℕ) (p i : ℕ) : Type 0 where
+-- the loop: what was read, and what is left to read, is the whole
+pub record Fetching (k : ℕ) (s : List ℕ) (at : ℕ) (ns : List ℕ) (p i : ℕ) : Type 0 where
   pub within : i ≤ k
-  pub room : k ≤ n
-  pub long : length ns ≡ n
+  pub room : k ≤ most
+  pub long : length ns ≡ most
   pub whole : ahead_all (take i ns) (front_at (k - i) s p) ≡ front_at k s at
 
-pub fetching_starts : (k : ℕ) (s : List ℕ) (at : ℕ) (ns : List ℕ) → k ≤ length ns →
-    Fetching k s at (length ns) ns at 0
+pub fetching_starts : (k : ℕ) (s : List ℕ) (at : ℕ) (ns : List ℕ) → k ≤ most → length ns ≡ most →
+    Fetching k s at ns at 0
 unfolding ahead_all
-fetching_starts k s at ns h =
+fetching_starts k s at ns h l =
     let e : k - 0 ≡ k = omega arith in
-    record { within = omega arith; room = h; long = refl; whole = ap (λ (n : ℕ). front_at n s at) e }
+    record { within = omega arith; room = h; long = l; whole = ap (λ (n : ℕ). front_at n s at) e }
 
-module _ {k : ℕ} {s : List ℕ} {at n : ℕ} {ns : List ℕ} {p i : ℕ} (r : Fetching k s at n ns p i) where
+module _ {k : ℕ} {s : List ℕ} {at : ℕ} {ns : List ℕ} {p i : ℕ} (r : Fetching k s at ns p i) where
   module _ (h : i < k) where
     next-front : front_at (k - i) s p
         ≡ on_varint (number_at s p) (λ n next. ahead n (front_at (k - (i + 1)) s next))
@@ -121,7 +121,7 @@ module _ {k : ℕ} {s : List ℕ} {at n : ℕ} {ns : List ℕ} {p i : ℕ} (r : 
         ∙ r.whole
 
     pub fetching_goes_on : (v next : ℕ) → Varint.Number v next ≡ number_at s p →
-        Fetching k s at n (set ns i v) next (i + 1)
+        Fetching k s at (set ns i v) next (i + 1)
     fetching_goes_on v next e =
         record {
           within = omega arith;

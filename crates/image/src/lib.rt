@@ -16,9 +16,6 @@ mod put;
 mod read;
 mod write;
 
-// The number of the form that images have.
-const FORM: u32 = 1;
-
 // The bytes that the image of any session fits.
 pub const MAX_IMAGE: usize = 1044;
 

@@ -6,6 +6,9 @@ ghost use Rattle.image.specs.private.Ends.{front_to, most, number_at};
 
 use varint::{Varint, read_short};
 
+// The numbers that are read at once: those of all statements, which are more than those of all cursors.
+pub(crate) const MOST: usize = 192;
+
 const MAX_NUMBER: u64 = 0xffff_ffff;
 
 // The most bytes that such a number has.
@@ -44,10 +47,10 @@ pub(crate) enum End {
 
 // The k numbers from the place `at` on, put into `numbers`.
 pub(crate) fn read_numbers(image: &[u8], at: usize, k: usize, numbers: &mut [u32]) -> End
-    requires k_in_bounds { k ≤ length numbers.old }
+    requires numbers_len { length numbers.old ≡ most }
     requires k_le_most { k ≤ most }
     ensures read { front_to result (take k numbers.new) ≡ front_at k image.now at }
-    ensures long { length numbers.new ≡ length numbers.old }
+    ensures long { length numbers.new ≡ most }
 {
     let mut p = at;
     let mut i = 0;

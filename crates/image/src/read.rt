@@ -1,17 +1,18 @@
 // Reading an image into a session that has no entries.
-ghost use Rattle.std.specs.Prelude.{◌≡◌, true, false, not, ℕ, [], ◌∷◌, length};
+ghost use Rattle.std.specs.Prelude.{◌≡◌, false, ℕ, [], ◌∷◌, length};
 ghost use Rattle.session.specs.Entry.{is_cursor, is_stmt, on_stmt, passes};
 ghost use Rattle.session.specs.Lists.{how_many};
-ghost use Rattle.session.specs.Tables.{fresh, place_of, stmt_at};
+ghost use Rattle.session.specs.Tables.{fresh, place_of};
 ghost use Rattle.session.specs.Words.{session_of};
 ghost use Rattle.image_rules.specs.Restore.{begun, cursor_table, cursors_at, entries_at, head_good, none, reading_of};
 ghost use Rattle.image_rules.specs.Restore.{rises, stmt_table};
-ghost use Rattle.image.specs.private.Ends.{read_all, read_to, slots};
+ghost use Rattle.image.specs.private.Ends.{read_all, read_to};
 
-use crate::FORM;
-use crate::numbers::{End, read_numbers};
+use crate::numbers::{End, MOST, read_numbers};
 use image_rules::{CursorEntry, StmtEntry};
 use session::{Cursor, MAX_CURSORS, MAX_STMTS, Place, Stmt, WORDS, Which, find, words};
+
+const FORM: u32 = 1;
 
 // The numbers of the head, of a statement and of a cursor.
 const HEAD: usize = 3;
@@ -19,11 +20,6 @@ const HEAD: usize = 3;
 const STMT: usize = 3;
 
 const CURSOR: usize = 5;
-
-// The numbers of all statements, and of all cursors.
-const STMT_NUMBERS: usize = STMT * MAX_STMTS;
-
-const CURSOR_NUMBERS: usize = CURSOR * MAX_CURSORS;
 
 // Where they stand in the head: the form first, then
 const CLOSED: usize = 1;
@@ -45,8 +41,7 @@ const LIVE: u32 = 1;
 
 const MAX_PLACEHOLDERS: u32 = 65535;
 
-// The slots that ids fall into while they are read: more than there are statements, so that few meet. The hint in a
-// slot is 0 where no statement fell into it yet; else the place of the last one that did is just below it.
+// The slots that ids fall into while they are read: more than there are statements, so that few meet.
 const SLOTS: usize = 256;
 
 // The whole image, into a session that has no entries.
@@ -55,7 +50,7 @@ pub(crate) fn take_image(words: &mut [u32; WORDS], image: &[u8]) -> bool
     ensures { read_all result (session_of words.new) (length image.now) ≡
         reading_of image.now }
 {
-    let mut head = [0; HEAD];
+    let mut head = [0; MOST];
     let End::At(at) = read_numbers(image, 0, HEAD, &mut head) else {
         return false;
     };
@@ -63,11 +58,10 @@ pub(crate) fn take_image(words: &mut [u32; WORDS], image: &[u8]) -> bool
         return false;
     }
     begin(words, head[CLOSED]);
-    let mut hints = [0; SLOTS];
-    let End::At(after) = take_stmts(words, image, at, head[STMTS], &mut hints) else {
+    let End::At(after) = take_stmts(words, image, at, head[STMTS]) else {
         return false;
     };
-    take_rest(words, image, after, &hints)
+    take_rest(words, image, after)
 }
 
 // The form, and no statements if closed.
@@ -94,47 +88,39 @@ fn begin(words: &mut [u32; WORDS], closed: u32)
 }
 
 // The cursors, with their count in front and nothing behind them, into a session that has none.
-fn take_rest(words: &mut [u32; WORDS], image: &[u8], at: usize, hints: &[u8]) -> bool
-    requires hints_len { length hints.now ≡ slots }
+fn take_rest(words: &mut [u32; WORDS], image: &[u8], at: usize) -> bool
     requires by_index { (id : ℕ) → how_many (is_cursor id) (session_of words.old).cursors ≡ 0 }
     requires by_index_2 { (id : ℕ) → how_many (on_stmt id) (session_of words.old).cursors ≡ 0 }
     ensures { read_all result (session_of words.new) (length image.now) ≡
         cursors_at image.now at (session_of words.old) }
 {
-    let mut count = [0; 1];
+    let mut count = [0; MOST];
     let End::At(behind) = read_numbers(image, at, 1, &mut count) else {
         return false;
     };
-    let End::At(end) = take_cursors(words, image, behind, count[0], hints) else {
+    let End::At(end) = take_cursors(words, image, behind, count[0]) else {
         return false;
     };
     end == image.len()
 }
 
 // The statements from the place `at` on, one after the other, into a session that has none. Their numbers are read in
-// one go. Ids that differ in their last bits, as most do, are told apart by the hints: only where an id's slot has one
-// is that id looked up.
-fn take_stmts(
-    words: &mut [u32; WORDS],
-    image: &[u8],
-    at: usize,
-    count: u32,
-    hints: &mut [u8],
-) -> End
-    requires hints_len { length hints.old ≡ slots }
-    requires by_index { (id : ℕ) → how_many (is_stmt id) (session_of words.old).stmts ≡ 0 }
+// one go. Ids that differ in their last bits, as most do, are told apart by `seen`: only where it has an id's slot is
+// that id looked up.
+fn take_stmts(words: &mut [u32; WORDS], image: &[u8], at: usize, count: u32) -> End
+    requires { (id : ℕ) → how_many (is_stmt id) (session_of words.old).stmts ≡ 0 }
     ensures read { read_to result (session_of words.new) ≡
         entries_at stmt_table count 0 image.now at (session_of words.old) }
     ensures kept { (session_of words.new).cursors ≡ (session_of words.old).cursors }
-    ensures long { length hints.new ≡ slots }
 {
     if MAX_STMTS < count as usize {
         return End::Broken;
     }
-    let mut numbers = [0; STMT_NUMBERS];
+    let mut numbers = [0; MOST];
     let End::At(end) = read_numbers(image, at, STMT * count as usize, &mut numbers) else {
         return End::Broken;
     };
+    let mut seen = [false; SLOTS];
     let mut next = 0;
     let mut i = 0;
     let mut left = count;
@@ -145,21 +131,21 @@ fn take_stmts(
             placeholders: numbers[i + PLACEHOLDERS],
         };
         let slot = e.id as usize % SLOTS;
-        if !takes_stmt(words, next, e, hints[slot]) {
+        if !takes_stmt(words, next, e, seen[slot]) {
             return End::Broken;
         }
+        seen[slot] = true;
         put_stmt(words, e);
         next = e.place + 1;
-        hints[slot] = next as u8;
         i += STMT;
         left -= 1;
     }
     End::At(end)
 }
 
-// A statement whose slot has no hint is not looked up.
-fn takes_stmt(words: &[u32; WORDS], next: u32, e: StmtEntry, hint: u8) -> bool
-    requires { hint ≡ 0 → how_many (is_stmt e.id) (session_of words.now).stmts ≡ 0 }
+// A statement whose id was not seen is not looked up.
+fn takes_stmt(words: &[u32; WORDS], next: u32, e: StmtEntry, seen: bool) -> bool
+    requires { seen ≡ false → how_many (is_stmt e.id) (session_of words.now).stmts ≡ 0 }
     ensures { result ≡ stmt_table.takes next e (session_of words.now) }
 {
     if !rises(MAX_STMTS, next, e.place) {
@@ -168,7 +154,7 @@ fn takes_stmt(words: &[u32; WORDS], next: u32, e: StmtEntry, hint: u8) -> bool
     if MAX_PLACEHOLDERS < e.placeholders {
         return false;
     }
-    if hint == 0 {
+    if !seen {
         return true;
     }
     is_none(find::find_stmt(words, e.id))
@@ -205,8 +191,7 @@ fn put_stmt(words: &mut [u32; WORDS], e: StmtEntry)
 }
 
 // The cursors from the place `at` on, into a session that has none.
-fn take_cursors(words: &mut [u32; WORDS], image: &[u8], at: usize, count: u32, hints: &[u8]) -> End
-    requires hints_len { length hints.now ≡ slots }
+fn take_cursors(words: &mut [u32; WORDS], image: &[u8], at: usize, count: u32) -> End
     requires by_index { (id : ℕ) → how_many (is_cursor id) (session_of words.old).cursors ≡ 0 }
     requires by_index_2 { (id : ℕ) → how_many (on_stmt id) (session_of words.old).cursors ≡ 0 }
     ensures { read_to result (session_of words.new) ≡
@@ -215,7 +200,7 @@ fn take_cursors(words: &mut [u32; WORDS], image: &[u8], at: usize, count: u32, h
     if MAX_CURSORS < count as usize {
         return End::Broken;
     }
-    let mut numbers = [0; CURSOR_NUMBERS];
+    let mut numbers = [0; MOST];
     let End::At(end) = read_numbers(image, at, CURSOR * count as usize, &mut numbers) else {
         return End::Broken;
     };
@@ -234,7 +219,7 @@ fn take_cursors(words: &mut [u32; WORDS], image: &[u8], at: usize, count: u32, h
         };
         let own = e.id as usize % SLOTS;
         let on = e.stmt as usize % SLOTS;
-        if !takes_cursor(words, next, e, hints[on], ids[own], stmts[on]) {
+        if !takes_cursor(words, next, e, ids[own], stmts[on]) {
             return End::Broken;
         }
         ids[own] = true;
@@ -248,14 +233,7 @@ fn take_cursors(words: &mut [u32; WORDS], image: &[u8], at: usize, count: u32, h
 }
 
 // A cursor whose id was not seen is not looked up, nor is one on a statement that was not seen.
-fn takes_cursor(
-    words: &[u32; WORDS],
-    next: u32,
-    e: CursorEntry,
-    hint: u8,
-    seen: bool,
-    carries: bool,
-) -> bool
+fn takes_cursor(words: &[u32; WORDS], next: u32, e: CursorEntry, seen: bool, carries: bool) -> bool
     requires words_value { seen ≡ false → how_many (is_cursor e.id) (session_of words.now).cursors ≡ 0 }
     requires words_value_2 { carries ≡ false → how_many (on_stmt e.stmt) (session_of words.now).cursors ≡ 0 }
     ensures { result ≡ cursor_table.takes next e (session_of words.now) }
@@ -266,42 +244,13 @@ fn takes_cursor(
     if e.rows < e.sent {
         return false;
     }
-    if !is_listed(words, hint, e.stmt) {
+    if is_none(find::find_stmt(words, e.stmt)) {
         return false;
     }
     if !is_new(words, Which::Id(e.id), seen) {
         return false;
     }
     is_new(words, Which::On(e.stmt), carries)
-}
-
-// Whether a statement of this id is live. A hint that tells its place spares the search.
-fn is_listed(words: &[u32; WORDS], hint: u8, id: u32) -> bool
-    ensures { result ≡ not (none (stmt_at (session_of words.now) id)) }
-{
-    if stands_at(words, hint, id) {
-        return true;
-    }
-    !is_none(find::find_stmt(words, id))
-}
-
-// Whether the hint tells a place where a statement of this id is live.
-fn stands_at(words: &[u32; WORDS], hint: u8, id: u32) -> bool
-    ensures { result ≡ true → none (stmt_at (session_of words.now) id) ≡ false }
-{
-    if hint == 0 {
-        return false;
-    }
-    is_stmt(words::stmt_at(words, Place::At(hint as usize - 1)), id)
-}
-
-fn is_stmt(t: Stmt, id: u32) -> bool
-    ensures { result ≡ is_stmt id t }
-{
-    if t.live == 0 {
-        return false;
-    }
-    t.id == id
 }
 
 // Whether no cursor passes the test; where none can, there is no search.

@@ -17,7 +17,7 @@ use image_rules::Written;
 use protocol::reason;
 use session::{Cursor, Place, Stmt, WORDS, count, words};
 
-const FORM: u64 = crate::FORM as u64;
+const FORM: u64 = 1;
 
 // The whole image, from the front of the buffer on.
 pub(crate) fn put_image(buf: &mut [u8], words: &[u32; WORDS]) -> usize

@@ -11,14 +11,14 @@ pub slice_bounds-hand_over-end : goal.slice_bounds-hand_over-end
 slice_bounds-hand_over-end c =
     let room : length (image_of (session_of c.args.words.now))
     ≤ length (replicate {A = ℕ} max_image 0) = omega (arith, c.put_image-len.ensures.short) in
-    sym (length-take-le c.put_image-len.result _ (front_within room c.put_image-len.ensures.put))
+    sym (length-take-le c.put_image-len.result _ (front_within (room) c.put_image-len.ensures.put))
 
 pub returns : goal.returns
 returns c =
     let room : length (image_of (session_of c.args.words.now))
     ≤ length (replicate {A = ℕ} max_image 0) = omega (arith, c.put_image-len.ensures.short) in
     let b = c.args.buf.now in
-    let image = front room c.put_image-len.ensures.put in record {
+    let image = front (room) c.put_image-len.ensures.put in record {
       answer =
           c.hand_over.ensures.answer ∙ ap (λ (l : List ℕ). handed l b) image;
       buffer =

@@ -11,7 +11,7 @@ use Rattle.image_rules.specs.Image.{stmt_width}
 use Rattle.image_rules.specs.Restore.{Reading}
 use Rattle.image.specs.declared.numbers.End.{End}
 
--- the numbers that are read at once are at most those of all statements
+-- the numbers that are read at once
 abbrev pub most : ℕ
 most = max_stmts * stmt_width
 

@@ -26,5 +26,6 @@ returns c = record {
   answer = c.text_at.ensures.answer
       ∙ text_cut c.args.s.now c.args.at c.args.n (omega arith);
   told =
-      c.text_at.ensures.told ∙ or_same c.args.padded.now (text_flag_cut c.args.s.now c.args.at c.args.n (omega arith));
+      c.text_at.ensures.told ∙ or_same c.args.padded.now (text_flag_cut c.args.s.now c.args.at c.args.n
+          (omega arith));
 }

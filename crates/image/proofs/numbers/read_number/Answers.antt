@@ -27,7 +27,7 @@ returns-then-b-lt-MORE c =
     c.if-a-lt-MORE.false c.octet-a.ensures.small in
     let room : (c.args.at) + 4 < length (c.args.image.now) = omega (arith, c.if-n-at-lt-LONGEST.false) in
     c.number_of.ensures
-    ∙ marked_last one-read (omega arith) (omega (arith, room)) c.octet-b.result
+    ∙ marked_last (one-read) (omega arith) (omega (arith, room)) c.octet-b.result
     c.octet-b.ensures.answer c.if-b-lt-MORE.true _ _ refl refl (omega arith)
 
 pub returns-then-c-lt-MORE : goal.returns-then-c-lt-MORE
@@ -37,10 +37,10 @@ returns-then-c-lt-MORE c =
     c.if-a-lt-MORE.false c.octet-a.ensures.small in
     let room : (c.args.at) + 4 < length (c.args.image.now) = omega (arith, c.if-n-at-lt-LONGEST.false) in
     let two-read : (Marked (c.args.image.now) (c.args.at) ((c.octet-a.result) + c.octet-b.result * 128)
-    (128 + 128 ^ 2) 2) = marked_on one-read (omega arith) (omega (arith, room)) c.octet-b.result
+    (128 + 128 ^ 2) 2) = marked_on (one-read) (omega arith) (omega (arith, room)) c.octet-b.result
     c.octet-b.ensures.answer c.if-b-lt-MORE.false c.octet-b.ensures.small in
     c.number_of-then-c-lt-MORE.ensures
-    ∙ marked_last two-read (omega arith) (omega (arith, room)) c.octet-c.result
+    ∙ marked_last (two-read) (omega arith) (omega (arith, room)) c.octet-c.result
     c.octet-c.ensures.answer c.if-c-lt-MORE.true _ _ refl refl (omega arith)
 
 pub returns-then-d-lt-MORE : goal.returns-then-d-lt-MORE
@@ -50,14 +50,14 @@ returns-then-d-lt-MORE c =
     c.if-a-lt-MORE.false c.octet-a.ensures.small in
     let room : (c.args.at) + 4 < length (c.args.image.now) = omega (arith, c.if-n-at-lt-LONGEST.false) in
     let two-read : (Marked (c.args.image.now) (c.args.at) ((c.octet-a.result) + c.octet-b.result * 128)
-    (128 + 128 ^ 2) 2) = marked_on one-read (omega arith) (omega (arith, room)) c.octet-b.result
+    (128 + 128 ^ 2) 2) = marked_on (one-read) (omega arith) (omega (arith, room)) c.octet-b.result
     c.octet-b.ensures.answer c.if-b-lt-MORE.false c.octet-b.ensures.small in
     let three-read : (Marked (c.args.image.now) (c.args.at)
     (((c.octet-a.result) + c.octet-b.result * 128) + c.octet-c.result * 128 ^ 2) (128 + 128 ^ 2 + 128 ^ 3) 3) =
-    marked_on two-read (omega arith) (omega (arith, room)) c.octet-c.result
+    marked_on (two-read) (omega arith) (omega (arith, room)) c.octet-c.result
     c.octet-c.ensures.answer c.if-c-lt-MORE.false c.octet-c.ensures.small in
     c.number_of-then-d-lt-MORE.ensures
-    ∙ marked_last three-read (omega arith) (omega (arith, room)) c.octet-d.result
+    ∙ marked_last (three-read) (omega arith) (omega (arith, room)) c.octet-d.result
     c.octet-d.ensures.answer c.if-d-lt-MORE.true _ _ refl refl (omega arith)
 
 pub returns-then-e-ge-FIFTH_LIMIT : goal.returns-then-e-ge-FIFTH_LIMIT
@@ -67,18 +67,18 @@ returns-then-e-ge-FIFTH_LIMIT c =
     c.if-a-lt-MORE.false c.octet-a.ensures.small in
     let room : (c.args.at) + 4 < length (c.args.image.now) = omega (arith, c.if-n-at-lt-LONGEST.false) in
     let two-read : (Marked (c.args.image.now) (c.args.at) ((c.octet-a.result) + c.octet-b.result * 128)
-    (128 + 128 ^ 2) 2) = marked_on one-read (omega arith) (omega (arith, room)) c.octet-b.result
+    (128 + 128 ^ 2) 2) = marked_on (one-read) (omega arith) (omega (arith, room)) c.octet-b.result
     c.octet-b.ensures.answer c.if-b-lt-MORE.false c.octet-b.ensures.small in
     let three-read : (Marked (c.args.image.now) (c.args.at)
     (((c.octet-a.result) + c.octet-b.result * 128) + c.octet-c.result * 128 ^ 2) (128 + 128 ^ 2 + 128 ^ 3) 3) =
-    marked_on two-read (omega arith) (omega (arith, room)) c.octet-c.result
+    marked_on (two-read) (omega arith) (omega (arith, room)) c.octet-c.result
     c.octet-c.ensures.answer c.if-c-lt-MORE.false c.octet-c.ensures.small in
     let four-read : (Marked (c.args.image.now) (c.args.at)
     ((((c.octet-a.result) + c.octet-b.result * 128) + c.octet-c.result * 128 ^ 2) + c.octet-d.result * 128 ^
     3) (128 + 128 ^ 2 + 128 ^ 3 + 128 ^ 4) 4) =
-    marked_on three-read (omega arith) (omega (arith, room)) c.octet-d.result
+    marked_on (three-read) (omega arith) (omega (arith, room)) c.octet-d.result
     c.octet-d.ensures.answer c.if-d-lt-MORE.false c.octet-d.ensures.small in
-    fifth_over four-read room c.octet-e.result c.octet-e.ensures.answer
+    fifth_over (four-read) (room) c.octet-e.result c.octet-e.ensures.answer
     c.if-e-ge-FIFTH_LIMIT.true c.octet-e.ensures.small
 
 pub returns : goal.returns
@@ -88,17 +88,17 @@ returns c =
     c.if-a-lt-MORE.false c.octet-a.ensures.small in
     let room : (c.args.at) + 4 < length (c.args.image.now) = omega (arith, c.if-n-at-lt-LONGEST.false) in
     let two-read : (Marked (c.args.image.now) (c.args.at) ((c.octet-a.result) + c.octet-b.result * 128)
-    (128 + 128 ^ 2) 2) = marked_on one-read (omega arith) (omega (arith, room)) c.octet-b.result
+    (128 + 128 ^ 2) 2) = marked_on (one-read) (omega arith) (omega (arith, room)) c.octet-b.result
     c.octet-b.ensures.answer c.if-b-lt-MORE.false c.octet-b.ensures.small in
     let three-read : (Marked (c.args.image.now) (c.args.at)
     (((c.octet-a.result) + c.octet-b.result * 128) + c.octet-c.result * 128 ^ 2) (128 + 128 ^ 2 + 128 ^ 3) 3) =
-    marked_on two-read (omega arith) (omega (arith, room)) c.octet-c.result
+    marked_on (two-read) (omega arith) (omega (arith, room)) c.octet-c.result
     c.octet-c.ensures.answer c.if-c-lt-MORE.false c.octet-c.ensures.small in
     let four-read : (Marked (c.args.image.now) (c.args.at)
     ((((c.octet-a.result) + c.octet-b.result * 128) + c.octet-c.result * 128 ^ 2) + c.octet-d.result * 128 ^
     3) (128 + 128 ^ 2 + 128 ^ 3 + 128 ^ 4) 4) =
-    marked_on three-read (omega arith) (omega (arith, room)) c.octet-d.result
+    marked_on (three-read) (omega arith) (omega (arith, room)) c.octet-d.result
     c.octet-d.ensures.answer c.if-d-lt-MORE.false c.octet-d.ensures.small in
     c.number_of-2.ensures
-    ∙ marked_last four-read (omega arith) room c.octet-e.result
+    ∙ marked_last (four-read) (omega arith) (room) c.octet-e.result
     c.octet-e.ensures.answer (omega arith) _ _ refl refl (omega arith)

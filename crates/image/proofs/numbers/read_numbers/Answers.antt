@@ -6,10 +6,11 @@ use Rattle.image.proofs.NumberLaws.{fetching_ends}
 use Rattle.image.proofs.numbers.read_numbers.Goals as goal
 
 pub loop-i-init : goal.loop-i-init
-loop-i-init c = fetching_starts c.args.k c.args.image.now c.args.at c.args.numbers.now c.requires.k_in_bounds
+loop-i-init c = fetching_starts c.args.k c.args.image.now c.args.at c.args.numbers.now c.requires.k_le_most
+    c.requires.numbers_len
 
 pub shape_of-numbers-in_default : goal.shape_of-numbers-in_default
-shape_of-numbers-in_default c = c.loop-i.invariant.long
+shape_of-numbers-in_default c = c.loop-i.invariant.long ∙ sym c.requires.numbers_len
 
 pub returns-in_default : goal.returns-in_default
 returns-in_default c = let l = c.loop-i.invariant in record {
@@ -23,7 +24,7 @@ overflow_cast-numbers c = omega (arith, number_small _ _ _ _ (sym c.read_number.
 
 pub offset_bounds-numbers-i : goal.offset_bounds-numbers-i
 offset_bounds-numbers-i c =
-    let few : c.loop-i.i < most = omega (arith, c.loop-i-test.true, c.requires.k_le_most) in
+    let few : c.loop-i.i < most = omega (arith, c.loop-i-test.true, c.loop-i.invariant.room) in
     omega (arith, few)
 
 -- a place of the array
@@ -32,7 +33,7 @@ bounds-numbers-i c = omega (arith, c.loop-i-test.true, c.loop-i.invariant.room, 
 
 pub overflow_add-i : goal.overflow_add-i
 overflow_add-i c =
-    let few : c.loop-i.i < most = omega (arith, c.loop-i-test.true, c.requires.k_le_most) in
+    let few : c.loop-i.i < most = omega (arith, c.loop-i-test.true, c.loop-i.invariant.room) in
     omega (arith, few)
 
 pub loop-i-smaller : goal.loop-i-smaller
@@ -43,7 +44,7 @@ loop-i-preserved c = fetching_goes_on c.loop-i.invariant c.loop-i-test.true _ _
     (sym c.in-Number.is ∙ c.read_number.ensures)
 
 pub shape_of-numbers : goal.shape_of-numbers
-shape_of-numbers c = c.loop-i.invariant.long
+shape_of-numbers c = c.loop-i.invariant.long ∙ sym c.requires.numbers_len
 
 pub returns : goal.returns
 returns c = record { read = fetching_ends c.loop-i.invariant c.loop-i-test.false; long = c.loop-i.invariant.long }

@@ -1,14 +1,11 @@
 -- What was taken, and what is left to take, is the whole; and what was not seen is not live yet.
-use Rattle.prelude.proofs.Basics.{ℕ, ◌+◌, ◌*◌, ◌%◌, ◌<◌, ◌≤◌, arith, true, false, true≢false, refl, sym, ap}
-use Rattle.prelude.proofs.Basics.{◌∙◌, length, drop-drop}
-use lib.ListN.{length-replicate}
+use Rattle.prelude.proofs.Basics.{◌+◌, ◌*◌, ◌≤◌, arith, refl, sym, ap, ◌∙◌, drop-drop}
 use Rattle.session.specs.declared.Place.{Place}
 use Rattle.session.specs.Entry.{new_cursor, is_live_cursor}
 use Rattle.session.specs.Tables.{max_cursors}
 use Rattle.session.specs.Words.{session_of}
 use Rattle.image_rules.specs.Image.{cursor_width}
 use Rattle.image_rules.specs.Restore.{cursor_table}
-use Rattle.image.specs.private.Ends.{slots}
 use Rattle.image.proofs.TakeLaws.{entries_few, entries_refuse, entries_go_on, entries_end}
 use Rattle.image.proofs.TakeLaws.{front_broken, front_at_lem, cursor_from, cursor_entry_lem, cursor_places, all_there}
 use Rattle.image.proofs.TakeLaws.{not_there}
@@ -26,11 +23,7 @@ pub overflow_mul-count : goal.overflow_mul-count
 overflow_mul-count c = omega (arith, c.if-count-gt-MAX_CURSORS.false)
 
 pub read_numbers-requires : goal.read_numbers-requires
-read_numbers-requires c = record {
-  k_in_bounds = omega (arith, c.if-count-gt-MAX_CURSORS.false);
-  k_le_most =
-      omega (arith, c.if-count-gt-MAX_CURSORS.false);
-}
+read_numbers-requires c = record { numbers_len = refl; k_le_most = omega (arith, c.if-count-gt-MAX_CURSORS.false) }
 
 pub returns-in_default : goal.returns-in_default
 returns-in_default c = not_there cursor_table _ _ _ _ (front_broken _ _ c.in_default.is c.read_numbers.ensures.read)
@@ -41,8 +34,8 @@ loop-left-init c = (
   (
     omega arith,
     (
-      unseen_starts is_live_cursor (λ c. c.id) false _ (length-replicate slots false) _ c.requires.by_index,
-      unseen_starts is_live_cursor (λ c. c.stmt) false _ (length-replicate slots false) _ c.requires.by_index_2,
+      unseen_starts is_live_cursor (λ c. c.id) _ c.requires.by_index,
+      unseen_starts is_live_cursor (λ c. c.stmt) _ c.requires.by_index_2,
     ),
   ),
 )
@@ -159,12 +152,6 @@ bounds-numbers-i-in-loop-left-4 c =
     omega (arith, inside, c.if-count-gt-MAX_CURSORS.false) in
     omega (arith, few)
 
-pub bounds-hints-on : goal.bounds-hints-on
-bounds-hints-on c =
-    let hinted : (id : ℕ) →
-    id % slots < length c.args.hints.now = (λ id. omega (arith, slot_inside id, c.requires.hints_len)) in
-    (hinted _)
-
 pub bounds-ids-own : goal.bounds-ids-own
 bounds-ids-own c = slot_inside _
 
@@ -183,7 +170,7 @@ returns-then-not-takes_cursor c =
     let inside : c.loop-left.i + cursor_width ≤ cursor_width * (c.args.count) =
     omega (arith, c.loop-left-test.true, c.loop-left.invariant.1.0) in
     let ns = c.read_numbers.new.numbers in
-    entries_refuse cursor_table _ _ _ _ _ (cursor_from ns c.loop-left.i) (cursor_entry_lem ns _ _ inside)
+    entries_refuse cursor_table _ _ _ _ _ (cursor_from ns c.loop-left.i) (cursor_entry_lem ns _ _ (inside))
     c.loop-left-test.true (sym c.takes_cursor.ensures ∙ c.if-not-takes_cursor.true)
     ∙ c.loop-left.invariant.0
 
@@ -220,17 +207,15 @@ loop-left-preserved c =
     let new = new_cursor it.id it.stmt it.rows it.sent in
     let put = ap (λ x. x.cursors) c.put_cursor.ensures in
     let more =
-    entries_go_on cursor_table _ _ _ _ _ it (cursor_entry_lem ns _ _ inside) c.loop-left-test.true
+    entries_go_on cursor_table _ _ _ _ _ it (cursor_entry_lem ns _ _ (inside)) c.loop-left-test.true
     (sym c.takes_cursor.ensures ∙ c.if-not-takes_cursor.false) c.put_cursor.ensures
     (drop-drop cursor_width i _) ∙ h.0 in (
       more,
       (
         omega (arith, c.loop-left-test.true, h.1.0),
         (
-          unseen_goes_on is_live_cursor (λ c. c.id) false h.1.1.0 new refl (Place.At it.place) true true≢false
-              put,
-          unseen_goes_on is_live_cursor (λ c. c.stmt) false h.1.1.1 new refl (Place.At it.place) true
-              true≢false put,
+          unseen_goes_on is_live_cursor (λ c. c.id) h.1.1.0 new refl (Place.At it.place) put,
+          unseen_goes_on is_live_cursor (λ c. c.stmt) h.1.1.1 new refl (Place.At it.place) put,
         ),
       ),
     )

@@ -8,7 +8,7 @@ use Rattle.image.proofs.WholeLaws.{read_broken, read_at, whole_broken, whole_hea
 use Rattle.image.proofs.read.take_image.Goals as goal
 
 pub read_numbers-requires : goal.read_numbers-requires
-read_numbers-requires c = record { k_in_bounds = omega arith; k_le_most = omega arith }
+read_numbers-requires c = record { numbers_len = refl; k_le_most = omega arith }
 
 pub returns-in_default : goal.returns-in_default
 returns-in_default c = whole_broken _ (front_broken _ _ c.in_default.is c.read_numbers.ensures.read)
@@ -23,11 +23,8 @@ begin-requires c = c.requires
 
 -- no statement is live before the first is taken
 pub take_stmts-requires : goal.take_stmts-requires
-take_stmts-requires c = record {
-  hints_len = refl;
-  by_index = λ id. ap (λ s. how_many (is_stmt id) s.stmts) c.begin.ensures
-      ∙ begun_none (get_or c.read_numbers.new.numbers 1 0) id;
-}
+take_stmts-requires c = λ id. ap (λ s. how_many (is_stmt id) s.stmts) c.begin.ensures
+    ∙ begun_none (get_or c.read_numbers.new.numbers 1 0) id
 
 pub returns-in_default-take_stmts : goal.returns-in_default-take_stmts
 returns-in_default-take_stmts c = whole_refused _ c.read_numbers.new.numbers _
@@ -39,8 +36,6 @@ returns-in_default-take_stmts c = whole_refused _ c.read_numbers.new.numbers _
 pub take_rest-requires : goal.take_rest-requires
 take_rest-requires c = let closed = get_or c.read_numbers.new.numbers 1 0 in
     let same = c.take_stmts.ensures.kept ∙ ap (λ s. s.cursors) c.begin.ensures in record {
-      hints_len =
-          c.take_stmts.ensures.long;
       by_index =
           λ id. ap (λ cs. how_many (is_cursor id) cs) same ∙ begun_no_cursor closed id;
       by_index_2 =

@@ -1,22 +1,17 @@
 -- The count, the cursors and the end in turn.
-use Rattle.prelude.proofs.Basics.{arith}
+use Rattle.prelude.proofs.Basics.{arith, refl}
 use Rattle.image.proofs.TakeLaws.{front_broken, front_at_lem}
 use Rattle.image.proofs.WholeLaws.{read_broken, read_at, rest_broken, rest_refused, rest_read}
 use Rattle.image.proofs.read.take_rest.Goals as goal
 
 pub read_numbers-requires : goal.read_numbers-requires
-read_numbers-requires c = record { k_in_bounds = omega arith; k_le_most = omega arith }
+read_numbers-requires c = record { numbers_len = refl; k_le_most = omega arith }
 
 pub returns-in_default : goal.returns-in_default
 returns-in_default c = rest_broken _ _ _ (front_broken _ _ c.in_default.is c.read_numbers.ensures.read)
 
 pub take_cursors-requires : goal.take_cursors-requires
-take_cursors-requires c = record {
-  hints_len = c.requires.hints_len;
-  by_index = c.requires.by_index;
-  by_index_2 =
-      c.requires.by_index_2;
-}
+take_cursors-requires c = record { by_index = c.requires.by_index; by_index_2 = c.requires.by_index_2 }
 
 pub returns-in_default-take_cursors : goal.returns-in_default-take_cursors
 returns-in_default-take_cursors c = rest_refused _ _ _ c.read_numbers.new.numbers _

@@ -1,13 +1,11 @@
 -- What was taken, and what is left to take, is the whole; and an id whose slot was not seen is not live yet.
-use Rattle.prelude.proofs.Basics.{ℕ, ◌+◌, ◌*◌, ◌%◌, ◌<◌, ◌≤◌, arith, ◌≡◌, refl, sym, ap, ◌∙◌, length}
-use Rattle.prelude.proofs.Basics.{drop-drop}
+use Rattle.prelude.proofs.Basics.{◌+◌, ◌*◌, ◌≤◌, arith, refl, sym, ap, ◌∙◌, drop-drop}
 use Rattle.session.specs.declared.Place.{Place}
 use Rattle.session.specs.Entry.{new_stmt, is_live_stmt}
 use Rattle.session.specs.Tables.{max_stmts}
 use Rattle.session.specs.Words.{session_of}
 use Rattle.image_rules.specs.Image.{stmt_width}
 use Rattle.image_rules.specs.Restore.{stmt_table}
-use Rattle.image.specs.private.Ends.{slots}
 use Rattle.image.proofs.TakeLaws.{entries_few, entries_refuse, entries_go_on, entries_end}
 use Rattle.image.proofs.TakeLaws.{front_broken, front_at_lem, stmt_from, stmt_entry_lem, stmt_places, all_there}
 use Rattle.image.proofs.TakeLaws.{not_there}
@@ -22,29 +20,27 @@ returns-then-count-gt-MAX_STMTS c = record {
         c.if-count-gt-MAX_STMTS.true,
       ));
   kept = refl;
-  long = c.requires.hints_len;
 }
 
 pub overflow_mul-count : goal.overflow_mul-count
 overflow_mul-count c = omega (arith, c.if-count-gt-MAX_STMTS.false)
 
 pub read_numbers-requires : goal.read_numbers-requires
-read_numbers-requires c = record {
-  k_in_bounds = omega (arith, c.if-count-gt-MAX_STMTS.false);
-  k_le_most =
-      omega (arith, c.if-count-gt-MAX_STMTS.false);
-}
+read_numbers-requires c = record { numbers_len = refl; k_le_most = omega (arith, c.if-count-gt-MAX_STMTS.false) }
 
 pub returns-in_default : goal.returns-in_default
-returns-in_default c = let e = front_broken _ _ c.in_default.is c.read_numbers.ensures.read in
-    record { read = not_there stmt_table _ _ _ _ e; kept = refl; long = c.requires.hints_len }
+returns-in_default c = record {
+  read =
+      not_there stmt_table _ _ _ _ (front_broken _ _ c.in_default.is c.read_numbers.ensures.read);
+  kept = refl;
+}
 
 pub loop-left-init : goal.loop-left-init
 loop-left-init c = (
   all_there stmt_table _ _ _ _ _ _ (front_at_lem _ _ c.in-At.is c.read_numbers.ensures.read),
   (
     omega arith,
-    (unseen_starts is_live_stmt (λ t. t.id) 0 _ c.requires.hints_len _ c.requires.by_index, refl),
+    (unseen_starts is_live_stmt (λ t. t.id) _ c.requires, refl),
   ),
 )
 
@@ -112,55 +108,34 @@ bounds-numbers-i-in-loop-left-2 c =
     omega (arith, inside, c.if-count-gt-MAX_STMTS.false) in
     omega (arith, few)
 
-pub bounds-hints-slot : goal.bounds-hints-slot
-bounds-hints-slot c =
-    let slotted : (id : ℕ) → id % slots < length c.loop-left.hints =
-    (λ id. omega (arith, slot_inside id, c.loop-left.invariant.1.1.0.long)) in
-    (slotted _)
+pub bounds-seen-slot : goal.bounds-seen-slot
+bounds-seen-slot c = slot_inside _
 
 pub takes_stmt-requires : goal.takes_stmt-requires
 takes_stmt-requires c = c.loop-left.invariant.1.1.0.none _
-
-pub shape_of-hints-then-not-takes_stmt : goal.shape_of-hints-then-not-takes_stmt
-shape_of-hints-then-not-takes_stmt c =
-    let same : length c.loop-left.hints ≡ length c.args.hints.now =
-    c.loop-left.invariant.1.1.0.long ∙ sym c.requires.hints_len in
-    same
 
 pub returns-then-not-takes_stmt : goal.returns-then-not-takes_stmt
 returns-then-not-takes_stmt c =
     let inside : c.loop-left.i + stmt_width ≤ stmt_width * (c.args.count) =
     omega (arith, c.loop-left-test.true, c.loop-left.invariant.1.0) in
     let h = c.loop-left.invariant in
-    let ns = (c.read_numbers.new.numbers) in record {
-      read = entries_refuse stmt_table _ _ _ _ _ (stmt_from ns c.loop-left.i) (stmt_entry_lem ns _ _ inside)
+    let ns = c.read_numbers.new.numbers in record {
+      read = entries_refuse stmt_table _ _ _ _ _ (stmt_from ns c.loop-left.i) (stmt_entry_lem ns _ _ (inside))
           c.loop-left-test.true (sym c.takes_stmt.ensures ∙ c.if-not-takes_stmt.true)
           ∙ h.0;
       kept = h.1.1.1;
-      long = h.1.1.0.long;
     }
 
+pub bounds-seen-slot-in-loop-left : goal.bounds-seen-slot-in-loop-left
+bounds-seen-slot-in-loop-left c = slot_inside _
+
 pub overflow_add-next : goal.overflow_add-next
-overflow_add-next c =
-    let placed : (stmt_from (c.read_numbers.new.numbers)
-    c.loop-left.i).place < max_stmts =
-    (stmt_places c.loop-left.next (stmt_from (c.read_numbers.new.numbers) c.loop-left.i)
-    (session_of c.loop-left.words) (sym c.takes_stmt.ensures ∙ c.if-not-takes_stmt.false)).1 in
-    omega (arith, placed)
-
-pub overflow_cast-hints : goal.overflow_cast-hints
-overflow_cast-hints c =
-    let placed : (stmt_from (c.read_numbers.new.numbers)
-    c.loop-left.i).place < max_stmts =
-    (stmt_places c.loop-left.next (stmt_from (c.read_numbers.new.numbers) c.loop-left.i)
-    (session_of c.loop-left.words) (sym c.takes_stmt.ensures ∙ c.if-not-takes_stmt.false)).1 in
-    omega (arith, placed)
-
-pub bounds-hints-slot-in-loop-left : goal.bounds-hints-slot-in-loop-left
-bounds-hints-slot-in-loop-left c =
-    let slotted : (id : ℕ) → id % slots < length c.loop-left.hints =
-    (λ id. omega (arith, slot_inside id, c.loop-left.invariant.1.1.0.long)) in
-    (slotted _)
+overflow_add-next c = let ns = c.read_numbers.new.numbers in
+    omega (
+      arith,
+      (stmt_places c.loop-left.next (stmt_from ns c.loop-left.i) (session_of c.loop-left.words)
+          (sym c.takes_stmt.ensures ∙ c.if-not-takes_stmt.false)).1,
+    )
 
 pub overflow_add-i : goal.overflow_add-i
 overflow_add-i c =
@@ -176,35 +151,23 @@ loop-left-preserved c =
     omega (arith, c.loop-left-test.true, c.loop-left.invariant.1.0) in
     let h = c.loop-left.invariant in
     let i = c.loop-left.i in
-    let ns = (c.read_numbers.new.numbers) in
+    let ns = c.read_numbers.new.numbers in
     let it = stmt_from ns i in
     let more =
-    entries_go_on stmt_table _ _ _ _ _ it (stmt_entry_lem ns _ _ inside) c.loop-left-test.true
+    entries_go_on stmt_table _ _ _ _ _ it (stmt_entry_lem ns _ _ (inside)) c.loop-left-test.true
     (sym c.takes_stmt.ensures ∙ c.if-not-takes_stmt.false) c.put_stmt.ensures
     (drop-drop stmt_width i _) ∙ h.0 in (
       more,
       (
         omega (arith, c.loop-left-test.true, h.1.0),
         (
-          unseen_goes_on is_live_stmt (λ t. t.id) 0 h.1.1.0 (new_stmt it.id it.placeholders) refl
-              (Place.At it.place) (it.place + 1) (λ e. omega (arith, e))
-              (ap (λ x. x.stmts) c.put_stmt.ensures),
+          unseen_goes_on is_live_stmt (λ t. t.id) h.1.1.0 (new_stmt it.id it.placeholders) refl
+              (Place.At it.place) (ap (λ x. x.stmts) c.put_stmt.ensures),
           ap (λ x. x.cursors) c.put_stmt.ensures ∙ h.1.1.1,
         ),
       ),
     )
 
-pub shape_of-hints : goal.shape_of-hints
-shape_of-hints c =
-    let same : length c.loop-left.hints ≡ length c.args.hints.now =
-    c.loop-left.invariant.1.1.0.long ∙ sym c.requires.hints_len in
-    same
-
 pub returns : goal.returns
 returns c = let h = c.loop-left.invariant in
-    record {
-      read = entries_end stmt_table _ _ _ _ _ c.loop-left-test.false ∙ h.0;
-      kept = h.1.1.1;
-      long =
-          h.1.1.0.long;
-    }
+    record { read = entries_end stmt_table _ _ _ _ _ c.loop-left-test.false ∙ h.0; kept = h.1.1.1 }

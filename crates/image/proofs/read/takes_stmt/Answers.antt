@@ -1,4 +1,4 @@
--- The tests of the definition in turn; an id whose slot has no hint is not live.
+-- The tests of the definition in turn; an id that was not seen is not live.
 use Rattle.prelude.proofs.Basics.{sym, ap, ◌∙◌, le-leb, lt-leb}
 use Rattle.image_rules.specs.Restore.{none}
 use Rattle.image_rules.proofs.StoreLaws.{zero_none}
@@ -12,10 +12,10 @@ pub returns-then-e-gt-MAX_PLACEHOLDERS : goal.returns-then-e-gt-MAX_PLACEHOLDERS
 returns-then-e-gt-MAX_PLACEHOLDERS c =
     and_on (sym c.rises.ensures ∙ c.if-not-rises.false) (and_off _ (lt-leb _ _ c.if-e-gt-MAX_PLACEHOLDERS.true))
 
-pub returns-then-hint-eq0 : goal.returns-then-hint-eq0
-returns-then-hint-eq0 c = and_on (sym c.rises.ensures ∙ c.if-not-rises.false)
+pub returns-then-not-seen : goal.returns-then-not-seen
+returns-then-not-seen c = and_on (sym c.rises.ensures ∙ c.if-not-rises.false)
     (and_on (le-leb _ _ c.if-e-gt-MAX_PLACEHOLDERS.false)
-    (sym (zero_none _ _ (c.requires c.if-hint-eq0.true))))
+    (sym (zero_none _ _ (c.requires (c.if-not-seen.true)))))
 
 pub returns : goal.returns
 returns c = and_on (sym c.rises.ensures ∙ c.if-not-rises.false)

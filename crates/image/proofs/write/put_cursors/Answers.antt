@@ -43,7 +43,7 @@ pub loop-left-preserved : goal.loop-left-preserved
 loop-left-preserved c =
     let inside : c.loop-left.i < max_cursors = within c.loop-left.invariant c.loop-left-test.true in
     let words = c.args.words.now in
-    let same = c.cursor_at-c.ensures ∙ get_d_build (cursor_in words) max_cursors c.loop-left.i no_cursor inside in
+    let same = c.cursor_at-c.ensures ∙ get_d_build (cursor_in words) max_cursors c.loop-left.i no_cursor (inside) in
     fills_on c.loop-left.invariant c.loop-left-test.true c.one-left.result
     (c.one-left.ensures ∙ ap (λ x. cond (is_live_cursor x) 1 0) same) (ap (cursor_bytes_at c.loop-left.i) same)
     (c.put_cursor-p.ensures.put, c.put_cursor-p.ensures.short)

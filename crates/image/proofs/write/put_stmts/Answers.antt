@@ -43,7 +43,7 @@ pub loop-left-preserved : goal.loop-left-preserved
 loop-left-preserved c =
     let inside : c.loop-left.i < max_stmts = within c.loop-left.invariant c.loop-left-test.true in
     let words = c.args.words.now in
-    let same = c.stmt_at-t.ensures ∙ get_d_build (stmt_in words) max_stmts c.loop-left.i no_stmt inside in
+    let same = c.stmt_at-t.ensures ∙ get_d_build (stmt_in words) max_stmts c.loop-left.i no_stmt (inside) in
     fills_on c.loop-left.invariant c.loop-left-test.true c.one-left.result
     (c.one-left.ensures ∙ ap (λ x. cond (is_live_stmt x) 1 0) same) (ap (stmt_bytes_at c.loop-left.i) same)
     (c.put_stmt-p.ensures.put, c.put_stmt-p.ensures.short)
