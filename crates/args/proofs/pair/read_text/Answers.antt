@@ -27,5 +27,5 @@ returns c = record {
       ∙ text_cut c.args.s.now c.args.at c.args.n (omega arith);
   told =
       c.text_at.ensures.told ∙ or_same c.args.padded.now (text_flag_cut c.args.s.now c.args.at c.args.n
-          (omega arith));
+      (omega arith));
 }
