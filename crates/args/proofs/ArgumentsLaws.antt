@@ -1,20 +1,33 @@
 -- Going through all arguments, one turn of the loop at a time. Assumes nothing.
 use Rattle.prelude.proofs.Basics.{ℕ, zero, suc, ◌+◌, ◌-◌, ◌≤◌, ◌<◌, arith, Bool, true, false, cond, ◌≡◌, refl, sym, ap}
-use Rattle.prelude.proofs.Basics.{◌∙◌, List, [], ◌∷◌, length, get_or, eqb, ltb, eq-eqb, eqb-false, eqb-true, le-ltb}
+use Rattle.prelude.proofs.Basics.{◌∙◌, List, [], ◌∷◌, length, get_or, eqb, ltb, eq-eqb, eqb-false, le-ltb}
 use Rattle.prelude.proofs.Basics.{lt-ltb, ne_eqb, both, before_suc}
+use Rattle.std.specs.Prelude.{Option, Some, None}
+use Rattle.std.specs.Option.{is_some}
 use Rattle.scalar.specs.declared.argument.Argument.TheVariants as Va
 use Rattle.args.proofs.Names.{reason_of, Argument, next_argument, and_more, arguments_from, arguments_at, any_type_of}
 use Rattle.args.proofs.Names.{no_arguments, bad_arguments, counted, with_type, together, arguments_in, handed_out}
-use Rattle.args.proofs.Names.{EndsBy, GoesOn, Arguments, NextArgument}
+use Rattle.args.proofs.Names.{number_of, type_number, AnyType, EndsBy, GoesOn, Arguments, NextArgument}
 use Rattle.args.specs.WithinRules.{FewArguments, NthWithin}
 use Rattle.args.proofs.PlaceLaws.{next_goes_on, next_end}
 use Rattle.args.proofs.WithinLaws.{ends_later}
 
+-- every Any type has a number
+pub any_numbered : (any : AnyType) → 0 < number_of any
+any_numbered AnyType.Scalar = omega arith
+any_numbered AnyType.Object = omega arith
+any_numbered AnyType.Array = omega arith
+
+pub typed : (any : Option AnyType) → is_some any ≡ true → 0 < type_number any
+typed (Some any) h = any_numbered any
+typed None h = absurd (let z : ◌≡◌ {A = ℕ} 0 1 = cc in omega arith)
+
+pub untyped : (any : Option AnyType) → is_some any ≡ false → type_number any ≡ 0
+untyped (Some any) h = absurd (let z : ◌≡◌ {A = ℕ} 0 1 = cc in omega arith)
+untyped None h = refl
+
 -- one argument more, by its Any type
 module _ (x : Arguments) (t : ℕ) where
-  pub type_bad : t ≡ 0 → bad_arguments ≡ with_type x t
-  type_bad h = simp (eq-eqb t 0 h)
-
   pub type_scalar : (t ≡ 0 → ⊥) → t < 2 → counted x x.kind x.index ≡ with_type x t
   type_scalar h g = simp (ne_eqb t 0 h, lt-ltb t 2 g)
 
@@ -43,43 +56,33 @@ module _ (x : Arguments) (t : ℕ) where
   pub type_good : (t ≡ 0 → ⊥) → (with_type x t).good ≡ x.good
   type_good h = rw (ne_eqb t 0 h) (good-kept (ltb t 2) (eqb x.kind 0))
 
-  pub good_type : (with_type x t).good ≡ true → t ≡ 0 → ⊥
-  good_type g h = let e : (with_type x t).good ≡ false = ap (λ (y : Arguments). y.good) (sym (type_bad h)) in
-      let z : ◌≡◌ {A = ℕ} 0 1 = cc in omega arith
-
-  pub bad_type : x.good ≡ true → (with_type x t).good ≡ false → t ≡ 0
-  bad_type y g = go (eqb t 0) refl
-    where
-      go : (b : Bool) → eqb t 0 ≡ b → t ≡ 0
-      go true e = eqb-true t 0 e
-      go false e = absurd (let u = type_good (eqb-false t 0 e) in let z : ◌≡◌ {A = ℕ} 0 1 = cc in omega arith)
-
-pub from_none : (most : ℕ) (s : List ℕ) (p : ℕ) → next_argument s p ≡ NextArgument.End → arguments_from most s p ≡ []
+pub from_none : (most : ℕ) (s : List ℕ) (p : ℕ) → next_argument s p ≡ None → arguments_from most s p ≡ []
 unfolding arguments_from
 from_none zero s p e = refl
 from_none (suc m) s p e = ap (and_more (λ next. arguments_from m s next)) e
 
-pub from_found : (most : ℕ) (s : List ℕ) (p : ℕ) {a : Argument} {next : ℕ} → 0 < most →
-    next_argument s p ≡ NextArgument.Found a next →
-    arguments_from most s p ≡ a ∷ arguments_from (most - 1) s next
+pub from_found : (most : ℕ) (s : List ℕ) (p : ℕ) {found : NextArgument} → 0 < most →
+    next_argument s p ≡ Some found →
+    arguments_from most s p ≡ found.value ∷ arguments_from (most - 1) s found.next
 unfolding arguments_from
 from_found zero s p g e = absurd (omega arith)
-from_found (suc m) s p {a} {next} g e =
-    ap (and_more (λ q. arguments_from m s q)) e ∙ ap (λ (k : ℕ). a ∷ arguments_from k s next) (before_suc m)
+from_found (suc m) s p {found} g e =
+    ap (and_more (λ q. arguments_from m s q)) e
+    ∙ ap (λ (k : ℕ). found.value ∷ arguments_from k s found.next) (before_suc m)
 
-pub advances : (s : List ℕ) (p : ℕ) {a : Argument} {next : ℕ} → next_argument s p ≡ NextArgument.Found a next →
-    (p < next) × (next ≤ length s)
-advances s p {a} {next} e = go (next_goes_on s p)
+pub advances : (s : List ℕ) (p : ℕ) {found : NextArgument} → next_argument s p ≡ Some found →
+    (p < found.next) × (found.next ≤ length s)
+advances s p {found} e = go (next_goes_on s p)
   where
-    go : GoesOn p (length s) (next_argument s p) → (p < next) × (next ≤ length s)
+    go : GoesOn p (length s) (next_argument s p) → (p < found.next) × (found.next ≤ length s)
     go = rw e (λ h. (h.0, h.1))
 
 -- the list of them, one argument at a time
 module _ (s : List ℕ) where
-  more-few : (p : ℕ) (x : NextArgument) → GoesOn p (length s) x → (more : ℕ → List Argument) →
+  more-few : (p : ℕ) (x : Option NextArgument) → GoesOn p (length s) x → (more : ℕ → List Argument) →
       ((q : ℕ) → length (more q) ≤ length s - q) → length (and_more more x) ≤ length s - p
-  more-few p (NextArgument.Found a next) h more m = omega (arith, m next)
-  more-few p NextArgument.End h more m = omega arith
+  more-few p (Some found) h more m = omega (arith, m found.next)
+  more-few p None h more m = omega arith
 
   from-few : (most p : ℕ) → length (arguments_from most s p) ≤ length s - p
   unfolding arguments_from
@@ -91,12 +94,12 @@ module _ (s : List ℕ) where
   Each : List Argument → Type 0
   Each l = (k : ℕ) → EndsBy (length s) (get_or l k (Va.Refused 9))
 
-  more-each : (p : ℕ) (x : NextArgument) → GoesOn p (length s) x → (more : ℕ → List Argument) →
+  more-each : (p : ℕ) (x : Option NextArgument) → GoesOn p (length s) x → (more : ℕ → List Argument) →
       ((q : ℕ) → Each (more q)) → Each (and_more more x)
   unfolding Each
-  more-each p (NextArgument.Found a next) h more m zero = ends_later next (length s) h.1 a h.2
-  more-each p (NextArgument.Found a next) h more m (suc k) = m next k
-  more-each p NextArgument.End h more m k = tt
+  more-each p (Some found) h more m zero = ends_later found.next (length s) h.1 found.value h.2
+  more-each p (Some found) h more m (suc k) = m found.next k
+  more-each p None h more m k = tt
 
   from_each : (most p : ℕ) → Each (arguments_from most s p)
   unfolding arguments_from Each
@@ -193,33 +196,33 @@ passes {s} {from} {p} {q} {x} k h e =
     }
 
 module _ {s : List ℕ} {from p : ℕ} {x : Arguments} (k : Walking s from p x) where
-  pub none_left : next_argument s p ≡ NextArgument.End → x ≡ arguments_in s from
+  pub none_left : next_argument s p ≡ None → x ≡ arguments_in s from
   none_left e = sym (together_none x) ∙ ap (together x) (sym (from_none k.most s p e)) ∙ k.whole
 
   pub ends : length s ≤ p → x ≡ arguments_in s from
   ends h = none_left (next_end s p h)
 
-  module _ (inside : p < length s) {a : Argument} {next : ℕ} (e : next_argument s p ≡ NextArgument.Found a next)
-      (t : ℕ) (u : t ≡ any_type_of a) where
-    turn : together x (a ∷ arguments_from (k.most - 1) s next) ≡ arguments_in s from
+  module _ (inside : p < length s) {found : NextArgument} (e : next_argument s p ≡ Some found)
+      (t : ℕ) (u : t ≡ any_type_of found.value) where
+    turn : together x (found.value ∷ arguments_from (k.most - 1) s found.next) ≡ arguments_in s from
     turn = ap (together x) (sym (from_found k.most s p (omega (arith, k.enough)) e)) ∙ k.whole
 
-    pub spoiled : (with_type x t).good ≡ false → with_type x t ≡ arguments_in s from
-    spoiled g =
-        let h = bad_type x t k.good g in
-        sym (type_bad x t h) ∙ sym (together_bad x a (arguments_from (k.most - 1) s next) (sym u ∙ h)) ∙ turn
+    pub spoiled : t ≡ 0 → bad_arguments ≡ arguments_in s from
+    spoiled h =
+        sym (together_bad x found.value (arguments_from (k.most - 1) s found.next) (sym u ∙ h))
+        ∙ turn
 
-    pub goes_on_lem : (with_type x t).good ≡ true → Walking s from next (with_type x t)
-    goes_on_lem g =
-        let h = good_type x t g in
+    pub goes_on_lem : 0 < t → Walking s from found.next (with_type x t)
+    goes_on_lem some =
+        let h : t ≡ 0 → ⊥ = λ z. omega (arith, some, z) in
         record {
           most = k.most - 1;
           enough = omega (arith, k.enough, advances s p e);
-          good = g;
+          good = type_good x t h ∙ k.good;
           small = omega (arith, k.small, type_count x t h, advances s p e);
           whole =
-              ap (λ (m : ℕ). together (with_type x m) (arguments_from (k.most - 1) s next)) u
-              ∙ sym (together_on x a (arguments_from (k.most - 1) s next) (λ z. h (u ∙ z)))
+              ap (λ (m : ℕ). together (with_type x m) (arguments_from (k.most - 1) s found.next)) u
+              ∙ sym (together_on x found.value (arguments_from (k.most - 1) s found.next) (λ z. h (u ∙ z)))
               ∙ turn;
         }
 
@@ -271,62 +274,28 @@ pub record Counting (s : List ℕ) (from index p left : ℕ) : Type 0 where
 pub count_starts : (s : List ℕ) (from index : ℕ) → Counting s from index from index
 count_starts s from index = record { most = length s; enough = omega arith; whole = refl }
 
--- an object and an array are refused 8, and any other argument is handed out as it is, a refusal too
-pub handed_out_composite : (a : Argument) → 1 < any_type_of a → Va.Refused 8 ≡ handed_out a
-handed_out_composite (Va.Signed z) h = absurd (omega arith)
-handed_out_composite (Va.Unsigned n) h = absurd (omega arith)
-handed_out_composite Va.Null h = absurd (omega arith)
-handed_out_composite (Va.Octets start len) h = absurd (omega arith)
-handed_out_composite (Va.Double d) h = absurd (omega arith)
-handed_out_composite (Va.DoubleNan n) h = absurd (omega arith)
-handed_out_composite (Va.Float d) h = absurd (omega arith)
-handed_out_composite (Va.FloatNan n) h = absurd (omega arith)
-handed_out_composite (Va.Bool b) h = absurd (omega arith)
-handed_out_composite (Va.String start len) h = absurd (omega arith)
-handed_out_composite Va.Object h = refl
-handed_out_composite Va.Array h = refl
-handed_out_composite (Va.Refused n) h = absurd (omega arith)
-
-refused_kept : (b : Bool) (a : Argument) → a ≡ cond b a a
-refused_kept true a = refl
-refused_kept false a = refl
-
-pub handed_out_plain : (a : Argument) → any_type_of a ≤ 1 → a ≡ handed_out a
-handed_out_plain (Va.Signed z) h = refl
-handed_out_plain (Va.Unsigned n) h = refl
-handed_out_plain Va.Null h = refl
-handed_out_plain (Va.Octets start len) h = refl
-handed_out_plain (Va.Double d) h = refl
-handed_out_plain (Va.DoubleNan n) h = refl
-handed_out_plain (Va.Float d) h = refl
-handed_out_plain (Va.FloatNan n) h = refl
-handed_out_plain (Va.Bool b) h = refl
-handed_out_plain (Va.String start len) h = refl
-handed_out_plain Va.Object h = absurd (omega arith)
-handed_out_plain Va.Array h = absurd (omega arith)
-handed_out_plain (Va.Refused n) h = refused_kept (eqb n 0) (Va.Refused n)
-
 module _ {s : List ℕ} {from index p left : ℕ} (k : Counting s from index p left) where
-  pub count_none : next_argument s p ≡ NextArgument.End → Va.Refused 9 ≡ get_or (arguments_at s from) index (Va.Refused 9)
+  pub count_none : next_argument s p ≡ None → Va.Refused 9 ≡ get_or (arguments_at s from) index (Va.Refused 9)
   count_none e =
       ap (λ (l : List Argument). get_or l left (Va.Refused 9)) (sym (from_none k.most s p e)) ∙ k.whole
 
   pub count_end : length s ≤ p → Va.Refused 9 ≡ get_or (arguments_at s from) index (Va.Refused 9)
   count_end h = count_none (next_end s p h)
 
-  module _ (inside : p < length s) {a : Argument} {next : ℕ} (e : next_argument s p ≡ NextArgument.Found a next) where
-    turn_at : get_or (a ∷ arguments_from (k.most - 1) s next) left (Va.Refused 9) ≡ get_or (arguments_at s from) index
-        (Va.Refused 9)
+  module _ (inside : p < length s) {found : NextArgument} (e : next_argument s p ≡ Some found) where
+    turn_at : get_or (found.value ∷ arguments_from (k.most - 1) s found.next) left (Va.Refused 9)
+        ≡ get_or (arguments_at s from) index (Va.Refused 9)
     turn_at =
         ap (λ (l : List Argument). get_or l left (Va.Refused 9))
         (sym (from_found k.most s p (omega (arith, k.enough)) e))
         ∙ k.whole
 
-    pub count_hit : left ≡ 0 → a ≡ get_or (arguments_at s from) index (Va.Refused 9)
+    pub count_hit : left ≡ 0 → found.value ≡ get_or (arguments_at s from) index (Va.Refused 9)
     count_hit h =
-        ap (λ (n : ℕ). get_or (a ∷ arguments_from (k.most - 1) s next) n (Va.Refused 9)) (sym h) ∙ turn_at
+        ap (λ (n : ℕ). get_or (found.value ∷ arguments_from (k.most - 1) s found.next) n (Va.Refused 9)) (sym h)
+        ∙ turn_at
 
-    pub count_on : (left ≡ 0 → ⊥) → Counting s from index next (left - 1)
+    pub count_on : (left ≡ 0 → ⊥) → Counting s from index found.next (left - 1)
     count_on h =
         record {
           most = k.most - 1;
@@ -335,8 +304,8 @@ module _ {s : List ℕ} {from index p left : ℕ} (k : Counting s from index p l
         }
       where
         passed : (n : ℕ) → (n ≡ 0 → ⊥) →
-            get_or (arguments_from (k.most - 1) s next) (n - 1) (Va.Refused 9) ≡ get_or
-            (a ∷ arguments_from (k.most - 1) s next) n (Va.Refused 9)
+            get_or (arguments_from (k.most - 1) s found.next) (n - 1) (Va.Refused 9) ≡ get_or
+            (found.value ∷ arguments_from (k.most - 1) s found.next) n (Va.Refused 9)
         passed zero z = absurd (z refl)
-        passed (suc m) z = ap (λ (j : ℕ). get_or (arguments_from (k.most - 1) s next) j (Va.Refused 9))
+        passed (suc m) z = ap (λ (j : ℕ). get_or (arguments_from (k.most - 1) s found.next) j (Va.Refused 9))
             (sym (before_suc m))

@@ -1,33 +1,29 @@
 -- One pass over a message with arguments, one turn of the loop at a time: its own fields beside the field list, its
 -- arguments beside the list of them. Assumes nothing.
-use Rattle.prelude.proofs.Basics.{ℕ, zero, suc, ◌+◌, ◌≤◌, ◌<◌, arith, Bool, true, false, not, ◌&&◌, cond, ◌≡◌, refl}
+use Rattle.prelude.proofs.Basics.{ℕ, ◌+◌, ◌≤◌, ◌<◌, arith, Bool, true, false, not, ◌&&◌, cond, ◌≡◌, refl}
 use Rattle.prelude.proofs.Basics.{sym, ap, subst, ◌∙◌, List, length, get_or, set, take, length-set, get_or-set_other}
 use Rattle.prelude.proofs.Basics.{get_or-set_same, length-take-le, eqb, leb, eq-eqb, eqb-false, eqb-true, le-leb}
 use Rattle.prelude.proofs.Basics.{leb-true, lt-leb, ne_eqb, both, yes, no}
 use Rattle.layout.proofs.CountLaws.{noted_length}
 use Rattle.layout.proofs.FieldsLaws as Fields
-use Rattle.args.proofs.Names.{field_at, Field, rows_of, row_for, no_slots, bad_slots, use_of, noted, field_list}
+use Rattle.args.proofs.Names.{field_at, rows_of, row_for, no_slots, bad_slots, use_of, noted, field_list}
 use Rattle.args.proofs.Names.{checked, fields_at, has_required, embedded, value_of, Use, Slots, part_within}
 use Rattle.args.proofs.Names.{argument_in, is_args, next_argument, arguments_at, any_type_of, no_arguments}
 use Rattle.args.proofs.Names.{bad_arguments, with_type, arguments_in, argument_padded, inside_args, Arguments}
-use Rattle.args.proofs.Names.{NextArgument, Bound}
+use Rattle.args.proofs.Names.{found_argument, Bound}
 use Rattle.args.specs.Padded.{bound_padded, execute_padded}
-use Rattle.args.specs.private.Bound.{rows_by, wire_by, tests_args, nothing, with_field, own_of, found, bad_bound}
+use Rattle.args.specs.private.Bound.{rows_by, wire_by, tests_args, nothing, with_field, own_of, found}
+use Rattle.args.specs.private.Bound.{kept_in, good_bound}
 use Rattle.args.specs.private.Bound.{bound_of, bound_at, bound_in, args_of}
+use Rattle.std.specs.Prelude.{Option, Some, None, IsSome, option_map}
 use Rattle.args.specs.declared.bound.Own.{Own}
 use Rattle.args.proofs.ArgsFieldLaws.{args_field_lem}
 use Rattle.args.proofs.PlaceLaws as Place
 use Rattle.args.proofs.EnoughLaws.{next_skips}
 use Rattle.args.proofs.ArgumentsLaws.{Walking}
 use Rattle.args.proofs.ArgumentsLaws as Walk
-
--- ---- the tests
-
-pub args_not : (number wire : ℕ) → (number ≡ 2 → ⊥) → false ≡ tests_args number wire
-args_not number wire h = simp (ne_eqb number 2 h)
-
-pub args_by_wire : (number wire : ℕ) → number ≡ 2 → eqb wire 2 ≡ tests_args number wire
-args_by_wire number wire h = simp (eq-eqb number 2 h)
+use Rattle.std.specs.Prelude.{Option, Some, None}
+use Rattle.wire.specs.Field.{some_field}
 
 module _ (k : Own) (own number wire value : ℕ) where
   pub with_other : (wire ≡ own → ⊥) → k ≡ with_field k own number wire value
@@ -35,13 +31,11 @@ module _ (k : Own) (own number wire value : ℕ) where
 
   module _ (is : wire ≡ own) where
     pub with_one : number ≡ 1 →
-        record { hasone = true; one = value; hasthree = k.hasthree; three = k.three } ≡ with_field k own number wire
-        value
+        record { one = Some value; three = k.three } ≡ with_field k own number wire value
     with_one h = yes _ _ (eq-eqb number 1 h) ∙ yes _ k (eq-eqb wire own is)
 
     pub with_three : (number ≡ 1 → ⊥) → number ≡ 3 →
-        record { hasone = k.hasone; one = k.one; hasthree = true; three = value } ≡ with_field k own number wire
-        value
+        record { one = k.one; three = Some value } ≡ with_field k own number wire value
     with_three n h = yes _ k (eq-eqb number 3 h) ∙ no _ _ (ne_eqb number 1 n) ∙ yes _ k (eq-eqb wire own is)
 
     pub with_none : (number ≡ 1 → ⊥) → (number ≡ 3 → ⊥) → k ≡ with_field k own number wire value
@@ -76,7 +70,7 @@ pub record Holding (k : Own) (x : Slots) : Type 0 where
 
 -- fields 1 and 3 by their counts and values
 abbrev make : ℕ → ℕ → ℕ → ℕ → Own
-make c v d w = record { hasone = not (eqb c 0); one = v; hasthree = not (eqb d 0); three = w }
+make c v d w = record { one = cond (eqb c 0) None (Some v); three = cond (eqb d 0) None (Some w) }
 
 module _ (x : Slots) (number v start len : ℕ) (u : Use) where
   abbrev then : Slots
@@ -96,20 +90,20 @@ module _ (x : Slots) (number v start len : ℕ) (u : Use) where
       ∙ ap (make (get_or then.count 1 0) (value_of then 1) (get_or then.count 3 0))
       (value-apart x number v start len 3 b' u)
 
-one_more : (n : ℕ) → true ≡ not (eqb (n + 1) 0)
-one_more n = sym (ap not (ne_eqb (n + 1) 0 (λ h. omega arith)))
+one_more : (n : ℕ) → false ≡ eqb (n + 1) 0
+one_more n = sym (ne_eqb (n + 1) 0 (λ h. omega arith))
 
 module _ (x : Slots) (v start len : ℕ) (counts : length x.count ≡ 10) (values : length x.value ≡ 10) where
-  seen_at : (k : ℕ) → k < 10 → true ≡ not (eqb (get_or (set x.count k (get_or x.count k 0 + 1)) k 0) 0)
+  seen_at : (k : ℕ) → k < 10 → false ≡ eqb (get_or (set x.count k (get_or x.count k 0 + 1)) k 0) 0
   seen_at k h =
       one_more (get_or x.count k 0)
-      ∙ ap (λ (n : ℕ). not (eqb n 0))
+      ∙ ap (λ (n : ℕ). eqb n 0)
       (sym (get_or-set_same x.count k (get_or x.count k 0 + 1) 0 (omega (arith, counts))))
 
   held_at : (k : ℕ) → k < 10 → v ≡ get_or (set x.value k v) k 0
   held_at k h = sym (get_or-set_same x.value k v 0 (omega (arith, values)))
 
-  one_kept : record { hasone = true; one = v; hasthree = (own_of x).hasthree; three = (own_of x).three }
+  one_kept : record { one = Some v; three = (own_of x).three }
       ≡ own_of (noted Use.Kept x 1 v start len)
   one_kept =
       rw (
@@ -119,7 +113,7 @@ module _ (x : Slots) (v start len : ℕ) (counts : length x.count ≡ 10) (value
         ← (value-apart x 1 v start len 3 (λ h. omega arith) Use.Kept),
       )
 
-  three-kept : record { hasone = (own_of x).hasone; one = (own_of x).one; hasthree = true; three = v }
+  three-kept : record { one = (own_of x).one; three = Some v }
       ≡ own_of (noted Use.Kept x 3 v start len)
   three-kept =
       rw (
@@ -235,17 +229,20 @@ binds text s from =
       walking = Walk.starts s from;
     }
 
-bad_slots_lem : (x : Slots) (a : Arguments) → x.good ≡ false → bad_bound ≡ bound_of x a
-unfolding bound_of
-bad_slots_lem x a h = no _ bad_bound h
+pub none_found : IsSome {T = Bound} None → ⊥
+none_found h = let z : ◌≡◌ {A = ℕ} 0 1 = cc in omega arith
 
-bad_args : (x : Slots) (a : Arguments) → a.good ≡ false → bad_bound ≡ bound_of x a
+bad_slots_lem : (x : Slots) (a : Arguments) → x.good ≡ false → None ≡ bound_of x a
 unfolding bound_of
-bad_args x a h = both (λ (b : Bound). bad_bound ≡ b) x.good _ _ (λ _. no _ bad_bound h) (λ _. refl)
+bad_slots_lem x a h = no _ None h
+
+bad_args : (x : Slots) (a : Arguments) → a.good ≡ false → None ≡ bound_of x a
+unfolding bound_of
+bad_args x a h = both (λ (b : Option Bound). None ≡ b) x.good _ _ (λ _. no _ None h) (λ _. refl)
 
 good_both : (x : Slots) (a : Arguments) → x.good ≡ true → a.good ≡ true → found (own_of x) a ≡ bound_of x a
 unfolding bound_of
-good_both x a g h = yes _ bad_bound h ∙ yes _ bad_bound g
+good_both x a g h = yes _ None h ∙ yes _ None g
 
 module _ {text : Bool} {s : List ℕ} {from p : ℕ} {x : Arguments} {k : Own} (b : Binding text s from p x k) where
   abbrev fields : Slots
@@ -261,11 +258,11 @@ module _ {text : Bool} {s : List ℕ} {from p : ℕ} {x : Arguments} {k : Own} (
       ∙ ap (bound_of fields) a
 
   module _ (inside : p < length s) where
-    pub no_field : field_at s p ≡ Field.Bad → bad_bound ≡ bound_at text s from
+    pub no_field : field_at s p ≡ None → None ≡ bound_at text s from
     no_field e = bad_slots_lem fields (arguments_in s from)
         (ap (λ (z : Slots). z.good) (sym (Fields.no_field b.listing inside e)))
 
-    module _ {number wire v start len next : ℕ} (e : field_at s p ≡ Field.Good number wire v start len next) where
+    module _ {number wire v start len next : ℕ} (e : field_at s p ≡ some_field number wire v start len next) where
       pub ahead : p < next
       ahead = Fields.advances b.listing inside e
 
@@ -301,17 +298,17 @@ module _ {text : Bool} {s : List ℕ} {from p : ℕ} {x : Arguments} {k : Own} (
           }
 
       module _ (h : tests_args number wire ≡ true) (t : ℕ) (u : t ≡ any_type_of (argument_in s start len)) where
-        here : next_argument s p ≡ NextArgument.Found (argument_in s start len) next
+        here : next_argument s p ≡ found_argument (argument_in s start len) next
         here =
             let a = args_are number wire h in
             sym (Place.next_placed s p _ (Place.found (Place.starts s p) inside e a.0 a.1))
 
-        pub spoils : (with_type x t).good ≡ false → bad_bound ≡ bound_at text s from
+        pub spoils : t ≡ 0 → None ≡ bound_at text s from
         spoils g =
             bad_args fields (arguments_in s from)
-            (ap (λ (a : Arguments). a.good) (sym (Walk.spoiled b.walking inside here t u g)) ∙ g)
+            (ap (λ (a : Arguments). a.good) (sym (Walk.spoiled b.walking inside here t u g)))
 
-        pub counts_one : (with_type x t).good ≡ true → Binding text s from next (with_type x t) k
+        pub counts_one : 0 < t → Binding text s from next (with_type x t) k
         counts_one g =
             record {
               slots = noted use-here b.slots number v start len;
@@ -325,21 +322,16 @@ module _ {text : Bool} {s : List ℕ} {from p : ℕ} {x : Arguments} {k : Own} (
               walking = Walk.goes_on_lem b.walking inside here t u g;
             }
 
--- an argument that spoils nothing has a type
-pub typed : (x : Arguments) (t : ℕ) → (with_type x t).good ≡ true → 0 < t
-typed x zero h = absurd (let z : ◌≡◌ {A = ℕ} 0 1 = cc in omega arith)
-typed x (suc t) h = omega arith
-
 -- ---- in part of the bytes
 
 module _ (text : Bool) (s : List ℕ) (at n : ℕ) where
-  pub bound_past : length s < at + n → bad_bound ≡ bound_in text s at n
+  pub bound_past : length s < at + n → None ≡ bound_in text s at n
   unfolding bound_in
-  bound_past h = no _ bad_bound (lt-leb (at + n) (length s) h)
+  bound_past h = no _ None (lt-leb (at + n) (length s) h)
 
   pub bound_cut : at + n ≤ length s → bound_at text (take (at + n) s) at ≡ bound_in text s at n
   unfolding bound_in
-  bound_cut h = yes _ bad_bound (le-leb (at + n) (length s) h)
+  bound_cut h = yes _ None (le-leb (at + n) (length s) h)
 
 module _ (s : List ℕ) (at n : ℕ) where
   pub execute_past : length s < at + n → execute_padded s at n ≡ false
@@ -360,13 +352,13 @@ tests number wire v = args_field_lem.tested number wire v ∙ go (eqb number 2)
 
 module _ (s : List ℕ) (number wire v start len next : ℕ) where
   pub inside_args_lem : tests_args number wire ≡ true →
-      argument_padded s start len ≡ inside_args s (Field.Good number wire v start len next)
+      argument_padded s start len ≡ inside_args s (some_field number wire v start len next)
   inside_args_lem h = yes _ false (tests number wire v ∙ h)
 
-  pub inside_other : tests_args number wire ≡ false → inside_args s (Field.Good number wire v start len next) ≡ false
+  pub inside_other : tests_args number wire ≡ false → inside_args s (some_field number wire v start len next) ≡ false
   inside_other h = sym (no _ false (tests number wire v ∙ h))
 
--- ---- what the answer says: field 1 is there exactly where fields and arguments are good
+-- ---- what the answer says: there is one exactly where fields and arguments are good
 
 -- field 1 alone is required
 asked : (text : Bool) (count : List ℕ) → cond (not (eqb (get_or count 1 0) 0)) true false ≡ has_required
@@ -379,9 +371,9 @@ itself : (b : Bool) → cond b true false ≡ b
 itself true = refl
 itself false = refl
 
-required : (text : Bool) (count : List ℕ) {b : Bool} → not (eqb (get_or count 1 0) 0) ≡ b → has_required
-    (rows_by text) count ≡ b
-required text count e = sym (asked text count) ∙ itself (not (eqb (get_or count 1 0) 0)) ∙ e
+required : (text : Bool) (count : List ℕ) {b : Bool} → eqb (get_or count 1 0) 0 ≡ b → has_required
+    (rows_by text) count ≡ not b
+required text count e = sym (asked text count) ∙ itself (not (eqb (get_or count 1 0) 0)) ∙ ap not e
 
 checked_sound : (rows : List (List ℕ)) (x : Slots) → x.good ≡ false → (checked rows x).good ≡ false
 checked_sound rows x h = both (λ (y : Slots). y.good ≡ false) (has_required rows x.count) _ _ (λ _. h) (λ _. refl)
@@ -393,76 +385,72 @@ module _ (text : Bool) (s : List ℕ) (at n : ℕ) where
   abbrev pub read : Arguments
   read = arguments_in (take (at + n) s) at
 
+  abbrev part : Slots
+  part = embedded (rows_by text) s at n
+
   pub record Found (b : Bound) : Type 0 where
     pub inside : at + n ≤ length s
-    pub fields : embedded (rows_by text) s at n ≡ list
+    pub fields : part ≡ list
     pub sound : list.good ≡ true
     pub good : read.good ≡ true
-    pub is : b ≡ found (own_of list) read
+    pub is : b ≡ good_bound read (kept_in list 3) (value_of list 1)
 
-  abbrev Says : Bound → Type 0
-  Says b = b.hasone ≡ true → Found b
+  -- where there is none, fields or arguments are bad
+  Says : Option Bound → Type 0
+  Says (Some b) = Found b
+  Says None = part.good ≡ true → read.good ≡ false
 
-  nowhere : Says bad_bound
-  nowhere h = absurd (let z : ◌≡◌ {A = ℕ} 0 1 = cc in omega arith)
+  unlisted : {A : Type 0} → part.good ≡ false → part.good ≡ true → A
+  unlisted h g = absurd (let z : ◌≡◌ {A = ℕ} 0 1 = cc in omega arith)
 
-  says : Says (bound_in text s at n)
-  unfolding bound_in bound_of
-  says =
-      both Says (leb (at + n) (length s)) _ _
-      (λ i. both Says list.good _ _
-      (λ g. both Says read.good (found (own_of list) read) bad_bound
-      (λ h one.
-      let within = leb-true (at + n) (length s) i in
+  -- by whether field 1 is there
+  by-one : at + n ≤ length s → list.good ≡ true → read.good ≡ true → (b : Bool) → eqb (get_or list.count 1 0) 0 ≡ b →
+      Says (option_map (good_bound read (kept_in list 3)) (cond b None (Some (value_of list 1))))
+  unfolding Says
+  by-one within g h true e =
+      unlisted
+      (ap (λ (y : Slots). y.good)
+      (sym
+      (Fields.checked_bad (rows_by text) list (required text list.count e) ∙ part_within (rows_by text) s at n within)))
+  by-one within g h false e =
       record {
         inside = within;
         fields =
             sym
-            (Fields.checked_good (rows_by text) list (required text list.count one)
+            (Fields.checked_good (rows_by text) list (required text list.count e)
             ∙ part_within (rows_by text) s at n within);
         sound = g;
         good = h;
         is = refl;
-      })
-      (λ _. nowhere))
-      (λ _. nowhere))
-      (λ _. nowhere)
+      }
 
-  pub bound_found : (b : Bound) → b ≡ bound_in text s at n → b.hasone ≡ true → Found b
-  bound_found b e = subst Says (sym e) says
-
-  -- else fields or arguments are bad
-  abbrev Lost : Bound → Type 0
-  Lost b = b.hasone ≡ false → (embedded (rows_by text) s at n).good ≡ true → read.good ≡ false
-
-  unlisted : {A : Type 0} → (embedded (rows_by text) s at n).good ≡ false → (embedded (rows_by text) s at n).good ≡ true
-      → A
-  unlisted h g = absurd (let z : ◌≡◌ {A = ℕ} 0 1 = cc in omega arith)
-
-  loses : Lost (bound_in text s at n)
-  unfolding bound_in bound_of
-  loses =
-      both Lost (leb (at + n) (length s)) _ _
+  says : Says (bound_in text s at n)
+  unfolding bound_in bound_of Says
+  says =
+      both Says (leb (at + n) (length s)) _ _
       (λ i.
-      let part = part_within (rows_by text) s at n (leb-true (at + n) (length s) i) in
-      both Lost list.good _ _
-      (λ g. both Lost read.good (found (own_of list) read) bad_bound
-      (λ _ none.
+      let within = leb-true (at + n) (length s) i in
+      both Says list.good _ _
+      (λ g. both Says read.good (found (own_of list) read) None
+      (λ h. by-one within g h (eqb (get_or list.count 1 0) 0) refl)
+      (λ h _. h))
+      (λ g.
       unlisted
-      (ap (λ (y : Slots). y.good)
-      (sym (Fields.checked_bad (rows_by text) list (required text list.count none) ∙ part))))
-      (λ h _ _. h))
-      (λ g _.
-      unlisted (ap (λ (y : Slots). y.good) (sym part) ∙ checked_sound (rows_by text) list g)))
-      (λ i _. unlisted (ap (λ (b : Bool). (cond b (fields_at (rows_by text) (take (at + n) s) at) bad_slots).good) i))
+      (ap (λ (y : Slots). y.good) (sym (part_within (rows_by text) s at n within))
+      ∙ checked_sound (rows_by text) list g)))
+      (λ i. unlisted (ap (λ (b : Bool). (cond b (fields_at (rows_by text) (take (at + n) s) at) bad_slots).good) i))
 
-  pub bound_lost : (b : Bound) → b ≡ bound_in text s at n → b.hasone ≡ false →
-      (embedded (rows_by text) s at n).good ≡ true → read.good ≡ false
-  bound_lost b e = subst Lost (sym e) loses
+  pub bound_found : {b : Bound} → Some b ≡ bound_in text s at n → Found b
+  unfolding Says
+  bound_found e = subst Says (sym e) says
+
+  pub bound_lost : None ≡ bound_in text s at n → part.good ≡ true → read.good ≡ false
+  unfolding Says
+  bound_lost e = subst Says (sym e) says
 
   -- the arguments of what is found
-  pub found_arguments : (b : Bound) → Found b → args_of b at (at + n) ≡ read
-  found_arguments b f =
+  pub found_arguments : {b : Bound} → Found b → args_of b at (at + n) ≡ read
+  found_arguments f =
       let span = Walk.spans (arguments_at (take (at + n) s) at) (no_arguments at (length (take (at + n) s))) refl in
       let end : at + n ≡ read.end = sym (length-take-le (at + n) s f.inside) ∙ sym (span.upto f.good) in
       ap (λ (c : Bound). args_of c at (at + n)) f.is

@@ -1,29 +1,21 @@
 -- Whether an argument is padded, by the type of its Any and of its Scalar. Assumes nothing.
 use Rattle.prelude.proofs.Basics.{ℕ, ◌+◌, ◌*◌, ◌≤◌, ◌<◌, arith, Bool, true, false, ◌||◌, cond, ◌≡◌, refl, sym, ap, ap₂}
-use Rattle.prelude.proofs.Basics.{◌∙◌, List, eqb, ne_eqb, yes, no as without, or_assoc, or_false}
-use Rattle.args.proofs.Names.{Argument, any, scalar, rows_of, row_for, has_required, embedded, value_of, low32}
+use Rattle.prelude.proofs.Basics.{◌∙◌, List, eqb, yes, or_assoc, or_false}
+use Rattle.std.specs.Prelude.{Some}
+use Rattle.args.proofs.Names.{Pair, Argument, any, scalar, rows_of, row_for, has_required, embedded, value_of, low32}
 use Rattle.args.proofs.Names.{one_part, merged, part_padded, parts_padded, Part, Slots, one_part_lem, scalar_of}
 use Rattle.args.proofs.Names.{scalar_in}
 use Rattle.args.proofs.Names.{any_of, scalar_parts, argument_in, any_type_of, bytes_padded, inside_scalar, scalar_padded}
 use Rattle.args.proofs.Names.{inside_any, argument_padded}
 use Rattle.args.specs.private.Pair.{lone_in, pair_padded}
 use Rattle.args.proofs.PairLaws.{lone_kept, pair_kept, pair_bytes}
-use Rattle.args.proofs.PaddedLaws.{held_short, pair_part, pair_absorbed, lone_part}
+use Rattle.args.proofs.PaddedLaws.{pair_part, pair_absorbed, lone_part}
 use Rattle.args.proofs.ScalarLaws.{Held, inner_one, scalar_parted}
 use Rattle.args.proofs.ValueLaws.{scalar_bad, any_bad}
-
--- ---- a message that is not good has nothing inside
-
-pub scalar_inside_bad : (s : List ℕ) (ps : List Part) (x : Slots) → x.good ≡ false → inside_scalar s ps x ≡ false
-unfolding inside_scalar
-scalar_inside_bad s ps x h = sym (without _ false h)
 
 -- ---- by the type
 
 module _ (s : List ℕ) (ps : List Part) (x : Slots) where
-  pub bytes_none : (t : ℕ) → (t ≡ 4 → ⊥) → (t ≡ 8 → ⊥) → bytes_padded s ps t ≡ false
-  bytes_none t a b = simp (ne_eqb t 4 a, ne_eqb t 8 b)
-
   pub scalar_by_type : x.good ≡ true → (t : ℕ) → low32 (value_of x 1) ≡ t → bytes_padded s ps t ≡ inside_scalar s ps x
   unfolding inside_scalar
   scalar_by_type g t e = ap (bytes_padded s ps) (sym e) ∙ yes _ false g
@@ -75,23 +67,23 @@ module _ (s : List ℕ) (at n : ℕ) where
   any_in e f = ap₂ ◌||◌ e f
 
   -- types alone
-  pub null_flag : {r : ℕ} → r ≡ lone_in s at n → r ≡ 3 → scalar_padded s (one_part at n) ≡ false
+  pub null_flag : Some 3 ≡ lone_in s at n → scalar_padded s (one_part at n) ≡ false
   unfolding rows_of row_for has_required inside_scalar
-  null_flag p e =
-      sym (scalar_in_lem (sym (lone_part s at n p (omega arith)))
-      (ap (inside_scalar s (one_part at n)) (lone_kept s at n p (rows_of scalar) 3 e (omega arith) refl)))
+  null_flag p =
+      sym (scalar_in_lem (sym (lone_part s at n p))
+      (ap (inside_scalar s (one_part at n)) (lone_kept s at n (rows_of scalar) 3 p refl)))
 
-  pub object_flag : {r : ℕ} → r ≡ lone_in s at n → r ≡ 2 → argument_padded s at n ≡ false
+  pub object_flag : Some 2 ≡ lone_in s at n → argument_padded s at n ≡ false
   unfolding rows_of row_for has_required inside_any
-  object_flag p e =
-      sym (any_in (sym (lone_part s at n p (omega arith)))
-      (ap (inside_any s (scalar_parts s at n)) (lone_kept s at n p (rows_of any) 2 e (omega arith) refl)))
+  object_flag p =
+      sym (any_in (sym (lone_part s at n p))
+      (ap (inside_any s (scalar_parts s at n)) (lone_kept s at n (rows_of any) 2 p refl)))
 
-  pub array_flag : {r : ℕ} → r ≡ lone_in s at n → r ≡ 3 → argument_padded s at n ≡ false
+  pub array_flag : Some 3 ≡ lone_in s at n → argument_padded s at n ≡ false
   unfolding rows_of row_for has_required inside_any
-  array_flag p e =
-      sym (any_in (sym (lone_part s at n p (omega arith)))
-      (ap (inside_any s (scalar_parts s at n)) (lone_kept s at n p (rows_of any) 3 e (omega arith) refl)))
+  array_flag p =
+      sym (any_in (sym (lone_part s at n p))
+      (ap (inside_any s (scalar_parts s at n)) (lone_kept s at n (rows_of any) 3 p refl)))
 
   -- the pair, and then the long way, of a good message
   pub scalar_again : 0 < any_type_of (scalar_in s (one_part at n)) →
@@ -117,65 +109,67 @@ module _ (s : List ℕ) (at n : ℕ) where
       ∙ ap (λ (b : Bool). b || inside)
       (pair_absorbed s at n (rows_of any) (any_listed s (scalar_parts s at n) (embedded (rows_of any) s at n) h))
 
-module _ {s : List ℕ} {at n first tag value start : ℕ} (h : Held s at n first tag value start) where
+module _ {s : List ℕ} {at n : ℕ} {p : Pair} (h : Held s at n p) where
   -- a number, a double, a float and a bool have nothing inside
-  plain : 8 ≤ tag → false ≡ inside_scalar s (one_part at n) (embedded (rows_of scalar) s at n) →
+  plain : (kind key : ℕ) → p.key ≡ kind * 256 + key → 8 ≤ key → key < 128 →
+      false ≡ inside_scalar s (one_part at n) (embedded (rows_of scalar) s at n) →
       pair_padded s at n ≡ scalar_padded s (one_part at n)
-  plain k e = or_false (pair_padded s at n) ∙ scalar_in_lem s at n (pair_part h k) e
+  plain kind key k some short e =
+      or_false (pair_padded s at n) ∙ scalar_in_lem s at n (pair_part h kind key k some short) e
 
-  pub sint_flag : first * 256 + tag ≡ 1 * 256 + 16 → pair_padded s at n ≡ scalar_padded s (one_part at n)
+  pub sint_flag : p.key ≡ 1 * 256 + 16 → pair_padded s at n ≡ scalar_padded s (one_part at n)
   unfolding rows_of row_for has_required inside_scalar
-  sint_flag k = plain (omega (arith, held_short h))
+  sint_flag k = plain 1 16 k (omega arith) (omega arith)
       (ap (inside_scalar s (one_part at n))
-      (pair_kept s at n h.is refl (rows_of scalar) 1 16 k (omega arith) refl refl))
+      (pair_kept s at n h.is (rows_of scalar) 1 16 k (omega arith) refl refl))
 
-  pub uint_flag : first * 256 + tag ≡ 2 * 256 + 24 → pair_padded s at n ≡ scalar_padded s (one_part at n)
+  pub uint_flag : p.key ≡ 2 * 256 + 24 → pair_padded s at n ≡ scalar_padded s (one_part at n)
   unfolding rows_of row_for has_required inside_scalar
-  uint_flag k = plain (omega (arith, held_short h))
+  uint_flag k = plain 2 24 k (omega arith) (omega arith)
       (ap (inside_scalar s (one_part at n))
-      (pair_kept s at n h.is refl (rows_of scalar) 2 24 k (omega arith) refl refl))
+      (pair_kept s at n h.is (rows_of scalar) 2 24 k (omega arith) refl refl))
 
-  pub double_flag : first * 256 + tag ≡ 5 * 256 + 49 → pair_padded s at n ≡ scalar_padded s (one_part at n)
+  pub double_flag : p.key ≡ 5 * 256 + 49 → pair_padded s at n ≡ scalar_padded s (one_part at n)
   unfolding rows_of row_for has_required inside_scalar
-  double_flag k = plain (omega (arith, held_short h))
+  double_flag k = plain 5 49 k (omega arith) (omega arith)
       (ap (inside_scalar s (one_part at n))
-      (pair_kept s at n h.is refl (rows_of scalar) 5 49 k (omega arith) refl refl))
+      (pair_kept s at n h.is (rows_of scalar) 5 49 k (omega arith) refl refl))
 
-  pub float_flag : first * 256 + tag ≡ 6 * 256 + 61 → pair_padded s at n ≡ scalar_padded s (one_part at n)
+  pub float_flag : p.key ≡ 6 * 256 + 61 → pair_padded s at n ≡ scalar_padded s (one_part at n)
   unfolding rows_of row_for has_required inside_scalar
-  float_flag k = plain (omega (arith, held_short h))
+  float_flag k = plain 6 61 k (omega arith) (omega arith)
       (ap (inside_scalar s (one_part at n))
-      (pair_kept s at n h.is refl (rows_of scalar) 6 61 k (omega arith) refl refl))
+      (pair_kept s at n h.is (rows_of scalar) 6 61 k (omega arith) refl refl))
 
-  pub bool_flag : first * 256 + tag ≡ 7 * 256 + 64 → pair_padded s at n ≡ scalar_padded s (one_part at n)
+  pub bool_flag : p.key ≡ 7 * 256 + 64 → pair_padded s at n ≡ scalar_padded s (one_part at n)
   unfolding rows_of row_for has_required inside_scalar
-  bool_flag k = plain (omega (arith, held_short h))
+  bool_flag k = plain 7 64 k (omega arith) (omega arith)
       (ap (inside_scalar s (one_part at n))
-      (pair_kept s at n h.is refl (rows_of scalar) 7 64 k (omega arith) refl refl))
+      (pair_kept s at n h.is (rows_of scalar) 7 64 k (omega arith) refl refl))
 
   -- octets and strings have their message, an Any its scalar
-  pub octets_flag : first * 256 + tag ≡ 4 * 256 + 42 →
-      (pair_padded s at n || part_padded s start value) ≡ scalar_padded s (one_part at n)
+  pub octets_flag : p.key ≡ 4 * 256 + 42 →
+      (pair_padded s at n || part_padded s p.start p.value) ≡ scalar_padded s (one_part at n)
   unfolding rows_of row_for has_required inside_scalar
-  octets_flag k = scalar_in_lem s at n (pair_part h (omega (arith, held_short h)))
-      (one_flag s start value
+  octets_flag k = scalar_in_lem s at n (pair_part h 4 42 k (omega arith) (omega arith))
+      (one_flag s p.start p.value
       ∙ ap (parts_padded s) (sym (inner_one h 4 42 k (omega arith) (omega arith) refl))
       ∙ ap (inside_scalar s (one_part at n))
-      (pair_bytes s at n h.is refl (rows_of scalar) 4 42 k (omega arith) refl refl refl))
+      (pair_bytes s at n h.is (rows_of scalar) 4 42 k (omega arith) refl refl refl))
 
-  pub string_flag : first * 256 + tag ≡ 8 * 256 + 74 →
-      (pair_padded s at n || part_padded s start value) ≡ scalar_padded s (one_part at n)
+  pub string_flag : p.key ≡ 8 * 256 + 74 →
+      (pair_padded s at n || part_padded s p.start p.value) ≡ scalar_padded s (one_part at n)
   unfolding rows_of row_for has_required inside_scalar
-  string_flag k = scalar_in_lem s at n (pair_part h (omega (arith, held_short h)))
-      (one_flag s start value
+  string_flag k = scalar_in_lem s at n (pair_part h 8 74 k (omega arith) (omega arith))
+      (one_flag s p.start p.value
       ∙ ap (parts_padded s) (sym (inner_one h 8 74 k (omega arith) (omega arith) refl))
       ∙ ap (inside_scalar s (one_part at n))
-      (pair_bytes s at n h.is refl (rows_of scalar) 8 74 k (omega arith) refl refl refl))
+      (pair_bytes s at n h.is (rows_of scalar) 8 74 k (omega arith) refl refl refl))
 
-  pub scalar_flag : first * 256 + tag ≡ 1 * 256 + 18 →
-      (pair_padded s at n || scalar_padded s (one_part start value)) ≡ argument_padded s at n
+  pub scalar_flag : p.key ≡ 1 * 256 + 18 →
+      (pair_padded s at n || scalar_padded s (one_part p.start p.value)) ≡ argument_padded s at n
   unfolding rows_of row_for has_required inside_any
-  scalar_flag k = any_in s at n (pair_part h (omega (arith, held_short h)))
+  scalar_flag k = any_in s at n (pair_part h 1 18 k (omega arith) (omega arith))
       (ap (scalar_padded s) (sym (scalar_parted h k))
       ∙ ap (inside_any s (scalar_parts s at n))
-      (pair_bytes s at n h.is refl (rows_of any) 1 18 k (omega arith) refl refl refl))
+      (pair_bytes s at n h.is (rows_of any) 1 18 k (omega arith) refl refl refl))

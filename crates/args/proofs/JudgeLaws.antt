@@ -1,14 +1,17 @@
 -- Whether every argument of a message is good, field by field. Assumes nothing.
 use Rattle.prelude.proofs.Basics.{ℕ, ◌≤◌, ◌<◌, arith, Bool, true, false, cond, ◌≡◌, refl, sym, ap, ◌∙◌, List, []}
 use Rattle.prelude.proofs.Basics.{◌∷◌, length, eqb, eq-eqb, eqb-false, ne_eqb}
-use Rattle.args.proofs.Names.{Argument, field_at, Field, argument_in, arguments_at, any_type_of}
+use Rattle.args.proofs.Names.{Argument, field_at, argument_in, arguments_at, any_type_of}
 use Rattle.args.proofs.Names.{no_arguments, bad_arguments, with_type, together, arguments_in, Arguments}
-use Rattle.args.proofs.Names.{ArgPlace}
+use Rattle.std.specs.Prelude.{Err}
+use Rattle.protocol.specs.declared.reason.Reason.{Reason}
 use Rattle.args.specs.private.Bound.{tests_args}
 use Rattle.args.proofs.PlaceLaws.{starts, no_field, next_end, next_placed}
 use Rattle.args.proofs.ArgumentsLaws.{type_good, from_none, from_found}
 use Rattle.args.proofs.BoundLaws.{tests}
 use Rattle.args.proofs.UnreadLaws.{args_at, args_past}
+use Rattle.std.specs.Prelude.{None}
+use Rattle.wire.specs.Field.{some_field}
 
 -- each is good
 abbrev good_args : List Argument → Bool
@@ -40,15 +43,15 @@ module _ {s : List ℕ} {from p : ℕ} (j : Judging s from p) where
   judged h = ap good_args (sym (from_none (length s) s p (next_end s p h))) ∙ j.whole
 
   module _ (inside : p < length s) where
-    pub judged_bad : field_at s p ≡ Field.Bad → false ≡ (arguments_in s from).good
+    pub judged_bad : field_at s p ≡ None → false ≡ (arguments_in s from).good
     judged_bad e =
         ap good_args
         (sym
         (from_found (length s) s p (omega arith)
-        (sym (next_placed s p ArgPlace.Bad (no_field (starts s p) inside e)))))
+        (sym (next_placed s p (Err Reason.BadPayload) (no_field (starts s p) inside e)))))
         ∙ j.whole
 
-    module _ {number wire v start n next : ℕ} (e : field_at s p ≡ Field.Good number wire v start n next) where
+    module _ {number wire v start n next : ℕ} (e : field_at s p ≡ some_field number wire v start n next) where
       pub judged_other : tests_args number wire ≡ false → Judging s from next
       judged_other h =
           record { whole = ap good_args (sym (args_past s p e (tests number wire v ∙ h))) ∙ j.whole }

@@ -8,7 +8,7 @@ pub mod PlaceLaws
 pub mod ArgumentsLaws
 pub mod ToldLaws
 pub mod TypedLaws
-pub mod ArrayLaws
+pub mod FoundLaws
 pub mod CutLaws
 pub mod EnoughLaws
 pub mod ArgsFieldLaws

@@ -19,10 +19,14 @@ use Rattle.args.proofs.Names.{parts_of, parts_in, merged, Part, Slots, Alike, pa
 use Rattle.args.proofs.Names.{inner_within, bad, present, bytes_of, bytes_in, of_type, scalar_of, scalar_in}
 use Rattle.args.proofs.Names.{of_any_type, any_of, scalar_parts, argument_in, arg_place, of_place, next_argument}
 use Rattle.args.proofs.Names.{and_more}
-use Rattle.args.proofs.Names.{arguments_from, moved, ArgPlace, NextArgument}
+use Rattle.args.proofs.Names.{arguments_from, moved, Sought, placed_at, found_argument, NextArgument}
+use Rattle.std.specs.Prelude.{Option, Some, None, Ok, Err}
+use Rattle.protocol.specs.declared.reason.Reason.{Reason}
 use Rattle.args.proofs.PlaceLaws.{Seeking, starts, ends, no_field, advances, found, other_wire, other_number}
 use Rattle.args.proofs.PlaceLaws.{next_end, next_placed}
 use Rattle.args.proofs.ArgumentsLaws.{from_none, advances as next-advances}
+use Rattle.std.specs.Prelude.{Option, Some, None}
+use Rattle.wire.specs.Field.{some_field}
 
 -- ---- embedded messages
 
@@ -204,12 +208,12 @@ module _ {s : List ℕ} {d : ℕ} {t q : List ℕ} (k : Stands s d t q) where
 
 -- ---- the arguments of a message, one by one and all
 
-abbrev pub moved_next : ℕ → NextArgument → NextArgument
-moved_next d (NextArgument.Found a next) = NextArgument.Found (moved d a) (d + next)
-moved_next d NextArgument.End = NextArgument.End
+abbrev pub moved_next : ℕ → Option NextArgument → Option NextArgument
+moved_next d (Some found) = found_argument (moved d found.value) (d + found.next)
+moved_next d None = None
 
 -- a field ends within the bytes
-pub field_inside : (s : List ℕ) (p : ℕ) {n w v st ln next : ℕ} → field_at s p ≡ Field.Good n w v st ln next →
+pub field_inside : (s : List ℕ) (p : ℕ) {n w v st ln next : ℕ} → field_at s p ≡ some_field n w v st ln next →
     (st + ln ≤ length s) × (p < next) × (next ≤ length s)
 field_inside s p {n} {w} {v} {st} {ln} {next} e = go (field_past s p)
   where
@@ -222,7 +226,7 @@ module _ {s : List ℕ} {d : ℕ} {t : List ℕ} (k : Tail s d t) (at : ℕ) whe
   abbrev Same : Type 0
   Same = next_argument s (d + at) ≡ moved_next d (next_argument t at)
 
-  both-placed : (x y : ArgPlace) → x ≡ arg_place t at → y ≡ arg_place s (d + at) →
+  both-placed : (x y : Sought) → x ≡ arg_place t at → y ≡ arg_place s (d + at) →
       of_place s y ≡ moved_next d (of_place t x) → Same
   both-placed x y e f h = sym (next_placed s (d + at) y f) ∙ h ∙ ap (moved_next d) (next_placed t at x e)
 
@@ -231,44 +235,45 @@ module _ {s : List ℕ} {d : ℕ} {t : List ℕ} (k : Tail s d t) (at : ℕ) whe
     j : d + p < length s
     j = omega (arith, tail_length k)
 
-    by_field : (z : Field) → field_at t p ≡ z → Same
-    by_field Field.Bad e =
-        both-placed ArgPlace.Bad ArgPlace.Bad (no_field f i e) (no_field g j (field_moved k p ∙ ap (moved_field d) e))
-        (ap (λ (n : ℕ). NextArgument.Found (Va.Refused 6) n) (tail_length k))
-    by_field (Field.Good n w v st ln next) e = by_number (eqb n 2) refl
+    by_field : (z : Option Field) → field_at t p ≡ z → Same
+    by_field None e =
+        both-placed (Err Reason.BadPayload) (Err Reason.BadPayload) (no_field f i e)
+        (no_field g j (field_moved k p ∙ ap (moved_field d) e))
+        (ap (λ (n : ℕ). found_argument (Va.Refused 6) n) (tail_length k))
+    by_field (Some r) e = by_number (eqb r.number 2) refl
       where
-        e' : field_at s (d + p) ≡ Field.Good n w v (d + st) ln (d + next)
+        e' : field_at s (d + p) ≡ some_field r.number r.wire r.value (d + r.start) r.len (d + r.next)
         e' = field_moved k p ∙ ap (moved_field d) e
 
-        by-wire : n ≡ 2 → (b : Bool) → eqb w 2 ≡ b → Same
+        by-wire : r.number ≡ 2 → (b : Bool) → eqb r.wire 2 ≡ b → Same
         by-wire h true b =
-            both-placed (ArgPlace.At st ln next) (ArgPlace.At (d + st) ln (d + next)) (found f i e h (eqb-true w 2 b))
-            (found g j e' h (eqb-true w 2 b))
-            (ap (λ (a : Argument). NextArgument.Found a (d + next))
-            (argument_moved (tail_stands k) st ln (field_inside t p e).0))
+            both-placed (placed_at r.start r.len r.next) (placed_at (d + r.start) r.len (d + r.next)) (found f i e h (eqb-true r.wire 2 b))
+            (found g j e' h (eqb-true r.wire 2 b))
+            (ap (λ (a : Argument). found_argument a (d + r.next))
+            (argument_moved (tail_stands k) r.start r.len (field_inside t p e).0))
         by-wire h false b =
-            on next (advances f i e) (other_wire f i e h (eqb-false w 2 b)) (other_wire g j e' h (eqb-false w 2 b))
+            on r.next (advances f i e) (other_wire f i e h (eqb-false r.wire 2 b)) (other_wire g j e' h (eqb-false r.wire 2 b))
 
-        by_number : (b : Bool) → eqb n 2 ≡ b → Same
-        by_number true b = by-wire (eqb-true n 2 b) (eqb w 2) refl
+        by_number : (b : Bool) → eqb r.number 2 ≡ b → Same
+        by_number true b = by-wire (eqb-true r.number 2 b) (eqb r.wire 2) refl
         by_number false b =
-            on next (advances f i e) (other_number f i e (eqb-false n 2 b)) (other_number g j e' (eqb-false n 2 b))
+            on r.next (advances f i e) (other_number f i e (eqb-false r.number 2 b)) (other_number g j e' (eqb-false r.number 2 b))
 
   walks : (most p : ℕ) → length t ≤ p + most → Seeking t at p → Seeking s (d + at) (d + p) → Same
   walks zero p h f g =
-      both-placed ArgPlace.End ArgPlace.End (ends f (omega arith)) (ends g (omega (arith, tail_length k))) refl
+      both-placed (Ok None) (Ok None) (ends f (omega arith)) (ends g (omega (arith, tail_length k))) refl
   walks (suc most) p h f g =
       less_or_not p (length t) (λ i. by_field p i f g (λ q z. walks most q (omega arith)) (field_at t p) refl)
-      (λ i. both-placed ArgPlace.End ArgPlace.End (ends f i) (ends g (omega (arith, tail_length k))) refl)
+      (λ i. both-placed (Ok None) (Ok None) (ends f i) (ends g (omega (arith, tail_length k))) refl)
 
   pub next_moved : Same
   next_moved = walks (length t) at (omega arith) (starts t at) (starts s (d + at))
 
 -- ---- all arguments
 
-pub args_found : (m : ℕ) (s : List ℕ) (at : ℕ) {a : Argument} {next : ℕ} →
-    next_argument s at ≡ NextArgument.Found a next →
-    arguments_from (suc m) s at ≡ a ∷ arguments_from m s next
+pub args_found : (m : ℕ) (s : List ℕ) (at : ℕ) {found : NextArgument} →
+    next_argument s at ≡ Some found →
+    arguments_from (suc m) s at ≡ found.value ∷ arguments_from m s found.next
 unfolding arguments_from
 args_found m s at e = ap (and_more (λ next. arguments_from m s next)) e
 
@@ -285,12 +290,12 @@ module _ {s : List ℕ} {d : ℕ} {t : List ℕ} (k : Tail s d t) where
       go (λ next a. args_moved m n next (omega arith) (omega arith)) (next_argument t at) refl
     where
       go : ((next : ℕ) → at < next → arguments_from n s (d + next) ≡ map (moved d) (arguments_from m t next)) →
-          (x : NextArgument) → next_argument t at ≡ x →
+          (x : Option NextArgument) → next_argument t at ≡ x →
           arguments_from (suc n) s (d + at) ≡ map (moved d) (arguments_from (suc m) t at)
-      go on (NextArgument.Found a next) e =
+      go on (Some found) e =
           args_found n s (d + at) (next_moved k at ∙ ap (moved_next d) e)
-          ∙ ap (λ (l : List Argument). moved d a ∷ l) (on next (next-advances t at e).0)
+          ∙ ap (λ (l : List Argument). moved d found.value ∷ l) (on found.next (next-advances t at e).0)
           ∙ sym (ap (map (moved d)) (args_found m t at e))
-      go on NextArgument.End e =
+      go on None e =
           from_none (suc n) s (d + at) (next_moved k at ∙ ap (moved_next d) e)
           ∙ sym (ap (map (moved d)) (from_none (suc m) t at e))

@@ -40,8 +40,10 @@ pub use Rattle.layout.proofs.CutLaws.{parts_by, one_within, inner_within, inner_
 pub use Rattle.layout.proofs.PaddedLaws.{Marking, marks, marked, marks_on, padded_inside}
 unfoldable pub use Rattle.args.specs.Value.{bad, present, bytes_of, bytes_in, of_type, scalar_of, scalar_in, of_any_type}
 unfoldable pub use Rattle.args.specs.Value.{any_of, scalar_parts, argument_in}
-unfoldable pub use Rattle.args.specs.Arguments.{is_args, of_field, place_from, arg_place, place_of, of_place}
+unfoldable pub use Rattle.args.specs.Arguments.{is_args, Sought, placed_at, of_field, place_from, arg_place}
+unfoldable pub use Rattle.args.specs.Arguments.{place_of, found_argument, of_place}
 unfoldable pub use Rattle.args.specs.Arguments.{next_argument, and_more, arguments_from, arguments_at, any_type_of}
+unfoldable pub use Rattle.args.specs.Arguments.{number_of, type_number}
 unfoldable pub use Rattle.args.specs.Arguments.{no_arguments, bad_arguments, counted, with_type, together}
 unfoldable pub use Rattle.args.specs.Arguments.{arguments_in, handed_out}
 unfoldable pub use Rattle.args.specs.Padded.{bytes_padded, inside_scalar, scalar_padded, inside_any, argument_padded}
@@ -52,5 +54,5 @@ pub use Rattle.args.specs.declared.arguments.ArgPlace.{ArgPlace}
 pub use Rattle.args.specs.declared.arguments.Arguments.{Arguments}
 pub use Rattle.args.specs.declared.arguments.NextArgument.{NextArgument}
 pub use Rattle.args.specs.declared.bound.Bound.{Bound}
+pub use Rattle.args.specs.declared.kind.AnyType.{AnyType}
 pub use Rattle.args.specs.declared.pair.Pair.{Pair}
-pub use Rattle.args.specs.declared.pair.Text.{Text}

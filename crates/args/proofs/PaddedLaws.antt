@@ -1,6 +1,6 @@
 -- Whether the short ways for one field or two read a padded varint, step by step, and what that says of the whole
 -- message. Assumes nothing.
-use Rattle.prelude.proofs.Basics.{ℕ, ◌+◌, ◌-◌, ◌%◌, ◌≤◌, ◌<◌, arith, Bool, true, false, ◌||◌, ◌≡◌, refl, sym, ap, ◌∙◌}
+use Rattle.prelude.proofs.Basics.{ℕ, ◌+◌, ◌*◌, ◌-◌, ◌%◌, ◌≤◌, ◌<◌, arith, Bool, true, false, ◌||◌, ◌≡◌, refl, sym, ap, ◌∙◌}
 use Rattle.prelude.proofs.Basics.{List, length, get_or, take, length-take-le, eqb, ltb, eq-eqb, eqb-true, le-leb, le-ltb}
 use Rattle.prelude.proofs.Basics.{lt-leb, lt-ltb, ltb-false, ltb-true, ne_eqb, both, yes, no, less_or_not, or_false}
 use Rattle.prelude.proofs.Basics.{or_within}
@@ -13,9 +13,10 @@ use Rattle.layout.proofs.FieldsLaws as Fields
 use Rattle.layout.proofs.PaddedLaws.{flag_turn}
 use Rattle.args.proofs.Names.{field_at, value_padded, field_padded, quick_flag, bad_slots, use_of, field_list, checked}
 use Rattle.args.proofs.Names.{fields_at, has_required, embedded, nothing_inside, part_padded, Slots, part_within}
-use Rattle.args.proofs.Names.{Marking, marks, marked, marks_on, padded_inside, Text}
+use Rattle.args.proofs.Names.{Marking, marks, marked, marks_on, padded_inside, Part, Pair}
+use Rattle.std.specs.Prelude.{Some}
 use Rattle.args.specs.private.Pair.{pair_flag, pair_padded, text_in, text_flag, text_padded, lone_in}
-use Rattle.args.proofs.PairLaws.{FieldOne, TwoFields, field_one, field_two, wire_low, lone_filled}
+use Rattle.args.proofs.PairLaws.{FieldOne, TwoFields, Found, field_one, field_two, wire_low, lone_filled}
 use Rattle.args.proofs.PairLaws as Two
 use Rattle.args.proofs.TextLaws.{Filled}
 use Rattle.args.proofs.TextLaws as Alone
@@ -183,19 +184,18 @@ module _ {s : List ℕ} {at first tag value start : ℕ} (t : TwoFields s at fir
       flag_pair s at t.inside t.one.one_is first t.one.first_is t.one.first_short tag t.tag_is
       t.tag_short
 
-module _ {s : List ℕ} {at n first tag value start : ℕ} (h : Held s at n first tag value start) where
-  says : (at + n ≤ length s) × TwoFields (take (at + n) s) at first tag value start
-  says = Two.told s at n h.is refl
-
-  pub held_short : tag < 128
-  held_short = says.1.tag_short
+module _ {s : List ℕ} {at n : ℕ} {p : Pair} (h : Held s at n p) where
+  says : (at + n ≤ length s) × Found (take (at + n) s) at p
+  says = Two.told s at n h.is
 
   -- of two fields that fill the message the flag is the message's
-  pub pair_part : 8 ≤ tag → pair_padded s at n ≡ part_padded s at n
-  pair_part k =
+  pub pair_part : (kind key : ℕ) → p.key ≡ kind * 256 + key → 8 ≤ key → key < 128 →
+      pair_padded s at n ≡ part_padded s at n
+  pair_part kind key named some short =
+      let f = says.1 in
       sym (pair_cut s at n says.0)
-      ∙ sym (two-flag says.1)
-      ∙ two-list says.1 k
+      ∙ sym (two-flag f.fields)
+      ∙ two-list f.fields (omega (arith, f.key_is, f.fields.tag_short))
       ∙ padded_inside s at (at + n) says.0
 
 -- bytes alone are the value of a tag of one byte
@@ -277,9 +277,9 @@ module _ (s : List ℕ) (at n : ℕ) where
       sym (padded_inside s at (at + n) h) ∙ text_listed (take (at + n) s) at (text_flag_cut s at n h ∙ e)))
 
   -- bytes alone
-  pub text_part : {start len : ℕ} → text_in s at n ≡ Text.Alone start len → text_padded s at n ≡ part_padded s at n
+  pub text_part : {p : Part} → text_in s at n ≡ Some p → text_padded s at n ≡ part_padded s at n
   text_part e =
-      let f = Alone.told s at n e refl in
+      let f = Alone.told s at n e in
       sym (text_flag_cut s at n f.0)
       ∙ text_field (take (at + n) s) at f.1
       ∙ marked
@@ -289,9 +289,9 @@ module _ (s : List ℕ) (at n : ℕ) where
       ∙ padded_inside s at (at + n) f.0
 
   -- a type alone
-  pub lone_part : {r : ℕ} → r ≡ lone_in s at n → 0 < r → part_padded s at n ≡ false
-  lone_part {r} p some =
-      let f = lone_filled s at n p some in
+  pub lone_part : {first : ℕ} → Some first ≡ lone_in s at n → part_padded s at n ≡ false
+  lone_part {first} p =
+      let f = lone_filled s at n p in
       ap (part_padded s at) f.0
       ∙ sym (padded_inside s at (at + 2) f.2)
       ∙ one_list f.1 (length-take-le (at + 2) s f.2)

@@ -1,7 +1,8 @@
 -- The short ways for a message of one field or two: their values of one byte, their steps, and what a message's rows
 -- make of the fields. Assumes nothing.
-use Rattle.prelude.proofs.Basics.{ℕ, ◌+◌, ◌-◌, ◌*◌, ◌/◌, ◌%◌, ◌^◌, ◌≤◌, ◌<◌, arith, Bool, true, false, ◌&&◌, cond, ◌≡◌}
+use Rattle.prelude.proofs.Basics.{ℕ, ◌+◌, ◌-◌, ◌*◌, ◌/◌, ◌%◌, ◌≤◌, ◌<◌, arith, Bool, true, false, ◌&&◌, cond, ◌≡◌}
 use Rattle.prelude.proofs.Basics.{refl}
+use Rattle.std.specs.Prelude.{Option, Some, None}
 use Rattle.prelude.proofs.Basics.{sym, ap, ap₂, subst, ◌∙◌, List, ◌∷◌, length, get_or, take, get_or-take, length-take-le}
 use Rattle.prelude.proofs.Basics.{eqb, leb, ltb}
 use Rattle.prelude.proofs.Basics.{eq-eqb, eqb-true, le-leb, le-ltb, leb-true, lt-leb, lt-ltb, ltb-false, ltb-true}
@@ -12,22 +13,24 @@ use Rattle.wire.proofs.ValueLaws.{length_good, value_number, value_length, value
 use Rattle.wire.proofs.FieldLaws.{field_value, one_byte_lem}
 use Rattle.layout.proofs.FieldsLaws.{kept_slot}
 use Rattle.layout.proofs.PartsLaws.{parts_end, parts_on}
-use Rattle.args.proofs.Names.{value_at, of_value, field_at, Field, Value, quick_wire, LongField, field_long}
+use Rattle.args.proofs.Names.{value_at, of_value, field_at, Value, quick_wire, LongField, field_long}
 use Rattle.args.proofs.Names.{no_slots, use_of, noted, field_list, checked, embedded, one_part, parts_of, Use, Part}
 use Rattle.args.proofs.Names.{Slots, starts, ends}
 use Rattle.args.proofs.Names.{goes_on_lem, part_within, Pair}
 use Rattle.args.specs.private.Pair.{pair_of, pair_at, pair_in, lone_in}
+use Rattle.wire.specs.Field.{some_field}
+use Rattle.wire.specs.Value.{some_value}
 
 -- ---- a number or a length of one byte
 
 module _ (s : List ℕ) (wire at v : ℕ) (inside : at < length s) (is : v ≡ get_or s at 0) (short : v < 128) where
-  pub quick_number : wire ≡ 0 → Value.Good v at 1 (at + 1) ≡ value_at s wire at
+  pub quick_number : wire ≡ 0 → some_value v at 1 (at + 1) ≡ value_at s wire at
   quick_number e =
       let long : 1 ≡ at + 1 - at = omega arith in
-      ap (λ (k : ℕ). Value.Good v at k (at + 1)) long ∙ ap (of_varint at) (one_byte_lem s at v inside is short)
+      ap (λ (k : ℕ). some_value v at k (at + 1)) long ∙ ap (of_varint at) (one_byte_lem s at v inside is short)
       ∙ value_number s wire at e
 
-  pub quick_length : wire ≡ 2 → v ≤ length s - (at + 1) → Value.Good v (at + 1) v (at + 1 + v) ≡ value_at s wire at
+  pub quick_length : wire ≡ 2 → v ≤ length s - (at + 1) → some_value v (at + 1) v (at + 1 + v) ≡ value_at s wire at
   quick_length e h =
       length_good s v (at + 1) h
       ∙ ap (of_length s) (one_byte_lem s at v inside is short)
@@ -49,11 +52,18 @@ pub record TwoFields (s : List ℕ) (at first tag value start : ℕ) : Type 0 wh
   pub inside : at + 3 ≤ length s
   pub tag_is : tag ≡ get_or s (at + 2) 0
   pub tag_short : tag < 128
-  pub value_is : Value.Good value start len (length s) ≡ value_at s (tag % 8) (at + 3)
+  pub value_is : some_value value start len (length s) ≡ value_at s (tag % 8) (at + 3)
 
-abbrev Says : List ℕ → ℕ → Pair → Type 0
-Says s at (Pair.Two first tag value start) = TwoFields s at first tag value start
-Says s at Pair.Other = Unit {0}
+-- a pair that was found; its key is that value and that tag
+pub record Found (s : List ℕ) (at : ℕ) (p : Pair) : Type 0 where
+  pub first : ℕ
+  pub tag : ℕ
+  pub key_is : p.key ≡ first * 256 + tag
+  pub fields : TwoFields s at first tag p.value p.start
+
+abbrev Says : List ℕ → ℕ → Option Pair → Type 0
+Says s at (Some p) = Found s at p
+Says s at None = Unit {0}
 
 at_says : (s : List ℕ) (at : ℕ) → Says s at (pair_at s at)
 unfolding pair_at
@@ -68,27 +78,32 @@ at_says s at =
     (λ _. tt))
     (λ _. tt))
   where
-    go : (v : Value) → v ≡ value_at s (get_or s (at + 2) 0 % 8) (at + 3) → at + 3 ≤ length s → get_or s at 0 ≡ 8 →
+    go : (v : Option Value) → v ≡ value_at s (get_or s (at + 2) 0 % 8) (at + 3) → at + 3 ≤ length s → get_or s at 0 ≡ 8 →
         get_or s (at + 1) 0 < 128 →
-        get_or s (at + 2) 0 < 128 → Says s at (pair_of (get_or s (at + 1) 0) (get_or s (at + 2) 0) (length s) v)
-    go (Value.Good value start len next) e l o f t =
-        both (Says s at) (eqb next (length s)) (Pair.Two (get_or s (at + 1) 0) (get_or s (at + 2) 0) value start) Pair.Other
+        get_or s (at + 2) 0 < 128 → Says s at (pair_of (get_or s (at + 1) 0 * 256 + get_or s (at + 2) 0) (length s) v)
+    go (Some r) e l o f t =
+        both (Says s at) (eqb r.next (length s)) _ None
         (λ q.
         record {
-          one = record { inside = omega (arith, l); one_is = o; first_is = refl; first_short = f };
-          len = len;
-          inside = l;
-          tag_is = refl;
-          tag_short = t;
-          value_is = ap (Value.Good value start len) (sym (eqb-true next (length s) q)) ∙ e;
+          first = get_or s (at + 1) 0;
+          tag = get_or s (at + 2) 0;
+          key_is = refl;
+          fields =
+              record {
+                one = record { inside = omega (arith, l); one_is = o; first_is = refl; first_short = f };
+                len = r.len;
+                inside = l;
+                tag_is = refl;
+                tag_short = t;
+                value_is = ap (some_value r.number r.start r.len) (sym (eqb-true r.next (length s) q)) ∙ e;
+              };
         })
         (λ _. tt)
-    go Value.Bad e l o f t = tt
+    go None e l o f t = tt
 
-abbrev SaysIn : List ℕ → ℕ → ℕ → Pair → Type 0
-SaysIn s at n (Pair.Two first tag value start) = (at + n ≤ length s) × TwoFields (take (at + n) s) at first tag value
-    start
-SaysIn s at n Pair.Other = Unit {0}
+abbrev SaysIn : List ℕ → ℕ → ℕ → Option Pair → Type 0
+SaysIn s at n (Some p) = (at + n ≤ length s) × Found (take (at + n) s) at p
+SaysIn s at n None = Unit {0}
 
 in_says : (s : List ℕ) (at n : ℕ) → SaysIn s at n (pair_in s at n)
 unfolding pair_in
@@ -96,22 +111,23 @@ in_says s at n =
     both (SaysIn s at n) (leb (at + n) (length s)) _ _
     (λ h. go (pair_at (take (at + n) s) at) (leb-true (at + n) (length s) h) (at_says (take (at + n) s) at)) (λ _. tt)
   where
-    go : (r : Pair) → at + n ≤ length s → Says (take (at + n) s) at r → SaysIn s at n r
-    go (Pair.Two first tag value start) h p = (h, p)
-    go Pair.Other h p = tt
+    go : (r : Option Pair) → at + n ≤ length s → Says (take (at + n) s) at r → SaysIn s at n r
+    go (Some p) h t = (h, t)
+    go None h t = tt
 
--- field 1 alone; 0 is no type that stands alone
-abbrev SaysLone : List ℕ → ℕ → ℕ → ℕ → Type 0
-SaysLone s at n first = 0 < first → (n ≡ 2) × FieldOne s at first
+-- field 1 alone
+abbrev SaysLone : List ℕ → ℕ → ℕ → Option ℕ → Type 0
+SaysLone s at n (Some first) = (n ≡ 2) × FieldOne s at first
+SaysLone s at n None = Unit {0}
 
 lone_says : (s : List ℕ) (at n : ℕ) → SaysLone s at n (lone_in s at n)
 unfolding lone_in
 lone_says s at n =
     both (SaysLone s at n) (eqb n 2) _ _
-    (λ two. both (SaysLone s at n) (ltb (length s) (at + 2)) _ _ (λ _ h. absurd (omega arith))
+    (λ two. both (SaysLone s at n) (ltb (length s) (at + 2)) _ _ (λ _. tt)
     (λ l. both (SaysLone s at n) (eqb (get_or s at 0) 8) _ _
     (λ o. both (SaysLone s at n) (ltb (get_or s (at + 1) 0) 128) _ _
-    (λ f h. (
+    (λ f. (
       eqb-true n 2 two,
       record {
         inside = ltb-false (length s) (at + 2) l;
@@ -120,18 +136,18 @@ lone_says s at n =
         first_short = ltb-true (get_or s (at + 1) 0) 128 f;
       },
     ))
-    (λ _ h. absurd (omega arith)))
-    (λ _ h. absurd (omega arith))))
-    (λ _ h. absurd (omega arith))
+    (λ _. tt))
+    (λ _. tt)))
+    (λ _. tt)
 
 -- ---- the fields
 
 module _ {s : List ℕ} {at first : ℕ} (t : FieldOne s at first) where
-  pub field_one : field_at s at ≡ Field.Good 1 0 first (at + 1) 1 (at + 2)
+  pub field_one : field_at s at ≡ some_field 1 0 first (at + 1) 1 (at + 2)
   field_one =
       let next : at + 1 + 1 ≡ at + 2 = omega arith in
       sym
-      (ap (λ (p : ℕ). Field.Good 1 0 first (at + 1) 1 p) (sym next)
+      (ap (λ (p : ℕ). some_field 1 0 first (at + 1) 1 p) (sym next)
       ∙ ap (of_value 1 0) (quick_number s 0 (at + 1) first (omega (arith, t.inside)) t.first_is t.first_short
       refl)
       ∙ quick_wire s at 8 (omega (arith, t.inside)) (sym t.one_is) (omega arith) 0 (omega arith) refl (omega arith))
@@ -164,7 +180,7 @@ module _ {s : List ℕ} {at first tag value start : ℕ} (t : TwoFields s at fir
           let high = ltb-false (tag % 8) 6 e in absurd
           (never (λ h. omega arith) (λ h. omega arith) (λ h. omega arith) (λ h. omega arith))
 
-  pub field_two : 8 ≤ tag → field_at s (at + 2) ≡ Field.Good (tag / 8) (tag % 8) value start t.len (length s)
+  pub field_two : 8 ≤ tag → field_at s (at + 2) ≡ some_field (tag / 8) (tag % 8) value start t.len (length s)
   field_two h =
       let next : at + 3 ≡ at + 2 + 1 = omega arith in
       sym
@@ -190,28 +206,18 @@ module _ {s : List ℕ} {at first tag value start : ℕ} (t : TwoFields s at fir
 
 -- ---- the steps of the short ways
 
-module _ (first tag end : ℕ) {value start len next : ℕ} {read : Value} (e : read ≡ Value.Good value start len next)
-  where
-    pub pair_ends : next ≡ end → Pair.Two first tag value start ≡ pair_of first tag end read
-    pair_ends h = yes (Pair.Two first tag value start) Pair.Other (eq-eqb next end h) ∙ ap (pair_of first tag end)
-        (sym e)
-
-    pub pair_goes_on : (next ≡ end → ⊥) → Pair.Other ≡ pair_of first tag end read
-    pair_goes_on h = no (Pair.Two first tag value start) Pair.Other (ne_eqb next end h)
-        ∙ ap (pair_of first tag end) (sym e)
-
 module _ (s : List ℕ) (at : ℕ) where
-  pub at_short : length s < at + 3 → Pair.Other ≡ pair_at s at
+  pub at_short : length s < at + 3 → None ≡ pair_at s at
   unfolding pair_at
-  at_short h = yes Pair.Other _ (lt-ltb (length s) (at + 3) h)
+  at_short h = yes None _ (lt-ltb (length s) (at + 3) h)
 
   module _ (inside : at + 3 ≤ length s) where
-    pub at_other : (get_or s at 0 ≡ 8 → ⊥) → Pair.Other ≡ pair_at s at
+    pub at_other : (get_or s at 0 ≡ 8 → ⊥) → None ≡ pair_at s at
     unfolding pair_at
     at_other o = simp (le-ltb (length s) (at + 3) inside, ne_eqb (get_or s at 0) 8 o)
 
     module _ (o : get_or s at 0 ≡ 8) (first : ℕ) (f : first ≡ get_or s (at + 1) 0) where
-      pub at_long_first : 128 ≤ first → Pair.Other ≡ pair_at s at
+      pub at_long_first : 128 ≤ first → None ≡ pair_at s at
       unfolding pair_at
       at_long_first h = simp (
         le-ltb (length s) (at + 3) inside,
@@ -221,7 +227,7 @@ module _ (s : List ℕ) (at : ℕ) where
       )
 
       module _ (h : first < 128) (tag : ℕ) (g : tag ≡ get_or s (at + 2) 0) where
-        pub at_long_tag : 128 ≤ tag → Pair.Other ≡ pair_at s at
+        pub at_long_tag : 128 ≤ tag → None ≡ pair_at s at
         unfolding pair_at
         at_long_tag k =
             simp (
@@ -231,44 +237,47 @@ module _ (s : List ℕ) (at : ℕ) where
               le-ltb (get_or s (at + 2) 0) 128 (omega arith),
             )
 
-        pub at_pair : tag < 128 → (read : Value) → read ≡ value_at s (tag % 8) (at + 3) →
-            pair_of first tag (length s) read ≡ pair_at s at
+        pub at_pair : tag < 128 → (read : Option Value) → read ≡ value_at s (tag % 8) (at + 3) →
+            pair_of (first * 256 + tag) (length s) read ≡ pair_at s at
         unfolding pair_at
         at_pair k read v =
-            ap (pair_of first tag (length s)) v
-            ∙ ap (λ (y : ℕ). pair_of first y (length s) (value_at s (y % 8) (at + 3))) g
-            ∙ ap (λ (x : ℕ). pair_of x (get_or s (at + 2) 0) (length s) (value_at s (get_or s (at + 2) 0 % 8) (at + 3))) f
-            ∙ yes _ Pair.Other (lt-ltb (get_or s (at + 2) 0) 128 (omega arith))
-            ∙ yes _ Pair.Other (lt-ltb (get_or s (at + 1) 0) 128 (omega arith))
-            ∙ yes _ Pair.Other (eq-eqb (get_or s at 0) 8 o)
-            ∙ no Pair.Other _ (le-ltb (length s) (at + 3) inside)
+            ap (pair_of (first * 256 + tag) (length s)) v
+            ∙ ap (λ (y : ℕ). pair_of (first * 256 + y) (length s) (value_at s (y % 8) (at + 3))) g
+            ∙ ap
+            (λ (x : ℕ).
+            pair_of (x * 256 + get_or s (at + 2) 0) (length s) (value_at s (get_or s (at + 2) 0 % 8) (at + 3)))
+            f
+            ∙ yes _ None (lt-ltb (get_or s (at + 2) 0) 128 (omega arith))
+            ∙ yes _ None (lt-ltb (get_or s (at + 1) 0) 128 (omega arith))
+            ∙ yes _ None (eq-eqb (get_or s at 0) 8 o)
+            ∙ no None _ (le-ltb (length s) (at + 3) inside)
 
 module _ (s : List ℕ) (at n : ℕ) where
-  pub in_past : length s < at + n → Pair.Other ≡ pair_in s at n
+  pub in_past : length s < at + n → None ≡ pair_in s at n
   unfolding pair_in
-  in_past h = no _ Pair.Other (lt-leb (at + n) (length s) h)
+  in_past h = no _ None (lt-leb (at + n) (length s) h)
 
   pub in_cut : at + n ≤ length s → pair_at (take (at + n) s) at ≡ pair_in s at n
   unfolding pair_in
-  in_cut h = yes _ Pair.Other (le-leb (at + n) (length s) h)
+  in_cut h = yes _ None (le-leb (at + n) (length s) h)
 
 module _ (s : List ℕ) (at n : ℕ) where
-  pub lone_longer : (n ≡ 2 → ⊥) → 0 ≡ lone_in s at n
+  pub lone_longer : (n ≡ 2 → ⊥) → None ≡ lone_in s at n
   unfolding lone_in
-  lone_longer h = no _ 0 (ne_eqb n 2 h)
+  lone_longer h = no _ None (ne_eqb n 2 h)
 
   module _ (two : n ≡ 2) where
-    pub lone_past : length s < at + 2 → 0 ≡ lone_in s at n
+    pub lone_past : length s < at + 2 → None ≡ lone_in s at n
     unfolding lone_in
     lone_past h = simp (eq-eqb n 2 two, lt-ltb (length s) (at + 2) h)
 
     module _ (inside : at + 2 ≤ length s) where
-      pub lone_other : (get_or s at 0 ≡ 8 → ⊥) → 0 ≡ lone_in s at n
+      pub lone_other : (get_or s at 0 ≡ 8 → ⊥) → None ≡ lone_in s at n
       unfolding lone_in
       lone_other o = simp (eq-eqb n 2 two, le-ltb (length s) (at + 2) inside, ne_eqb (get_or s at 0) 8 o)
 
       module _ (o : get_or s at 0 ≡ 8) (first : ℕ) (f : first ≡ get_or s (at + 1) 0) where
-        pub lone_long : 128 ≤ first → 0 ≡ lone_in s at n
+        pub lone_long : 128 ≤ first → None ≡ lone_in s at n
         unfolding lone_in
         lone_long h =
             simp (
@@ -278,29 +287,29 @@ module _ (s : List ℕ) (at n : ℕ) where
               le-ltb (get_or s (at + 1) 0) 128 (omega arith),
             )
 
-        pub lone_found : first < 128 → first ≡ lone_in s at n
+        pub lone_found : first < 128 → Some first ≡ lone_in s at n
         unfolding lone_in
         lone_found h =
-            f
-            ∙ yes (get_or s (at + 1) 0) 0 (lt-ltb (get_or s (at + 1) 0) 128 (omega arith))
-            ∙ yes _ 0 (eq-eqb (get_or s at 0) 8 o)
-            ∙ no 0 _ (le-ltb (length s) (at + 2) inside)
-            ∙ yes _ 0 (eq-eqb n 2 two)
+            ap Some f
+            ∙ yes (Some (get_or s (at + 1) 0)) None (lt-ltb (get_or s (at + 1) 0) 128 (omega arith))
+            ∙ yes _ None (eq-eqb (get_or s at 0) 8 o)
+            ∙ no None _ (le-ltb (length s) (at + 2) inside)
+            ∙ yes _ None (eq-eqb n 2 two)
 
 -- ---- what a message's rows make of one field
 
 -- the bytes of a field that stands alone
-pub lone_filled : (s : List ℕ) (at n : ℕ) {r : ℕ} → r ≡ lone_in s at n → 0 < r →
-    (n ≡ 2) × FieldOne (take (at + 2) s) at r × (at + 2 ≤ length s)
-lone_filled s at n p some =
-    let f = subst (SaysLone s at n) (sym p) (lone_says s at n) some in
+pub lone_filled : (s : List ℕ) (at n : ℕ) {first : ℕ} → Some first ≡ lone_in s at n →
+    (n ≡ 2) × FieldOne (take (at + 2) s) at first × (at + 2 ≤ length s)
+lone_filled s at n p =
+    let f = subst (SaysLone s at n) (sym p) (lone_says s at n) in
     (f.0, cut-behind f.1, f.1.inside)
 
 -- the code asks for a type; the rows keep it
-pub lone_kept : (s : List ℕ) (at n : ℕ) {r : ℕ} → r ≡ lone_in s at n → (rows : List (List ℕ)) (kind : ℕ) → r ≡ kind →
-    0 < kind → Use.Kept ≡ use_of rows 1 0 kind →
+pub lone_kept : (s : List ℕ) (at n : ℕ) (rows : List (List ℕ)) (kind : ℕ) → Some kind ≡ lone_in s at n →
+    Use.Kept ≡ use_of rows 1 0 kind →
     checked rows (noted Use.Kept no_slots 1 kind (at + 1) 1) ≡ embedded rows s at n
-lone_kept s at n {r} p rows kind e some kept = go (subst (SaysLone s at n) (sym p ∙ e) (lone_says s at n) some)
+lone_kept s at n rows kind p kept = go (subst (SaysLone s at n) (sym p) (lone_says s at n))
   where
     go : (n ≡ 2) × FieldOne s at kind → checked rows (noted Use.Kept no_slots 1 kind (at + 1) 1) ≡ embedded rows s at n
     go (two, f) =
@@ -310,55 +319,59 @@ lone_kept s at n {r} p rows kind e some kept = go (subst (SaysLone s at n) (sym 
 
 -- ---- what they make of a pair
 
-module _ (s : List ℕ) (at n : ℕ) {r : Pair} {first tag value start : ℕ} (e : r ≡ Pair.Two first tag value start)
-    (p : r ≡ pair_in s at n) where
-  pub told : SaysIn s at n (Pair.Two first tag value start)
-  told = subst (SaysIn s at n) (sym p ∙ e) (in_says s at n)
-
-  pub named_short : first * 256 + tag < 2 ^ 16
-  named_short = omega (arith, told.1.one.first_short, told.1.tag_short)
+module _ (s : List ℕ) (at n : ℕ) {p : Pair} (e : pair_in s at n ≡ Some p) where
+  pub told : SaysIn s at n (Some p)
+  told = subst (SaysIn s at n) e (in_says s at n)
 
   -- the code asks for a type and a tag, both in one number; the rows keep both fields
-  module _ (rows : List (List ℕ)) (kind key : ℕ) (named : first * 256 + tag ≡ kind * 256 + key) (some : 8 ≤ key)
-      (kept-kind : Use.Kept ≡ use_of rows 1 0 kind) (kept-value : Use.Kept ≡ use_of rows (key / 8) (key % 8) value) where
+  module _ (rows : List (List ℕ)) (kind key : ℕ) (named : p.key ≡ kind * 256 + key) (some : 8 ≤ key)
+      (kept-kind : Use.Kept ≡ use_of rows 1 0 kind) (kept-value : Use.Kept ≡ use_of rows (key / 8) (key % 8) p.value) where
     -- what they hold then
     abbrev pub slots : ℕ → Slots
-    slots len = checked rows (noted Use.Kept (noted Use.Kept no_slots 1 kind (at + 1) 1) (key / 8) value start len)
+    slots len = checked rows (noted Use.Kept (noted Use.Kept no_slots 1 kind (at + 1) 1) (key / 8) p.value p.start len)
 
-    key-is : key ≡ tag
-    key-is = omega (arith, told.1.tag_short, kept_slot rows (key / 8) (key % 8) value kept-value)
+    key-is : key ≡ told.1.tag
+    key-is =
+        omega (
+          arith,
+          told.1.key_is,
+          told.1.fields.one.first_short,
+          told.1.fields.tag_short,
+          kept_slot rows (key / 8) (key % 8) p.value kept-value,
+        )
 
-    kind-is : kind ≡ first
-    kind-is = omega (arith, key-is)
+    kind-is : kind ≡ told.1.first
+    kind-is = omega (arith, told.1.key_is, key-is)
 
-    pub pair_kept : slots told.1.len ≡ embedded rows s at n
+    pub pair_kept : slots told.1.fields.len ≡ embedded rows s at n
     pair_kept =
         rw (kind-is, key-is)
-        (ap (checked rows) (two_listed told.1 rows Use.Kept Use.Kept (omega (arith, key-is))
+        (ap (checked rows) (two_listed told.1.fields rows Use.Kept Use.Kept (omega (arith, key-is))
         (rw kind-is at kept-kind) (rw key-is at kept-value))
         ∙ part_within rows s at n told.0)
 
     -- of a field with bytes the length is the value
-    pub pair_bytes : key % 8 ≡ 2 → slots value ≡ embedded rows s at n
-    pair_bytes h = ap slots (two-long told.1 (omega (arith, key-is)) (rw key-is at h)) ∙ pair_kept
+    pub pair_bytes : key % 8 ≡ 2 → slots p.value ≡ embedded rows s at n
+    pair_bytes h = ap slots (two-long told.1.fields (omega (arith, key-is)) (rw key-is at h)) ∙ pair_kept
 
   -- a second field with bytes has one part
-  pub pair_parts : (kind key : ℕ) → first * 256 + tag ≡ kind * 256 + key → 8 ≤ key → key < 128 → key % 8 ≡ 2 →
-      parts_of (key / 8) (take (at + n) s) at ≡ one_part start value
+  pub pair_parts : (kind key : ℕ) → p.key ≡ kind * 256 + key → 8 ≤ key → key < 128 → key % 8 ≡ 2 →
+      parts_of (key / 8) (take (at + n) s) at ≡ one_part p.start p.value
   pair_parts kind key named some short bytes =
       let u = take (at + n) s in
-      let t = told.1 in
+      let t = told.1.fields in
       let k = key / 8 in
-      let is : tag ≡ key = omega (arith, t.tag_short) in
+      let is : told.1.tag ≡ key = omega (arith, told.1.key_is, t.tag_short) in
       parts_on k u at (omega (arith, t.inside)) _ (field_one t.one)
       ∙ ap (λ (b : Bool). cond b (record { start = at + 1; len = 1 } ∷ parts_of k u (at + 2)) (parts_of k u (at + 2)))
       (never_both (eqb 1 k))
       ∙ parts_on k u (at + 2) (omega (arith, t.inside)) _ (field_two t (omega (arith, is)))
       ∙ ap
       (λ (b : Bool).
-      cond b (record { start = start; len = t.len } ∷ parts_of k u (length u)) (parts_of k u (length u)))
-      (ap₂ ◌&&◌ (eq-eqb (tag / 8) k (ap (λ (i : ℕ). i / 8) is)) (eq-eqb (tag % 8) 2 (ap (λ (i : ℕ). i % 8) is ∙ bytes)))
-      ∙ ap₂ (λ (ln : ℕ) (ps : List Part). record { start = start; len = ln } ∷ ps)
+      cond b (record { start = p.start; len = t.len } ∷ parts_of k u (length u)) (parts_of k u (length u)))
+      (ap₂ ◌&&◌ (eq-eqb (told.1.tag / 8) k (ap (λ (i : ℕ). i / 8) is))
+      (eq-eqb (told.1.tag % 8) 2 (ap (λ (i : ℕ). i % 8) is ∙ bytes)))
+      ∙ ap₂ (λ (ln : ℕ) (ps : List Part). record { start = p.start; len = ln } ∷ ps)
       (sym (two-long t (omega (arith, is)) (ap (λ (i : ℕ). i % 8) is ∙ bytes)))
       (parts_end k u (length u) (length u) (omega arith))
     where

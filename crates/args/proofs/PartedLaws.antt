@@ -1,10 +1,11 @@
--- What the functions that read scalars, octets and strings in parts hand on: where the parts stand, and what the arrays
--- that hold them say. Assumes nothing.
+-- What the functions that read scalars, octets and strings in parts hand on: where the parts stand, and what is
+-- found of them. Assumes nothing.
 use Rattle.prelude.proofs.Basics.{ℕ, ◌+◌, ◌-◌, ◌≤◌, arith, Bool, true, false, ◌||◌, ◌≡◌, refl, sym, ap}
-use Rattle.prelude.proofs.Basics.{subst, ◌∙◌, List, append-nil, length, get_or, take, take-length}
+use Rattle.prelude.proofs.Basics.{subst, ◌∙◌, List, append-nil, length, take, take-length}
 use Rattle.prelude.proofs.Basics.{length-take-le}
 use Rattle.prelude.proofs.Basics.{ne_eqb, no, or_false}
-use Rattle.layout.specs.private.Arrays.{Holds}
+use Rattle.layout.specs.private.Found.{slot_at, Holds}
+use Rattle.layout.specs.declared.found.Found.{Found}
 use Rattle.layout.specs.private.Counted.{Counted}
 use Rattle.layout.specs.MergedRules.{holds_bytes}
 use Rattle.layout.proofs.CountLaws.{good_list}
@@ -20,23 +21,23 @@ use Rattle.args.proofs.CutLaws.{scalar_cut, scalar_flag_cut, inside_cut}
 -- ---- one part
 
 -- an embedded message is a message in one part
-pub held_one : (rows : List (List ℕ)) (s : List ℕ) (at n : ℕ) {g : Bool} {v w u : List ℕ} →
-    Holds (embedded rows s at n) g v w u → Holds (merged rows s (one_part at n)) g v w u
-held_one rows s at n {g} {v} {w} {u} h =
-    subst (λ (x : Slots). Holds x g v w u) (sym (one_part_lem rows s (record { start = at; len = n }))) h
+pub held_one : (rows : List (List ℕ)) (s : List ℕ) (at n : ℕ) {g : Bool} {found : Found} →
+    Holds (embedded rows s at n) g found → Holds (merged rows s (one_part at n)) g found
+held_one rows s at n {g} {found} h =
+    subst (λ (x : Slots). Holds x g found) (sym (one_part_lem rows s (record { start = at; len = n }))) h
 
 -- and stands within the bytes, where it is good
-pub held_within : (rows : List (List ℕ)) (s : List ℕ) (at n : ℕ) {g : Bool} {v w u : List ℕ} →
-    Holds (embedded rows s at n) g v w u → g ≡ true → at + n ≤ length s
+pub held_within : (rows : List (List ℕ)) (s : List ℕ) (at n : ℕ) {g : Bool} {found : Found} →
+    Holds (embedded rows s at n) g found → g ≡ true → at + n ≤ length s
 held_within rows s at n h e = (good_list rows s at (at + n) (sym h.answer ∙ e)).0
 
-pub held_good : {x : Slots} {g : Bool} {v w u : List ℕ} → Holds x g v w u → g ≡ true → Holds x true v w u
-held_good {x} {g} {v} {w} {u} h e = subst (λ (b : Bool). Holds x b v w u) e h
+pub held_good : {x : Slots} {g : Bool} {found : Found} → Holds x g found → g ≡ true → Holds x true found
+held_good {x} {g} {found} h e = subst (λ (b : Bool). Holds x b found) e h
 
-pub held_parts : (rows : List (List ℕ)) (s : List ℕ) {ps qs : List Part} {g : Bool} {v w u : List ℕ} → ps ≡ qs →
-    Holds (merged rows s ps) g v w u → Holds (merged rows s qs) g v w u
-held_parts rows s {g = g} {v = v} {w = w} {u = u} e h =
-    subst (λ (ps : List Part). Holds (merged rows s ps) g v w u) e h
+pub held_parts : (rows : List (List ℕ)) (s : List ℕ) {ps qs : List Part} {g : Bool} {found : Found} → ps ≡ qs →
+    Holds (merged rows s ps) g found → Holds (merged rows s qs) g found
+held_parts rows s {g = g} {found = found} e h =
+    subst (λ (ps : List Part). Holds (merged rows s ps) g found) e h
 
 pub one_padded : (s : List ℕ) (at n : ℕ) {ps : List Part} → ps ≡ one_part at n → part_padded s at n ≡ parts_padded s ps
 unfolding parts_padded
@@ -66,14 +67,14 @@ whole_one s at n h =
     let e : n ≡ length (take (at + n) s) - at = omega (arith, length-take-le (at + n) s h) in
     ap (one_part at) e
 
--- the arrays of a whole Scalar hold it in the bytes cut off behind it
-pub held_cut : (s : List ℕ) (at n : ℕ) → at + n ≤ length s → {g : Bool} {v w u : List ℕ} →
-    Holds (embedded (rows_of scalar) s at n) g v w u →
-    Holds (merged (rows_of scalar) (take (at + n) s) (scalar_by true (take (at + n) s) at)) g v w u
-held_cut s at n h {g} {v} {w} {u} a =
+-- what is found of a whole Scalar is so in the bytes cut off behind it
+pub held_cut : (s : List ℕ) (at n : ℕ) → at + n ≤ length s → {g : Bool} {found : Found} →
+    Holds (embedded (rows_of scalar) s at n) g found →
+    Holds (merged (rows_of scalar) (take (at + n) s) (scalar_by true (take (at + n) s) at)) g found
+held_cut s at n h {g} {found} a =
     let e = at + n in
     held_parts (rows_of scalar) (take e s) (whole_one s at n h)
-    (subst (λ (x : Slots). Holds x g v w u)
+    (subst (λ (x : Slots). Holds x g found)
     (sym (merged_cut (rows_of scalar) s e h (one_part at n) (one_within at n e (omega arith))))
     (held_one (rows_of scalar) s at n a))
 
@@ -115,19 +116,19 @@ bytes_wire : (wire_of (row_for (rows_of scalar) 5) ≡ len) × (wire_of (row_for
 unfolding rows_of row_for
 bytes_wire = (refl, refl, refl)
 
-module _ (s : List ℕ) (ps : List Part) {v w u : List ℕ} (h : Holds (merged (rows_of scalar) s ps) true v w u) where
-  pub octets_counted : Counted (parts_in 5 s ps) (get_or v 5 0) (get_or u 5 0) (get_or w 5 0)
+module _ (s : List ℕ) (ps : List Part) {found : Found} (h : Holds (merged (rows_of scalar) s ps) true found) where
+  pub octets_counted : Counted (parts_in 5 s ps) (slot_at found 5)
   octets_counted = merged_counted (rows_of scalar) 5 bytes_hold.0 bytes_wire.0 s ps h refl
 
-  pub string_counted : Counted (parts_in 9 s ps) (get_or v 9 0) (get_or u 9 0) (get_or w 9 0)
+  pub string_counted : Counted (parts_in 9 s ps) (slot_at found 9)
   string_counted = merged_counted (rows_of scalar) 9 bytes_hold.1 bytes_wire.1 s ps h refl
 
-pub scalar_counted : (s : List ℕ) (at n : ℕ) {g : Bool} {v w u : List ℕ} →
-    Holds (embedded (rows_of any) s at n) g v w u → g ≡ true →
-    Counted (scalar_parts s at n) (get_or v 2 0) (get_or u 2 0) (get_or w 2 0)
-scalar_counted s at n {g} {v} {w} {u} h e =
+pub scalar_counted : (s : List ℕ) (at n : ℕ) {g : Bool} {found : Found} →
+    Holds (embedded (rows_of any) s at n) g found → g ≡ true →
+    Counted (scalar_parts s at n) (slot_at found 2)
+scalar_counted s at n {g} {found} h e =
     fields_counted (rows_of any) 2 bytes_hold.2 bytes_wire.2 (take (at + n) s) at
-    (subst (λ (x : Slots). Holds x g v w u)
+    (subst (λ (x : Slots). Holds x g found)
     (sym (part_within (rows_of any) s at n (held_within (rows_of any) s at n h e))) h)
     e
 

@@ -1,7 +1,8 @@
 -- A Scalar and an Any of one field or two, by its type and the tag of its value: what the rows make of it, for each
 -- type. Assumes nothing.
-use Rattle.prelude.proofs.Basics.{ℕ, ◌+◌, ◌*◌, ◌/◌, ◌%◌, ◌^◌, ◌≤◌, ◌<◌, arith, Bool, true, false, not, ◌≡◌}
+use Rattle.prelude.proofs.Basics.{ℕ, ◌+◌, ◌*◌, ◌/◌, ◌%◌, ◌≤◌, ◌<◌, arith, Bool, true, false, not, ◌≡◌}
 use Rattle.prelude.proofs.Basics.{refl, sym, ap, ◌∙◌, List, [], ◌++◌, length, take, take-length, eqb}
+use Rattle.std.specs.Prelude.{Some}
 use Rattle.scalar.specs.declared.argument.Argument.TheVariants as Va
 use Rattle.args.proofs.Names.{signed_of, double_of, float_of, Argument, any, scalar, rows_of, row_for, has_required}
 use Rattle.args.proofs.Names.{no_slots, use_of, noted, checked, Use, embedded, count_of, value_of, low32, one_part}
@@ -10,7 +11,7 @@ use Rattle.args.proofs.Names.{Part, Slots, one_part_lem, present, bytes_in, of_t
 use Rattle.args.proofs.Names.{scalar_in, of_any_type, any_of, scalar_parts, argument_in, Pair}
 use Rattle.args.specs.private.Pair.{lone_in, pair_in}
 use Rattle.args.proofs.ValueLaws.{scalar_good}
-use Rattle.args.proofs.PairLaws.{lone_kept, named_short, pair_kept, pair_bytes, pair_parts}
+use Rattle.args.proofs.PairLaws.{lone_kept, pair_kept, pair_bytes, pair_parts}
 
 -- a Scalar in one part
 pub scalar_one : (s : List ℕ) (at n : ℕ) → scalar_of s (one_part at n) (embedded (rows_of scalar) s at n) ≡ scalar_in s
@@ -18,19 +19,19 @@ pub scalar_one : (s : List ℕ) (at n : ℕ) → scalar_of s (one_part at n) (em
 scalar_one s at n = ap (scalar_of s (one_part at n)) (sym (one_part_lem (rows_of scalar) s (record { start = at; len = n })))
 
 -- null has no value
-pub null_read : (s : List ℕ) (at n : ℕ) {r : ℕ} → r ≡ lone_in s at n → r ≡ 3 → Va.Null ≡ scalar_in s (one_part at n)
+pub null_read : (s : List ℕ) (at n : ℕ) → Some 3 ≡ lone_in s at n → Va.Null ≡ scalar_in s (one_part at n)
 unfolding rows_of row_for has_required scalar_of of_type
-null_read s at n p e =
-    ap (scalar_of s (one_part at n)) (lone_kept s at n p (rows_of scalar) 3 e (omega arith) refl) ∙ scalar_one s at n
+null_read s at n p =
+    ap (scalar_of s (one_part at n)) (lone_kept s at n (rows_of scalar) 3 p refl) ∙ scalar_one s at n
 
 -- an object and an array are told by their type alone
-pub object_read : (s : List ℕ) (at n : ℕ) {r : ℕ} → r ≡ lone_in s at n → r ≡ 2 → Va.Object ≡ argument_in s at n
+pub object_read : (s : List ℕ) (at n : ℕ) → Some 2 ≡ lone_in s at n → Va.Object ≡ argument_in s at n
 unfolding rows_of row_for has_required any_of of_any_type
-object_read s at n p e = ap (any_of s (scalar_parts s at n)) (lone_kept s at n p (rows_of any) 2 e (omega arith) refl)
+object_read s at n p = ap (any_of s (scalar_parts s at n)) (lone_kept s at n (rows_of any) 2 p refl)
 
-pub array_read : (s : List ℕ) (at n : ℕ) {r : ℕ} → r ≡ lone_in s at n → r ≡ 3 → Va.Array ≡ argument_in s at n
+pub array_read : (s : List ℕ) (at n : ℕ) → Some 3 ≡ lone_in s at n → Va.Array ≡ argument_in s at n
 unfolding rows_of row_for has_required any_of of_any_type
-array_read s at n p e = ap (any_of s (scalar_parts s at n)) (lone_kept s at n p (rows_of any) 3 e (omega arith) refl)
+array_read s at n p = ap (any_of s (scalar_parts s at n)) (lone_kept s at n (rows_of any) 3 p refl)
 
 -- what the long way answers of bytes that are lent anew
 pub long_scalar_read : (s : List ℕ) (at n : ℕ) {a : Argument} → a ≡ scalar_in (take (length s) s) (one_part at n) →
@@ -105,92 +106,89 @@ unfolding rows_of row_for
 kept_scalar value = (refl, refl)
 
 -- the two fields that the bytes hold
-pub record Held (s : List ℕ) (at n first tag value start : ℕ) : Type 0 where
-  pub is : pair_in s at n ≡ Pair.Two first tag value start
+pub record Held (s : List ℕ) (at n : ℕ) (p : Pair) : Type 0 where
+  pub is : pair_in s at n ≡ Some p
 
-module _ {s : List ℕ} {at n first tag value start : ℕ} (h : Held s at n first tag value start) where
-  pub named_fits : first * 256 + tag < 2 ^ 16
-  named_fits = named_short s at n h.is refl
-
+module _ {s : List ℕ} {at n : ℕ} {p : Pair} (h : Held s at n p) where
   -- the bytes lent anew are the same
-  lent : (octets : Bool) → bytes_in octets (take (length s) s) (one_part start value) ≡ bytes_in octets s
-      (one_part start value)
-  lent octets = ap (λ (l : List ℕ). bytes_in octets l (one_part start value)) (take-length s)
+  lent : (octets : Bool) → bytes_in octets (take (length s) s) (one_part p.start p.value) ≡ bytes_in octets s
+      (one_part p.start p.value)
+  lent octets = ap (λ (l : List ℕ). bytes_in octets l (one_part p.start p.value)) (take-length s)
 
   -- the part of a field with bytes
-  pub inner_one : (kind key : ℕ) → first * 256 + tag ≡ kind * 256 + key → 8 ≤ key → key < 128 → key % 8 ≡ 2 →
-      parts_in (key / 8) s (one_part at n) ≡ one_part start value
+  pub inner_one : (kind key : ℕ) → p.key ≡ kind * 256 + key → 8 ≤ key → key < 128 → key % 8 ≡ 2 →
+      parts_in (key / 8) s (one_part at n) ≡ one_part p.start p.value
   unfolding parts_in
   inner_one kind key k some short two =
-      ap (λ (ps : List Part). ps ++ []) (pair_parts s at n h.is refl kind key k some short two)
+      ap (λ (ps : List Part). ps ++ []) (pair_parts s at n h.is kind key k some short two)
 
-  pub sint_read : first * 256 + tag ≡ 1 * 256 + 16 → signed_of value ≡ scalar_in s (one_part at n)
+  pub sint_read : p.key ≡ 1 * 256 + 16 → signed_of p.value ≡ scalar_in s (one_part at n)
   unfolding rows_of row_for has_required scalar_of of_type
   sint_read k =
       ap (scalar_of s (one_part at n))
-      (pair_kept s at n h.is refl (rows_of scalar) 1 16 k (omega arith) refl refl)
+      (pair_kept s at n h.is (rows_of scalar) 1 16 k (omega arith) refl refl)
       ∙ scalar_one s at n
 
-  pub uint_read : first * 256 + tag ≡ 2 * 256 + 24 → Va.Unsigned value ≡ scalar_in s (one_part at n)
+  pub uint_read : p.key ≡ 2 * 256 + 24 → Va.Unsigned p.value ≡ scalar_in s (one_part at n)
   unfolding rows_of row_for has_required scalar_of of_type
   uint_read k =
       ap (scalar_of s (one_part at n))
-      (pair_kept s at n h.is refl (rows_of scalar) 2 24 k (omega arith) refl refl)
+      (pair_kept s at n h.is (rows_of scalar) 2 24 k (omega arith) refl refl)
       ∙ scalar_one s at n
 
-  pub octets_read : first * 256 + tag ≡ 4 * 256 + 42 → {a : Argument} →
-      a ≡ bytes_in true (take (length s) s) (one_part start value) → a ≡ scalar_in s (one_part at n)
+  pub octets_read : p.key ≡ 4 * 256 + 42 → {a : Argument} →
+      a ≡ bytes_in true (take (length s) s) (one_part p.start p.value) → a ≡ scalar_in s (one_part at n)
   octets_read k e =
       e
       ∙ lent true
       ∙ ap (bytes_in true s) (sym (inner_one 4 42 k (omega arith) (omega arith) refl))
-      ∙ octets_there s (one_part at n) at value start
+      ∙ octets_there s (one_part at n) at p.value p.start
       ∙ ap (scalar_of s (one_part at n))
-      (pair_bytes s at n h.is refl (rows_of scalar) 4 42 k (omega arith) (kept_octets value).0 (kept_octets value).1
+      (pair_bytes s at n h.is (rows_of scalar) 4 42 k (omega arith) (kept_octets p.value).0 (kept_octets p.value).1
       refl)
       ∙ scalar_one s at n
 
-  pub double_read : first * 256 + tag ≡ 5 * 256 + 49 → double_of value ≡ scalar_in s (one_part at n)
+  pub double_read : p.key ≡ 5 * 256 + 49 → double_of p.value ≡ scalar_in s (one_part at n)
   unfolding rows_of row_for has_required scalar_of of_type
   double_read k =
       ap (scalar_of s (one_part at n))
-      (pair_kept s at n h.is refl (rows_of scalar) 5 49 k (omega arith) refl refl)
+      (pair_kept s at n h.is (rows_of scalar) 5 49 k (omega arith) refl refl)
       ∙ scalar_one s at n
 
-  pub float_read : first * 256 + tag ≡ 6 * 256 + 61 → float_of (low32 value) ≡ scalar_in s (one_part at n)
+  pub float_read : p.key ≡ 6 * 256 + 61 → float_of (low32 p.value) ≡ scalar_in s (one_part at n)
   unfolding rows_of row_for has_required scalar_of of_type
   float_read k =
       ap (scalar_of s (one_part at n))
-      (pair_kept s at n h.is refl (rows_of scalar) 6 61 k (omega arith) refl refl)
+      (pair_kept s at n h.is (rows_of scalar) 6 61 k (omega arith) refl refl)
       ∙ scalar_one s at n
 
-  pub bool_read : first * 256 + tag ≡ 7 * 256 + 64 → Va.Bool (not (eqb value 0)) ≡ scalar_in s (one_part at n)
+  pub bool_read : p.key ≡ 7 * 256 + 64 → Va.Bool (not (eqb p.value 0)) ≡ scalar_in s (one_part at n)
   unfolding rows_of row_for has_required scalar_of of_type
   bool_read k =
       ap (scalar_of s (one_part at n))
-      (pair_kept s at n h.is refl (rows_of scalar) 7 64 k (omega arith) refl refl)
+      (pair_kept s at n h.is (rows_of scalar) 7 64 k (omega arith) refl refl)
       ∙ scalar_one s at n
 
-  pub string_read : first * 256 + tag ≡ 8 * 256 + 74 → {a : Argument} →
-      a ≡ bytes_in false (take (length s) s) (one_part start value) → a ≡ scalar_in s (one_part at n)
+  pub string_read : p.key ≡ 8 * 256 + 74 → {a : Argument} →
+      a ≡ bytes_in false (take (length s) s) (one_part p.start p.value) → a ≡ scalar_in s (one_part at n)
   string_read k e =
       e
       ∙ lent false
       ∙ ap (bytes_in false s) (sym (inner_one 8 74 k (omega arith) (omega arith) refl))
-      ∙ string_there s (one_part at n) at value start
+      ∙ string_there s (one_part at n) at p.value p.start
       ∙ ap (scalar_of s (one_part at n))
-      (pair_bytes s at n h.is refl (rows_of scalar) 8 74 k (omega arith) (kept_string value).0 (kept_string value).1
+      (pair_bytes s at n h.is (rows_of scalar) 8 74 k (omega arith) (kept_string p.value).0 (kept_string p.value).1
       refl)
       ∙ scalar_one s at n
 
   -- the scalar of an Any
-  pub scalar_parted : first * 256 + tag ≡ 1 * 256 + 18 → scalar_parts s at n ≡ one_part start value
-  scalar_parted k = pair_parts s at n h.is refl 1 18 k (omega arith) (omega arith) refl
+  pub scalar_parted : p.key ≡ 1 * 256 + 18 → scalar_parts s at n ≡ one_part p.start p.value
+  scalar_parted k = pair_parts s at n h.is 1 18 k (omega arith) (omega arith) refl
 
-  pub scalar_read : first * 256 + tag ≡ 1 * 256 + 18 → scalar_in s (one_part start value) ≡ argument_in s at n
+  pub scalar_read : p.key ≡ 1 * 256 + 18 → scalar_in s (one_part p.start p.value) ≡ argument_in s at n
   scalar_read k =
       ap (scalar_in s) (sym (scalar_parted k))
-      ∙ scalar_there s (scalar_parts s at n) at value start
+      ∙ scalar_there s (scalar_parts s at n) at p.value p.start
       ∙ ap (any_of s (scalar_parts s at n))
-      (pair_bytes s at n h.is refl (rows_of any) 1 18 k (omega arith) (kept_scalar value).0 (kept_scalar value).1
+      (pair_bytes s at n h.is (rows_of any) 1 18 k (omega arith) (kept_scalar p.value).0 (kept_scalar p.value).1
       refl)

@@ -15,12 +15,12 @@ use Rattle.layout.proofs.UnreadLaws.{tail_behind, field_unread}
 use Rattle.layout.proofs.UnreadPartsLaws.{every_as, part_in, onto_around, parts_around, same_take, same_wider}
 use Rattle.layout.proofs.UnreadPartsLaws.{ReadsAlike}
 use Rattle.layout.proofs.UnreadPartsLaws.{alike_beside, merged_local, inner_unread}
-use Rattle.args.proofs.Names.{Stands, Argument, field_at, PastField, Field, field_past, any, scalar, bytes, len}
+use Rattle.args.proofs.Names.{Stands, Argument, field_at, PastField, field_past, any, scalar, bytes, len}
 use Rattle.args.proofs.Names.{rows_of, no_slots, bad_slots, checked, fields_at, embedded, count_of, end_of, parts_of}
 use Rattle.args.proofs.Names.{parts_in, merged, Part, Slots, part_within, parts_by, merged_cut, bad, present}
 use Rattle.args.proofs.Names.{bytes_of, bytes_in, of_type, scalar_of, scalar_in, of_any_type, any_of, scalar_parts}
 use Rattle.args.proofs.Names.{argument_in, is_args, arg_place}
-use Rattle.args.proofs.Names.{next_argument, and_more, arguments_from, arguments_at, moved, ArgPlace}
+use Rattle.args.proofs.Names.{next_argument, and_more, arguments_from, arguments_at, moved, placed_at}
 use Rattle.args.specs.UnreadRules.{type_in, AnyUnread, ScalarUnread, OneField, ListUnread, ObjectUnread}
 use Rattle.args.specs.UnreadRules.{UnchosenScalarUnread}
 use Rattle.args.proofs.CutLaws.{any_cut, argument_past}
@@ -28,6 +28,7 @@ use Rattle.args.proofs.MovedArgLaws.{argument_moved, field_inside, args_moved}
 use Rattle.args.proofs.PlaceLaws.{starts, by_args, on, next_placed}
 use Rattle.args.proofs.ArgumentsLaws.{from_found}
 use Rattle.args.proofs.EnoughLaws.{enough_fields, enough_arguments}
+use Rattle.wire.specs.Field.{some_field}
 
 -- ---- bytes that differ somewhere
 
@@ -216,10 +217,10 @@ argument_local s t at n e h same =
     ∙ ap (λ (k : ℕ). argument_in s k n) z
 
 -- a field's bytes stand behind its tag, and end before the next field
-past_start : (s : List ℕ) (p : ℕ) {i w v st ln after : ℕ} → field_at s p ≡ Field.Good i w v st ln after → p < st
+past_start : (s : List ℕ) (p : ℕ) {i w v st ln after : ℕ} → field_at s p ≡ some_field i w v st ln after → p < st
 past_start s p {i} {w} {v} {st} {ln} {after} e = (subst (PastField p (length s)) e (field_past s p)).0
 
-field_ends : (s : List ℕ) (p : ℕ) {i w v st ln after : ℕ} → field_at s p ≡ Field.Good i w v st ln after →
+field_ends : (s : List ℕ) (p : ℕ) {i w v st ln after : ℕ} → field_at s p ≡ some_field i w v st ln after →
     st + ln ≤ after
 field_ends s p {i} {w} {v} {st} {ln} {after} e = (subst (PastField p (length s)) e (field_past s p)).1
 
@@ -230,7 +231,7 @@ unfolding arguments_from
 next_same zero s a b e = refl
 next_same (suc m) s a b e = ap (and_more (λ next. arguments_from m s next)) e
 
-module _ (s : List ℕ) (p : ℕ) {i w v st ln after : ℕ} (e : field_at s p ≡ Field.Good i w v st ln after) where
+module _ (s : List ℕ) (p : ℕ) {i w v st ln after : ℕ} (e : field_at s p ≡ some_field i w v st ln after) where
   room : (p < after) × (after ≤ length s) × (st + ln ≤ length s)
   room = let h = field_inside s p e in (h.1, h.2, h.0)
 
@@ -238,7 +239,7 @@ module _ (s : List ℕ) (p : ℕ) {i w v st ln after : ℕ} (e : field_at s p �
   args_at t =
       let h = room in
       from_found (length s) s p (omega arith)
-      (sym (next_placed s p (ArgPlace.At st ln after) (by_args (starts s p) (omega arith) e true (sym t))))
+      (sym (next_placed s p (placed_at st ln after) (by_args (starts s p) (omega arith) e true (sym t))))
       ∙ ap (λ (l : List Argument). argument_in s st ln ∷ l) (enough_arguments (length s - 1) s after (omega arith))
 
   pub args_past : is_args i w v ≡ false → arguments_at s p ≡ arguments_at s after
@@ -250,13 +251,13 @@ module _ (s : List ℕ) (p : ℕ) {i w v st ln after : ℕ} (e : field_at s p �
       (next_placed s p (arg_place s after) (sym (enough_fields k.most s after k.enough) ∙ k.whole))
       ∙ next_placed s after (arg_place s after) refl)
 
-module _ (s t : List ℕ) (p number value start n next : ℕ) (e : field_at s p ≡ Field.Good number len value start n next)
+module _ (s t : List ℕ) (p number value start n next : ℕ) (e : field_at s p ≡ some_field number len value start n next)
     (b : SameBut s t start (start + n))
     (own : is_args number len value ≡ true → argument_in t start n ≡ argument_in s start n) where
   rest : arguments_at t next ≡ arguments_at s next
   rest = arguments_local s t next (tail_behind s t p number value start n next e b) (room s p e).1
 
-  it : field_at t p ≡ Field.Good number len value start n next
+  it : field_at t p ≡ some_field number len value start n next
   it = field_itself s t p number value start n next e b
 
   at_field : (c : Bool) → is_args number len value ≡ c → arguments_at t p ≡ arguments_at s p
@@ -264,12 +265,12 @@ module _ (s t : List ℕ) (p number value start n next : ℕ) (e : field_at s p 
       args_at t p it h ∙ ap₂ (λ (a : Argument) (l : List Argument). a ∷ l) (own h) rest ∙ sym (args_at s p e h)
   at_field false h = args_past t p it h ∙ rest ∙ sym (args_past s p e h)
 
-  before-field : (q : ℕ) {i w v st ln after : ℕ} → field_at s q ≡ Field.Good i w v st ln after → after ≤ p →
+  before-field : (q : ℕ) {i w v st ln after : ℕ} → field_at s q ≡ some_field i w v st ln after → after ≤ p →
       arguments_at t after ≡ arguments_at s after → (c : Bool) → is_args i w v ≡ c → arguments_at t q ≡ arguments_at s q
   before-field q {i} {w} {v} {st} {ln} {after} f h more c g =
       go c g
     where
-      f' : field_at t q ≡ Field.Good i w v st ln after
+      f' : field_at t q ≡ some_field i w v st ln after
       f' = field_on_way s t p number value start n next e b q f h
 
       go : (c : Bool) → is_args i w v ≡ c → arguments_at t q ≡ arguments_at s q
@@ -315,7 +316,7 @@ module _ {s t : List ℕ} {from to : ℕ} (o : OneField s t from to) where
         reached = subst (λ (l : List ℕ). Reaches l from o.place) e o.reached;
         field =
             subst
-            (λ (l : List ℕ). field_at l o.place ≡ Field.Good o.number len o.value o.start o.n o.next)
+            (λ (l : List ℕ). field_at l o.place ≡ some_field o.number len o.value o.start o.n o.next)
             e o.field;
         same = same_take o.same end;
         alike = λ a.

@@ -14,6 +14,7 @@ use Rattle.layout.specs.Part.{embedded, value_of, low32}
 use Rattle.layout.specs.Merged.{parts_in, merged}
 use Rattle.args.specs.Value.{scalar_parts}
 use Rattle.args.specs.Arguments.{is_args}
+use Rattle.std.specs.Prelude.{Option, Some, None}
 
 -- inside a Scalar in these parts: the octets or the string, if its type chooses one
 abbrev pub bytes_padded : List ℕ → List Part → ℕ → Bool
@@ -38,10 +39,10 @@ unfoldable pub argument_padded : List ℕ → ℕ → ℕ → Bool
 argument_padded s at n = part_padded s at n || inside_any s (scalar_parts s at n) (embedded (rows_of any) s at n)
 
 -- inside a field of a message with arguments
-abbrev pub inside_args : List ℕ → Field → Bool
-inside_args s (Field.Good number wire value start len next) =
-    cond (is_args number wire value) (argument_padded s start len) false
-inside_args s Field.Bad = false
+abbrev pub inside_args : List ℕ → Option Field → Bool
+inside_args s (Some r) =
+    cond (is_args r.number r.wire r.value) (argument_padded s r.start r.len) false
+inside_args s None = false
 
 -- a message with arguments, from the place `from` to the end of s: its own fields, and all of its arguments
 abbrev pub bound_padded : List ℕ → ℕ → Bool

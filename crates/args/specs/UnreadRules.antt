@@ -2,7 +2,6 @@
 -- change no argument (L10).
 use Rattle.std.specs.Prelude.{ℕ, ◌+◌, Bool, true, cond, ◌≡◌, List, take}
 use Rattle.wire.specs.Field.{field_at}
-use Rattle.wire.specs.declared.field.Field.{Field}
 use Rattle.layout.specs.SameBut.{SameBut}
 use Rattle.layout.specs.Reaches.{Reaches}
 use Rattle.layout.specs.Table.{rows_of, any, scalar, len}
@@ -13,6 +12,7 @@ use Rattle.layout.specs.declared.slots.Slots.{Slots}
 use Rattle.layout.specs.Part.{embedded, value_of, low32}
 use Rattle.args.specs.Value.{scalar_parts, argument_in}
 use Rattle.args.specs.Arguments.{is_args, arguments_at}
+use Rattle.wire.specs.Field.{some_field}
 
 -- the type that a message names in field 1
 abbrev pub type_in : Slots → ℕ
@@ -48,7 +48,7 @@ pub record OneField (s t : List ℕ) (from to : ℕ) : Type 0 where
   pub n : ℕ
   pub next : ℕ
   pub reached : Reaches (take to s) from place
-  pub field : field_at (take to s) place ≡ Field.Good number len value start n next
+  pub field : field_at (take to s) place ≡ some_field number len value start n next
   pub same : SameBut s t start (start + n)
   pub alike : is_args number len value ≡ true → argument_in (take to t) start n ≡ argument_in (take to s) start n
 
@@ -57,7 +57,7 @@ abbrev pub ListUnread : Type 0
 ListUnread =
     (s t : List ℕ) (from p number value start n next : ℕ) →
     Reaches s from p →
-    field_at s p ≡ Field.Good number len value start n next →
+    field_at s p ≡ some_field number len value start n next →
     SameBut s t start (start + n) →
     (is_args number len value ≡ true → argument_in t start n ≡ argument_in s start n) →
     arguments_at t from ≡ arguments_at s from
@@ -72,7 +72,7 @@ pub record ObjectField (s t : List ℕ) (from to : ℕ) : Type 0 where
   pub next : ℕ
   pub part : Part
   pub reached : Reaches (take to s) from place
-  pub field : field_at (take to s) place ≡ Field.Good number len value start n next
+  pub field : field_at (take to s) place ≡ some_field number len value start n next
   pub composite : type_in (embedded (rows_of any) (take to s) start n) ≡ 1 → ⊥
   pub inside : PartOf 2 (take (start + n) (take to s)) start part
   pub same : SameBut s t part.start (end_of part)
@@ -92,7 +92,7 @@ pub record ScalarField (s t : List ℕ) (from to : ℕ) : Type 0 where
   pub outer : Part
   pub part : Part
   pub reached : Reaches (take to s) from place
-  pub field : field_at (take to s) place ≡ Field.Good number len value start n next
+  pub field : field_at (take to s) place ≡ some_field number len value start n next
   pub unchosen : type_in (scalar_at (take to s) start n) ≡ cond octets 4 8 → ⊥
   pub inside : InnerPart 2 (cond octets 5 9) (take (start + n) (take to s)) start outer part
   pub same : SameBut s t part.start (end_of part)

@@ -1,5 +1,5 @@
 -- Where arguments stand: their bytes lie within those of their message, and going from one to the next ends (A4, A7).
-use Rattle.std.specs.Prelude.{ℕ, ◌+◌, ◌-◌, ◌≤◌, ◌<◌, List, length}
+use Rattle.std.specs.Prelude.{ℕ, ◌+◌, ◌-◌, ◌≤◌, ◌<◌, List, Option, Some, None, length}
 use Rattle.scalar.specs.declared.argument.Argument.{Argument}
 use Rattle.scalar.specs.declared.argument.Argument.TheVariants as Va
 use Rattle.args.specs.Arguments.{next_argument, arguments_at, nth_argument}
@@ -22,9 +22,9 @@ EndsBy n Va.Array = Unit {0}
 EndsBy n (Va.Refused reason) = Unit {0}
 
 -- the next place is further on and within the bytes, and the argument's own bytes end before it
-abbrev pub GoesOn : ℕ → ℕ → NextArgument → Type 0
-GoesOn at end (NextArgument.Found a next) = (at < next) × (next ≤ end) × EndsBy next a
-GoesOn at end NextArgument.End = Unit {0}
+abbrev pub GoesOn : ℕ → ℕ → Option NextArgument → Type 0
+GoesOn at end (Some found) = (at < found.next) × (found.next ≤ end) × EndsBy found.next found.value
+GoesOn at end None = Unit {0}
 
 abbrev pub NextGoesOn : Type 0
 NextGoesOn = (s : List ℕ) (at : ℕ) → GoesOn at (length s) (next_argument s at)

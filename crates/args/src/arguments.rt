@@ -9,40 +9,39 @@ ghost use Rattle.args.specs.Arguments.{
   next_argument,
   no_arguments,
   nth_argument,
+  number_of,
   place_of,
+  type_number,
   with_type,
 };
 
 use crate::keys;
+use crate::kind::AnyType;
+use protocol::reason::Reason;
 use protocol::{anys, reason};
 use scalar::argument::Argument;
-use wire::field::Field;
 use wire::value::Value;
 
-// Where the next args field stands: its value's place and length and the place behind it; none left; or
-// a bad field on the way.
+// Where an args field stands: its value's place and length, and the place behind it.
 #[derive(Clone, Copy)]
-pub enum ArgPlace {
-    At {
-        start: usize,
-        len: usize,
-        next: usize,
-    },
-    End,
-    Bad,
+pub struct ArgPlace {
+    pub start: usize,
+    pub len: usize,
+    pub next: usize,
 }
 
-// The next argument and the place behind it, or no more.
+// An argument and the place behind it.
 #[derive(Clone, Copy)]
-pub enum NextArgument {
-    Found { value: Argument, next: usize },
-    End,
+pub struct NextArgument {
+    pub value: Argument,
+    pub next: usize,
 }
 
 // The arguments in the bytes from `start` to `end`: how many there are, and the first object (kind 2) or array (kind 3)
-// among them with its index (kind 0: none). `good` says that each one is. No two of the numbers stand side by side as
-// in what hosts are told: such two are copied at once, right after they were written one by one, for which a processor
-// waits.
+// among them with its index (kind 0: none). `good` says that each one is; it and `kind` stay as they are, since
+// `together` and `FirstTold` speak of them, and a host is told the kind as this number. No two of the numbers stand
+// side by side as in what hosts are told: such two are copied at once, right after they were written one by one, for
+// which a processor waits.
 #[derive(Clone, Copy)]
 pub struct Arguments {
     pub good: bool,
@@ -96,75 +95,69 @@ impl Arguments {
     }
 
     // One argument more, of this Any type.
-    pub(crate) fn with_type(self, t: u64) -> Arguments
+    pub(crate) fn with_type(self, any: AnyType) -> Arguments
         requires { self.count < 2 ^ 63 }
-        ensures { result ≡ with_type self t }
+        ensures { result ≡ with_type self (number_of any) }
     {
-        if t == anys::NONE {
-            return Arguments::bad();
-        }
         let mut x = self;
         x.count += 1;
-        if t < anys::OBJECT {
+        if let AnyType::Scalar = any {
             return x;
         }
         if x.kind != anys::NONE {
             return x;
         }
-        x.kind = t;
+        x.kind = u64::from(any);
         x.index = x.count - 1;
         x
     }
 }
 
-fn seek_place(s: &[u8], at: usize, unread: &mut bool) -> ArgPlace
+// The first args field at or behind the place `at`, none where none is left, or refused for a bad field on the way.
+fn seek_place(s: &[u8], at: usize, unread: &mut bool) -> Result<Option<ArgPlace>, Reason>
     ensures { result ≡ arg_place s.now at }
 {
     let mut p = at;
+    // From field to field: no index is counted.
     while p < s.len() {
-        let Field::Good {
-            number,
-            wire,
-            value: _,
-            start,
-            len,
-            next,
-        } = wire::field::long_field(s, p, unread)
-        else {
-            return ArgPlace::Bad;
+        let Some(field) = wire::field::long_field(s, p, unread) else {
+            return Err(Reason::BadPayload);
         };
-        if number == keys::ARGS {
-            if wire == keys::ARGS_WIRE {
-                return ArgPlace::At { start, len, next };
+        if field.number == keys::ARGS {
+            if field.wire == keys::ARGS_WIRE {
+                return Ok(Some(ArgPlace {
+                    start: field.start,
+                    len: field.len,
+                    next: field.next,
+                }));
             }
         }
-        p = next;
+        p = field.next;
     }
-    ArgPlace::End
+    Ok(None)
 }
 
 // An args field whose value was read.
-fn place_of(read: Value) -> ArgPlace
+fn place_of(read: Option<Value>) -> Result<Option<ArgPlace>, Reason>
     ensures { result ≡ place_of read }
 {
     match read {
-        Value::Good {
-            number: _,
-            start,
-            len,
-            next,
-        } => ArgPlace::At { start, len, next },
-        Value::Bad => ArgPlace::Bad,
+        Some(value) => Ok(Some(ArgPlace {
+            start: value.start,
+            len: value.len,
+            next: value.next,
+        })),
+        None => Err(Reason::BadPayload),
     }
 }
 
 // The same, with a short way for an args field at the very place, as the next one mostly is.
-fn next_place(s: &[u8], at: usize, unread: &mut bool) -> ArgPlace
+fn next_place(s: &[u8], at: usize, unread: &mut bool) -> Result<Option<ArgPlace>, Reason>
     ensures { result ≡ arg_place s.now at }
 {
     let n = s.len();
     if n <= at {
-        return ArgPlace::End;
+        return Ok(None);
     }
     if s[at] == keys::ARGS_TAG {
         return place_of(wire::value::length_value(s, at + 1, unread));
@@ -173,41 +166,41 @@ fn next_place(s: &[u8], at: usize, unread: &mut bool) -> ArgPlace
 }
 
 // The next argument of a message whose bytes end with s, at or behind the place `at`.
-pub fn next_argument(s: &[u8], at: usize) -> NextArgument
+pub fn next_argument(s: &[u8], at: usize) -> Option<NextArgument>
     ensures { result ≡ next_argument s.now at }
 {
     let mut unread = false;
     match next_place(s, at, &mut unread) {
-        ArgPlace::At { start, len, next } => NextArgument::Found {
+        Ok(Some(ArgPlace { start, len, next })) => Some(NextArgument {
             value: crate::value::read_argument(s, start, len, &mut unread),
             next,
-        },
-        ArgPlace::End => NextArgument::End,
-        ArgPlace::Bad => NextArgument::Found {
+        }),
+        Ok(None) => None,
+        Err(_) => Some(NextArgument {
             value: Argument::Refused(reason::BAD_PAYLOAD),
             next: s.len(),
-        },
+        }),
     }
 }
 
-// The Any type of an argument: 1 scalar, 2 object, 3 array; 0 for a bad one.
-pub fn any_type(a: Argument) -> u64
-    ensures { result ≡ any_type_of a }
+// The Any type of an argument; a bad one has none.
+pub fn any_type(a: Argument) -> Option<AnyType>
+    ensures { type_number result ≡ any_type_of a }
 {
     match a {
-        Argument::Signed(_) => anys::SCALAR,
-        Argument::Unsigned(_) => anys::SCALAR,
-        Argument::Null => anys::SCALAR,
-        Argument::Octets { start: _, len: _ } => anys::SCALAR,
-        Argument::Double(_) => anys::SCALAR,
-        Argument::DoubleNan(_) => anys::SCALAR,
-        Argument::Float(_) => anys::SCALAR,
-        Argument::FloatNan(_) => anys::SCALAR,
-        Argument::Bool(_) => anys::SCALAR,
-        Argument::String { start: _, len: _ } => anys::SCALAR,
-        Argument::Object => anys::OBJECT,
-        Argument::Array => anys::ARRAY,
-        Argument::Refused(_) => anys::NONE,
+        Argument::Signed(_) => Some(AnyType::Scalar),
+        Argument::Unsigned(_) => Some(AnyType::Scalar),
+        Argument::Null => Some(AnyType::Scalar),
+        Argument::Octets { start: _, len: _ } => Some(AnyType::Scalar),
+        Argument::Double(_) => Some(AnyType::Scalar),
+        Argument::DoubleNan(_) => Some(AnyType::Scalar),
+        Argument::Float(_) => Some(AnyType::Scalar),
+        Argument::FloatNan(_) => Some(AnyType::Scalar),
+        Argument::Bool(_) => Some(AnyType::Scalar),
+        Argument::String { start: _, len: _ } => Some(AnyType::Scalar),
+        Argument::Object => Some(AnyType::Object),
+        Argument::Array => Some(AnyType::Array),
+        Argument::Refused(_) => None,
     }
 }
 
@@ -215,10 +208,12 @@ pub fn any_type(a: Argument) -> u64
 fn handed_out(a: Argument) -> Argument
     ensures { result ≡ handed_out a }
 {
-    if anys::SCALAR < any_type(a) {
-        return Argument::Refused(reason::NOT_SCALAR);
+    match any_type(a) {
+        Some(AnyType::Object) => Argument::Refused(reason::NOT_SCALAR),
+        Some(AnyType::Array) => Argument::Refused(reason::NOT_SCALAR),
+        Some(AnyType::Scalar) => a,
+        None => a,
     }
-    a
 }
 
 // The argument with this index, counted from 0, of a message whose bytes go from `from` to the end of s.
@@ -227,8 +222,9 @@ pub fn nth_argument(s: &[u8], from: usize, index: usize) -> Argument
 {
     let mut p = from;
     let mut left = index;
+    // From argument to argument. An iterator over them would need laws of its own, for this one caller.
     while p < s.len() {
-        let NextArgument::Found { value, next } = next_argument(s, p) else {
+        let Some(NextArgument { value, next }) = next_argument(s, p) else {
             return Argument::Refused(reason::FEW_ARGUMENTS);
         };
         if left == 0 {

@@ -1,9 +1,9 @@
 // A message with arguments, an Execute or a StmtExecute, in one pass: its fields 1 and 3 and all its arguments.
-ghost use Rattle.std.specs.Prelude.{◌≡◌, ◌||◌, true, ◌^◌, ◌<◌};
+ghost use Rattle.std.specs.Prelude.{IsSome, ◌≡◌, ◌||◌, true, ◌^◌, ◌<◌};
 ghost use Rattle.wire.specs.Field.{field_at};
 ghost use Rattle.wire.specs.Padded.{field_padded};
 ghost use Rattle.args.specs.Padded.{bound_padded, execute_padded};
-ghost use Rattle.args.specs.private.Bound.{args_of, bad_bound, bound_at, bound_in, found, tests_args, wire_by};
+ghost use Rattle.args.specs.private.Bound.{args_of, bound_at, bound_in, found, is_text, tests_args, wire_by};
 ghost use Rattle.args.specs.private.Bound.{with_field};
 
 use crate::arguments::Arguments;
@@ -11,56 +11,51 @@ use crate::keys;
 use protocol::{fields, wire_type};
 use wire::field::Field;
 
-// What is kept of a message's own fields: whether field 1 and field 3 occur, and their values.
+// What is kept of a message's own fields: the values of field 1 and field 3, where they occur.
 #[derive(Clone, Copy)]
 pub struct Own {
-    pub hasone: bool,
-    pub one: u64,
-    pub hasthree: bool,
-    pub three: u64,
+    pub one: Option<u64>,
+    pub three: Option<u64>,
 }
 
-// The same beside the arguments, as they are in `Arguments`. The numbers stand in such an order that no two are copied
-// at once right after they were written one by one, for which a processor waits.
+// A good message: field 1, which is required, and field 3, beside the arguments, as they are in `Arguments`. The
+// numbers stand in such an order that no two are copied at once right after they were written one by one, for which a
+// processor waits.
 #[derive(Clone, Copy)]
 pub struct Bound {
     pub count: usize,
     pub one: u64,
     pub kind: u64,
-    pub three: u64,
+    pub three: Option<u64>,
     pub index: usize,
-    pub hasone: bool,
-    pub hasthree: bool,
 }
 
-// The message in `n` bytes of s from `at` on.
-pub fn read_bound(s: &[u8], at: usize, n: usize, text: bool, padded: &mut bool) -> Bound
-    ensures answer { result ≡ bound_in text s.now at n }
-    ensures told { result.hasone ≡ true → padded.new ≡ (padded.old || execute_padded s.now at n) }
+// The messages with arguments. Field 1 is the id of an Execute, and the text of a StmtExecute.
+#[derive(Clone, Copy)]
+pub enum Message {
+    Execute,
+    StmtExecute,
+}
+
+// The message in `n` bytes of s from `at` on, if it is good.
+pub fn read_bound(
+    s: &[u8],
+    at: usize,
+    n: usize,
+    message: Message,
+    padded: &mut bool,
+) -> Option<Bound>
+    ensures answer { result ≡ bound_in (is_text message) s.now at n }
+    ensures told { IsSome result → padded.new ≡ (padded.old || execute_padded s.now at n) }
 {
     if s.len() < at {
-        return bad_bound();
+        return None;
     }
     if s.len() - at < n {
-        return bad_bound();
+        return None;
     }
     let end = at + n;
-    bound_at(&s[..end], at, text, padded)
-}
-
-// A message that is not good, and so has no field 1, which is required.
-fn bad_bound() -> Bound
-    ensures { result ≡ bad_bound }
-{
-    Bound {
-        count: 0,
-        one: 0,
-        kind: 0,
-        three: 0,
-        index: 0,
-        hasone: false,
-        hasthree: false,
-    }
+    bound_at(&s[..end], at, message, padded)
 }
 
 // Fields 1 and 3: stmt_id and compact_metadata of an Execute, the text and the namespace of a StmtExecute.
@@ -73,10 +68,13 @@ const BYTES: u64 = wire_type::LEN;
 
 const NUMBER: u64 = wire_type::VARINT;
 
-fn wire_by(text: bool) -> u64
-    ensures { result ≡ wire_by text }
+fn wire_by(message: Message) -> u64
+    ensures { result ≡ wire_by (is_text message) }
 {
-    if text { BYTES } else { NUMBER }
+    match message {
+        Message::Execute => NUMBER,
+        Message::StmtExecute => BYTES,
+    }
 }
 
 pub(crate) fn is_args(number: u64, wire: u64) -> bool
@@ -89,7 +87,7 @@ pub(crate) fn is_args(number: u64, wire: u64) -> bool
 }
 
 // The field at a place, with a short way for an args field, as most are.
-fn field_at(s: &[u8], at: usize, padded: &mut bool) -> Field
+fn field_at(s: &[u8], at: usize, padded: &mut bool) -> Option<Field>
     ensures answer { result ≡ field_at s.now at }
     ensures told { padded.new ≡ (padded.old || field_padded s.now at) }
 {
@@ -116,68 +114,52 @@ impl Own {
             return k;
         }
         if number == SUBJECT {
-            k.hasone = true;
-            k.one = value;
+            k.one = Some(value);
             return k;
         }
         if number == OPTION {
-            k.hasthree = true;
-            k.three = value;
+            k.three = Some(value);
             return k;
         }
         k
     }
 }
 
-fn bound_of(k: Own, x: Arguments) -> Bound
+fn bound_of(k: Own, x: Arguments) -> Option<Bound>
     ensures { result ≡ found k x }
 {
-    Bound {
+    let one = k.one?;
+    Some(Bound {
         count: x.count,
-        one: k.one,
+        one,
         kind: x.kind,
         three: k.three,
         index: x.index,
-        hasone: k.hasone,
-        hasthree: k.hasthree,
-    }
+    })
 }
 
-// The message whose bytes go from `from` to the end of s; `text` says that it is a StmtExecute.
-fn bound_at(s: &[u8], from: usize, text: bool, padded: &mut bool) -> Bound
-    ensures answer { result ≡ bound_at text s.now from }
-    ensures told { result.hasone ≡ true → padded.new ≡ (padded.old || bound_padded s.now from) }
+// The message whose bytes go from `from` to the end of s.
+fn bound_at(s: &[u8], from: usize, message: Message, padded: &mut bool) -> Option<Bound>
+    ensures answer { result ≡ bound_at (is_text message) s.now from }
+    ensures told { IsSome result → padded.new ≡ (padded.old || bound_padded s.now from) }
 {
-    let own = wire_by(text);
+    let own = wire_by(message);
     let mut k = Own {
-        hasone: false,
-        one: 0,
-        hasthree: false,
-        three: 0,
+        one: None,
+        three: None,
     };
     let mut x = Arguments::none(from, s.len());
     let mut p = from;
+    // From field to field: no index is counted.
     while p < s.len() {
-        let Field::Good {
-            number,
-            wire,
-            value,
-            start,
-            len,
-            next,
-        } = field_at(s, p, padded)
-        else {
-            return bad_bound();
-        };
-        if is_args(number, wire) {
-            x = x.with_type(crate::kind::argument_type(s, start, len, padded));
-            if !x.good {
-                return bad_bound();
-            }
-            p = next;
+        let field = field_at(s, p, padded)?;
+        if is_args(field.number, field.wire) {
+            let any = crate::kind::argument_type(s, field.start, field.len, padded)?;
+            x = x.with_type(any);
+            p = field.next;
         } else {
-            k = k.with_field(own, number, wire, value);
-            p = next;
+            k = k.with_field(own, field.number, field.wire, field.value);
+            p = field.next;
         }
     }
     bound_of(k, x)

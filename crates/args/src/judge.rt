@@ -6,8 +6,6 @@ ghost use Rattle.args.specs.Padded.{bound_padded};
 
 use crate::arguments::any_type;
 use crate::bound::is_args;
-use protocol::anys;
-use wire::field::Field;
 
 // The message goes from `from` to the end of s. Of a bad one the flag says nothing.
 pub fn judge_arguments(s: &[u8], from: usize, padded: &mut bool) -> bool
@@ -15,24 +13,17 @@ pub fn judge_arguments(s: &[u8], from: usize, padded: &mut bool) -> bool
     ensures told { result ≡ true → padded.new ≡ (padded.old || bound_padded s.now from) }
 {
     let mut p = from;
+    // From field to field: no index is counted.
     while p < s.len() {
-        let Field::Good {
-            number,
-            wire,
-            value: _,
-            start,
-            len,
-            next,
-        } = wire::field::long_field(s, p, padded)
-        else {
+        let Some(field) = wire::field::long_field(s, p, padded) else {
             return false;
         };
-        if is_args(number, wire) {
-            if any_type(crate::value::long_argument(s, start, len, padded)) == anys::NONE {
+        if is_args(field.number, field.wire) {
+            if any_type(crate::value::long_argument(s, field.start, field.len, padded)).is_none() {
                 return false;
             }
         }
-        p = next;
+        p = field.next;
     }
     true
 }

@@ -1,6 +1,6 @@
 // The value of one argument: an Any, and the Scalar in it.
 ghost use Rattle.std.specs.Prelude.{◌≡◌, ◌||◌, false, true, ◌+◌, ◌<◌, ◌≤◌, length};
-ghost use Rattle.layout.specs.private.Arrays.{Holds};
+ghost use Rattle.layout.specs.private.Found.{Holds};
 ghost use Rattle.layout.specs.Table.{rows_of, scalar};
 ghost use Rattle.layout.specs.Merged.{merged, one_part, parts_in};
 ghost use Rattle.layout.specs.Padded.{part_padded, parts_padded};
@@ -8,11 +8,14 @@ ghost use Rattle.args.specs.Arguments.{any_type_of};
 ghost use Rattle.args.specs.Value.{argument_in, bytes_in, present, scalar_in, scalar_parts};
 ghost use Rattle.args.specs.Padded.{argument_padded, inside_scalar, scalar_padded};
 ghost use Rattle.layout.specs.private.Counted.{Counted};
-ghost use Rattle.args.specs.private.Parts.{chosen_bytes, scalar_by};
+ghost use Rattle.layout.specs.private.Parts.{left};
+ghost use Rattle.args.specs.private.Parts.{bytes_field, is_octets, is_whole, placed_bytes, scalar_by};
 
 use crate::keys;
-use crate::pair::{Pair, Text};
-use layout::slots::SLOTS;
+use crate::pair::Pair;
+use layout::found::{Found, Slot};
+use layout::part::Part;
+use layout::parts::Parts;
 use protocol::anys::SCALAR_FIELD;
 use protocol::fields::{BYTES, TYPE};
 use protocol::scalars::{
@@ -34,21 +37,13 @@ pub(crate) fn read_argument(s: &[u8], at: usize, n: usize, unread: &mut bool) ->
     ensures { result ≡ argument_in s.now at n }
 {
     let all = s.len();
-    let alone = crate::pair::read_lone(s, at, n);
-    if alone == anys::OBJECT {
-        return Argument::Object;
+    match crate::pair::read_lone(s, at, n) {
+        Some(anys::OBJECT) => return Argument::Object,
+        Some(anys::ARRAY) => return Argument::Array,
+        _ => {}
     }
-    if alone == anys::ARRAY {
-        return Argument::Array;
-    }
-    if let Pair::Two {
-        first,
-        tag,
-        value,
-        start,
-    } = crate::pair::read_pair(s, at, n, unread)
-    {
-        if first * 256 + tag == keys::SCALAR_KEY {
+    if let Some(Pair { key, value, start }) = crate::pair::read_pair(s, at, n, unread) {
+        if key == keys::SCALAR_KEY {
             return read_scalar(s, start, value as usize, unread);
         }
     }
@@ -61,60 +56,33 @@ pub fn long_argument(s: &[u8], at: usize, n: usize, padded: &mut bool) -> Argume
     ensures told { 0 < any_type_of result → padded.new ≡ (padded.old || argument_padded s.now at n) }
 {
     let rows = layout::rows::any_rows();
-    let mut times = [0; SLOTS];
-    let mut values = [0; SLOTS];
-    let mut starts = [0; SLOTS];
-    if !layout::part::fill_part(
-        &rows,
-        s,
-        at,
-        n,
-        &mut times,
-        &mut values,
-        &mut starts,
-        padded,
-    ) {
+    let mut found = Found::new();
+    if !found.fill_part(&rows, s, at, n, padded) {
         return Argument::Refused(reason::BAD_PAYLOAD);
     }
-    let t = values[TYPE] % uint32::COUNT;
+    let t = found.slots[TYPE].value % uint32::COUNT;
     match t {
-        anys::SCALAR => any_scalar(
-            s,
-            at,
-            n,
-            times[SCALAR_FIELD],
-            starts[SCALAR_FIELD],
-            values[SCALAR_FIELD] as usize,
-            padded,
-        ),
+        anys::SCALAR => any_scalar(s, at, n, found.slots[SCALAR_FIELD], padded),
         anys::OBJECT => Argument::Object,
         anys::ARRAY => Argument::Array,
         _ => Argument::Refused(reason::BAD_PAYLOAD),
     }
 }
 
-// The scalar of the Any in `n` bytes of s from `at` on, which has it so often, the last in `len` bytes from `start` on.
-fn any_scalar(
-    s: &[u8],
-    at: usize,
-    n: usize,
-    times: u8,
-    start: usize,
-    len: usize,
-    padded: &mut bool,
-) -> Argument
-    requires counted { Counted (scalar_parts s.now at n) times start len }
+// The scalar of the Any in `n` bytes of s from `at` on, of which this was found.
+fn any_scalar(s: &[u8], at: usize, n: usize, slot: Slot, padded: &mut bool) -> Argument
+    requires counted { Counted (scalar_parts s.now at n) slot }
     requires n_in_bounds { at + n ≤ length s.now }
-    ensures answer { result ≡ present times (scalar_in s.now (scalar_parts s.now at n)) }
+    ensures answer { result ≡ present slot.times (scalar_in s.now (scalar_parts s.now at n)) }
     ensures told { 0 < any_type_of result →
         padded.new
         ≡ (padded.old || scalar_padded s.now (scalar_parts s.now at n)) }
 {
-    if times == 0 {
+    if slot.times == 0 {
         return Argument::Refused(reason::BAD_PAYLOAD);
     }
-    if times == 1 {
-        return long_scalar(s, start, len, padded);
+    if slot.times == 1 {
+        return long_scalar(s, slot.start, slot.value as usize, padded);
     }
     let end = at + n;
     parted_scalar(&s[..end], at, padded)
@@ -130,192 +98,182 @@ fn needed(times: u8, a: Argument) -> Argument
     a
 }
 
-// The bytes of an octets or a string message that was read into these arrays.
-fn bytes_of(octets: bool, values: &[u64; SLOTS], starts: &[usize; SLOTS]) -> Argument
-    ensures { result ≡ chosen_bytes octets values.now starts.now }
-{
-    let start = starts[BYTES];
-    let len = values[BYTES] as usize;
-    if octets {
-        return Argument::Octets { start, len };
+// How a Scalar stands from a place to the end of some bytes: as one message, or as the scalars of an Any that goes so
+// far.
+#[derive(Clone, Copy)]
+pub(crate) enum Standing {
+    Whole,
+    InParts,
+}
+
+// The kinds of bytes that a Scalar has.
+#[derive(Clone, Copy)]
+pub(crate) enum Bytes {
+    Octets,
+    String,
+}
+
+impl Bytes {
+    // The number of a Scalar's field that holds them.
+    fn field(self) -> u64
+        ensures { result ≡ bytes_field self }
+    {
+        match self {
+            Bytes::Octets => OCTETS_NUMBER,
+            Bytes::String => STRING_NUMBER,
+        }
     }
-    Argument::String { start, len }
+
+    fn argument(self, start: usize, len: usize) -> Argument
+        ensures { result ≡ placed_bytes (is_octets self) start len }
+    {
+        match self {
+            Bytes::Octets => Argument::Octets { start, len },
+            Bytes::String => Argument::String { start, len },
+        }
+    }
+
+    // Those of an octets or a string message, of which this was found.
+    fn found(self, slot: Slot) -> Argument
+        ensures { result ≡ placed_bytes (is_octets self) slot.start slot.value }
+    {
+        self.argument(slot.start, slot.value as usize)
+    }
 }
 
 // The bytes of an octets or a string message in one part, the long way.
-fn long_bytes(s: &[u8], at: usize, n: usize, octets: bool, padded: &mut bool) -> Argument
-    ensures answer { result ≡ bytes_in octets s.now (one_part at n) }
+fn long_bytes(s: &[u8], at: usize, n: usize, bytes: Bytes, padded: &mut bool) -> Argument
+    ensures answer { result ≡ bytes_in (is_octets bytes) s.now (one_part at n) }
     ensures told { padded.new ≡ (padded.old || part_padded s.now at n) }
 {
     let rows = layout::rows::bytes_rows();
-    let mut times = [0; SLOTS];
-    let mut values = [0; SLOTS];
-    let mut starts = [0; SLOTS];
-    if !layout::part::fill_part(
-        &rows,
-        s,
-        at,
-        n,
-        &mut times,
-        &mut values,
-        &mut starts,
-        padded,
-    ) {
+    let mut found = Found::new();
+    if !found.fill_part(&rows, s, at, n, padded) {
         return Argument::Refused(reason::BAD_PAYLOAD);
     }
-    bytes_of(octets, &values, &starts)
+    bytes.found(found.slots[BYTES])
 }
 
-// The same in parts, the fields k of a Scalar that goes from `at` to the end of s; or, where that is itself in parts,
+// The same in parts, the fields of a Scalar that goes from `at` to the end of s; or, where that is itself in parts,
 // of the scalars of an Any that does.
-fn parted_bytes(
-    s: &[u8],
-    at: usize,
-    whole: bool,
-    k: u64,
-    octets: bool,
-    padded: &mut bool,
-) -> Argument
+fn parted_bytes(s: &[u8], at: usize, stands: Standing, bytes: Bytes, padded: &mut bool) -> Argument
     requires { at ≤ length s.now }
-    ensures answer { result ≡ bytes_in octets s.now (parts_in k s.now (scalar_by whole s.now at)) }
+    ensures answer { result
+        ≡ bytes_in (is_octets bytes) s.now
+        (parts_in (bytes_field bytes) s.now (scalar_by (is_whole stands) s.now at)) }
     ensures told { 0 < any_type_of result →
         padded.new
         ≡ (padded.old
-        || parts_padded s.now (parts_in k s.now (scalar_by whole s.now at))) }
+        || parts_padded s.now (parts_in (bytes_field bytes) s.now (scalar_by (is_whole stands) s.now at))) }
 {
     let rows = layout::rows::bytes_rows();
-    let mut times = [0; SLOTS];
-    let mut values = [0; SLOTS];
-    let mut starts = [0; SLOTS];
-    if whole {
-        if !layout::merge::merge_fields(
-            &rows,
-            s,
-            at,
-            k,
-            &mut times,
-            &mut values,
-            &mut starts,
-            padded,
-        ) {
-            return Argument::Refused(reason::BAD_PAYLOAD);
-        }
-        return bytes_of(octets, &values, &starts);
-    }
-    if !layout::merge::merge_inner(
-        &rows,
-        s,
-        at,
-        SCALAR_NUMBER,
-        k,
-        &mut times,
-        &mut values,
-        &mut starts,
-        padded,
-    ) {
+    let mut found = Found::new();
+    if !found.merge(&rows, scalar_parts(s, at, stands, bytes.field()), padded) {
         return Argument::Refused(reason::BAD_PAYLOAD);
     }
-    bytes_of(octets, &values, &starts)
+    bytes.found(found.slots[BYTES])
+}
+
+// The parts in field k of that Scalar.
+fn scalar_parts(s: &[u8], at: usize, stands: Standing, k: u64) -> Parts<'_>
+    requires { at ≤ length s.now }
+    ensures of { result.s.now ≡ s.now }
+    ensures parts { left result ≡ parts_in k s.now (scalar_by (is_whole stands) s.now at) }
+{
+    match stands {
+        Standing::Whole => Parts::of_message(s, at, k),
+        Standing::InParts => Parts::of_parts(s, at, SCALAR_NUMBER, k),
+    }
 }
 
 // The bytes of an octets or a string message, with a short way for one that holds nothing else.
-pub(crate) fn read_bytes(s: &[u8], at: usize, n: usize, octets: bool, padded: &mut bool) -> Argument
-    ensures answer { result ≡ bytes_in octets s.now (one_part at n) }
+pub(crate) fn read_bytes(s: &[u8], at: usize, n: usize, bytes: Bytes, padded: &mut bool) -> Argument
+    ensures answer { result ≡ bytes_in (is_octets bytes) s.now (one_part at n) }
     ensures told { padded.new ≡ (padded.old || part_padded s.now at n) }
 {
     let all = s.len();
-    if let Text::Alone { start, len } = crate::pair::read_text(s, at, n, padded) {
-        if octets {
-            return Argument::Octets { start, len };
-        }
-        return Argument::String { start, len };
+    if let Some(Part { start, len }) = crate::pair::read_text(s, at, n, padded) {
+        return bytes.argument(start, len);
     }
-    long_bytes(&s[..all], at, n, octets, padded)
+    long_bytes(&s[..all], at, n, bytes, padded)
 }
 
-// The octets or the string of a Scalar, its fields k, which it has so often, the last in `len` bytes from `start` on.
+// The octets or the string of a Scalar, of which this was found.
 fn bytes_value(
     s: &[u8],
     at: usize,
-    whole: bool,
-    k: u64,
-    octets: bool,
-    times: u8,
-    start: usize,
-    len: usize,
+    stands: Standing,
+    bytes: Bytes,
+    slot: Slot,
     padded: &mut bool,
 ) -> Argument
     requires at_in_bounds { at ≤ length s.now }
-    requires counted { Counted (parts_in k s.now (scalar_by whole s.now at)) times start len }
+    requires counted { Counted (parts_in (bytes_field bytes) s.now (scalar_by (is_whole stands) s.now at)) slot }
     ensures answer { result
-        ≡ present times
-        (bytes_in octets s.now (parts_in k s.now (scalar_by whole s.now at))) }
+        ≡ present slot.times
+        (bytes_in (is_octets bytes) s.now (parts_in (bytes_field bytes) s.now (scalar_by (is_whole stands) s.now at))) }
     ensures told { 0 < any_type_of result →
         padded.new
         ≡ (padded.old
-        || parts_padded s.now (parts_in k s.now (scalar_by whole s.now at))) }
+        || parts_padded s.now (parts_in (bytes_field bytes) s.now (scalar_by (is_whole stands) s.now at))) }
 {
-    if times == 0 {
+    if slot.times == 0 {
         return Argument::Refused(reason::BAD_PAYLOAD);
     }
-    if times == 1 {
-        return long_bytes(s, start, len, octets, padded);
+    if slot.times == 1 {
+        return long_bytes(s, slot.start, slot.value as usize, bytes, padded);
     }
-    parted_bytes(s, at, whole, k, octets, padded)
+    parted_bytes(s, at, stands, bytes, padded)
 }
 
-// The value that a Scalar's type names. The Scalar goes from `at` to the end of s; or, where it is not whole, its parts
-// are the scalars of an Any that does.
-fn scalar_value(
-    s: &[u8],
-    at: usize,
-    whole: bool,
-    times: &[u8; SLOTS],
-    values: &[u64; SLOTS],
-    starts: &[usize; SLOTS],
-    padded: &mut bool,
-) -> Argument
+// The value that a Scalar's type names.
+fn scalar_value(s: &[u8], at: usize, stands: Standing, found: &Found, padded: &mut bool) -> Argument
     requires at_in_bounds { at ≤ length s.now }
-    requires holds { Holds (merged (rows_of scalar) s.now (scalar_by whole s.now at)) true times.now values.now
-        starts.now }
-    ensures answer { result ≡ scalar_in s.now (scalar_by whole s.now at) }
+    requires holds { Holds (merged (rows_of scalar) s.now (scalar_by (is_whole stands) s.now at)) true found.now }
+    ensures answer { result ≡ scalar_in s.now (scalar_by (is_whole stands) s.now at) }
     ensures told { 0 < any_type_of result →
         padded.new
         ≡ (padded.old
-        || inside_scalar s.now (scalar_by whole s.now at)
-        (merged (rows_of scalar) s.now (scalar_by whole s.now at))) }
+        || inside_scalar s.now (scalar_by (is_whole stands) s.now at)
+        (merged (rows_of scalar) s.now (scalar_by (is_whole stands) s.now at))) }
 {
-    let t = values[TYPE] % uint32::COUNT;
+    let t = found.slots[TYPE].value % uint32::COUNT;
     match t {
-        scalars::SINT => needed(times[SINT_FIELD], signed_argument(values[SINT_FIELD])),
-        scalars::UINT => needed(times[UINT_FIELD], Argument::Unsigned(values[UINT_FIELD])),
+        scalars::SINT => needed(
+            found.slots[SINT_FIELD].times,
+            signed_argument(found.slots[SINT_FIELD].value),
+        ),
+        scalars::UINT => needed(
+            found.slots[UINT_FIELD].times,
+            Argument::Unsigned(found.slots[UINT_FIELD].value),
+        ),
         scalars::NULL => Argument::Null,
         scalars::OCTETS => bytes_value(
             s,
             at,
-            whole,
-            OCTETS_NUMBER,
-            true,
-            times[OCTETS_FIELD],
-            starts[OCTETS_FIELD],
-            values[OCTETS_FIELD] as usize,
+            stands,
+            Bytes::Octets,
+            found.slots[OCTETS_FIELD],
             padded,
         ),
-        scalars::DOUBLE => needed(times[DOUBLE_FIELD], double_argument(values[DOUBLE_FIELD])),
-        scalars::FLOAT => needed(
-            times[FLOAT_FIELD],
-            float_argument((values[FLOAT_FIELD] % uint32::COUNT) as u32),
+        scalars::DOUBLE => needed(
+            found.slots[DOUBLE_FIELD].times,
+            double_argument(found.slots[DOUBLE_FIELD].value),
         ),
-        scalars::BOOL => needed(times[BOOL_FIELD], Argument::Bool(values[BOOL_FIELD] != 0)),
+        scalars::FLOAT => needed(
+            found.slots[FLOAT_FIELD].times,
+            float_argument((found.slots[FLOAT_FIELD].value % uint32::COUNT) as u32),
+        ),
+        scalars::BOOL => needed(
+            found.slots[BOOL_FIELD].times,
+            Argument::Bool(found.slots[BOOL_FIELD].value != 0),
+        ),
         scalars::STRING => bytes_value(
             s,
             at,
-            whole,
-            STRING_NUMBER,
-            false,
-            times[STRING_FIELD],
-            starts[STRING_FIELD],
-            values[STRING_FIELD] as usize,
+            stands,
+            Bytes::String,
+            found.slots[STRING_FIELD],
             padded,
         ),
         _ => Argument::Refused(reason::BAD_PAYLOAD),
@@ -329,23 +287,12 @@ pub(crate) fn long_scalar(s: &[u8], at: usize, n: usize, padded: &mut bool) -> A
         padded.new ≡ (padded.old || scalar_padded s.now (one_part at n)) }
 {
     let rows = layout::rows::scalar_rows();
-    let mut times = [0; SLOTS];
-    let mut values = [0; SLOTS];
-    let mut starts = [0; SLOTS];
-    if !layout::part::fill_part(
-        &rows,
-        s,
-        at,
-        n,
-        &mut times,
-        &mut values,
-        &mut starts,
-        padded,
-    ) {
+    let mut found = Found::new();
+    if !found.fill_part(&rows, s, at, n, padded) {
         return Argument::Refused(reason::BAD_PAYLOAD);
     }
     let end = at + n;
-    scalar_value(&s[..end], at, true, &times, &values, &starts, padded)
+    scalar_value(&s[..end], at, Standing::Whole, &found, padded)
 }
 
 // The Scalar whose parts are the scalars of an Any that goes from `at` to the end of s.
@@ -357,22 +304,11 @@ fn parted_scalar(s: &[u8], at: usize, padded: &mut bool) -> Argument
         ≡ (padded.old || scalar_padded s.now (scalar_by false s.now at)) }
 {
     let rows = layout::rows::scalar_rows();
-    let mut times = [0; SLOTS];
-    let mut values = [0; SLOTS];
-    let mut starts = [0; SLOTS];
-    if !layout::merge::merge_fields(
-        &rows,
-        s,
-        at,
-        SCALAR_NUMBER,
-        &mut times,
-        &mut values,
-        &mut starts,
-        padded,
-    ) {
+    let mut found = Found::new();
+    if !found.merge(&rows, Parts::of_message(s, at, SCALAR_NUMBER), padded) {
         return Argument::Refused(reason::BAD_PAYLOAD);
     }
-    scalar_value(s, at, false, &times, &values, &starts, padded)
+    scalar_value(s, at, Standing::InParts, &found, padded)
 }
 
 // The Scalar, with the short ways for a Scalar of one field and of two. The slice is lent anew to what is
@@ -381,25 +317,30 @@ fn read_scalar(s: &[u8], at: usize, n: usize, unread: &mut bool) -> Argument
     ensures { result ≡ scalar_in s.now (one_part at n) }
 {
     let all = s.len();
-    if crate::pair::read_lone(s, at, n) == scalars::NULL {
+    if let Some(scalars::NULL) = crate::pair::read_lone(s, at, n) {
         return Argument::Null;
     }
-    if let Pair::Two {
-        first,
-        tag,
-        value,
-        start,
-    } = crate::pair::read_pair(s, at, n, unread)
-    {
-        let named = first * 256 + tag;
-        match named {
+    if let Some(Pair { key, value, start }) = crate::pair::read_pair(s, at, n, unread) {
+        match key {
             keys::SINT_KEY => return signed_argument(value),
             keys::UINT_KEY => return Argument::Unsigned(value),
-            keys::OCTETS_KEY => return read_bytes(&s[..all], start, value as usize, true, unread),
+            keys::OCTETS_KEY => return read_bytes(
+                &s[..all],
+                start,
+                value as usize,
+                Bytes::Octets,
+                unread,
+            ),
             keys::DOUBLE_KEY => return double_argument(value),
             keys::FLOAT_KEY => return float_argument((value % uint32::COUNT) as u32),
             keys::BOOL_KEY => return Argument::Bool(value != 0),
-            keys::STRING_KEY => return read_bytes(&s[..all], start, value as usize, false, unread),
+            keys::STRING_KEY => return read_bytes(
+                &s[..all],
+                start,
+                value as usize,
+                Bytes::String,
+                unread,
+            ),
             _ => {}
         }
     }

@@ -4,7 +4,7 @@ use Rattle.prelude.proofs.Basics.{◌∷◌, ◌++◌, length, get_or, length-ap
 use native.Mathlib.Nat.{pow-succ'}
 use Rattle.varint.proofs.TailLaws.{tail_byte}
 use Rattle.scalar.specs.Fixed.{little}
-use Rattle.scalar.specs.declared.fixed.Fixed.{Fixed}
+use Rattle.varint.specs.declared.Number.{Number}
 use Rattle.scalar.proofs.FixedLaws.{fixed_whole}
 use Rattle.wire.specs.Value.{of_fixed}
 use Rattle.wire.specs.Field.{of_value}
@@ -17,6 +17,9 @@ use Rattle.writer.proofs.FieldLaws.{tag_reads}
 use Rattle.args_writer.proofs.Names.{varint_bytes, varint_length, Stands, stands_length, stands_first}
 use Rattle.args_writer.proofs.Names.{stands_next, as_fixed, value_at, field_at, Field, use_of, Use, Slots}
 use Rattle.args_writer.proofs.Names.{fixed_field, fixed_bytes, behind_tag, Reads}
+use Rattle.std.specs.Prelude.{Option}
+use Rattle.wire.specs.Field.{some_field}
+use Rattle.wire.specs.Tag.{some_tag}
 
 little_back : (k v at : ℕ) (s q : List ℕ) → v < 256 ^ k → Stands s at (fixed_bytes k v) q → v ≡ little k s at
 unfolding little fixed_bytes
@@ -35,7 +38,7 @@ little_back (suc n) v at s q h k =
 module _ (num wire k v at : ℕ) (s q : List ℕ) (by-wire : (p : ℕ) → as_fixed k s p ≡ value_at s wire p) where
   pub fixed_reads : 0 < num → num < 10 → wire < 6 → (wire ≡ 3 → ⊥) → v < 256 ^ k →
       Stands s at (fixed_field num wire k v) q →
-      field_at s at ≡ Field.Good num wire v (behind_tag at (num * 8 + wire)) k (at + length (fixed_field num wire k v))
+      field_at s at ≡ some_field num wire v (behind_tag at (num * 8 + wire)) k (at + length (fixed_field num wire k v))
   unfolding fixed_field
   fixed_reads some few low no-group h st =
       let g = num * 8 + wire in
@@ -44,14 +47,14 @@ module _ (num wire k v at : ℕ) (s q : List ℕ) (by-wire : (p : ℕ) → as_fi
       let next : here + k ≡ at + length (varint_bytes g ++ fixed_bytes k v) = omega
       (arith, length-append (varint_bytes g) (fixed_bytes k v)) in
       let behind = stands_next (varint_bytes g) (fixed_bytes k v) st in
-      field_tagged s at (Tag.Field num wire here)
+      field_tagged s at (some_tag num wire here)
       (tag_reads g num wire at s (fixed_bytes k v ++ q) refl some few low
       (stands_first (varint_bytes g) (fixed_bytes k v) st))
       ∙ sym (field_value s num wire here no-group)
       ∙ ap (of_value num wire) (sym (by-wire here))
-      ∙ ap (λ (x : Fixed). of_value num wire (of_fixed k here x))
+      ∙ ap (λ (x : Option Number). of_value num wire (of_fixed k here x))
       (sym (fixed_whole k s here v (omega (arith, stands_length behind)) (little_back k v here s q h behind)))
-      ∙ ap (λ (m : ℕ). Field.Good num wire v here k m) next
+      ∙ ap (λ (m : ℕ). some_field num wire v here k m) next
 
 abbrev pub with_fixed : ℕ → ℕ → ℕ → ℕ → ℕ → Slots → Slots
 with_fixed num wire k v at x = noted Use.Kept x num v (behind_tag at (num * 8 + wire)) k

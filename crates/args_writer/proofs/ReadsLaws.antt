@@ -24,6 +24,7 @@ use Rattle.args_writer.proofs.Names.{placed}
 use Rattle.args_writer.specs.Scalar.{bytes_of}
 use Rattle.args_writer.specs.Reads.{Appended, AppendReads, AppendedReads, EveryBits}
 use Rattle.args_writer.proofs.ScalarBackLaws.{scalar_stands, any_back, scalar_back}
+use Rattle.wire.specs.Field.{some_field}
 
 -- ---- good stretches one behind the other
 
@@ -98,7 +99,7 @@ both_listed s f g h =
     ∙ ap (λ (n : ℕ). arguments_at s 0 ++ map (moved n) (arguments_at f 0)) (zero-add (length s))
 
 -- a stretch of one field
-module _ (f : List ℕ) {v st ln next : ℕ} (e : field_at f 0 ≡ Field.Good 2 2 v st ln next) (whole : next ≡ length f) where
+module _ (f : List ℕ) {v st ln next : ℕ} (e : field_at f 0 ≡ some_field 2 2 v st ln next) (whole : next ≡ length f) where
   one-good : (any_type_of (argument_in f st ln) ≡ 0 → ⊥) → Stretch f 0
   one-good b = more e b (done whole)
 

@@ -3,10 +3,13 @@
 #![tactic(auto)]
 
 ghost use Rattle.std.specs.Prelude.{◌≡◌, length};
+ghost use Rattle.writer.specs.Write.{sent_by};
 ghost use Rattle.args_writer.specs.Append.{appended_of, left_by};
 
 use encode::put::has_room;
-use protocol::reason;
+use field::{field_len, put_field};
+use form::form_of;
+use protocol::reason::Reason;
 use scalar::argument::Argument;
 use writer::Sent;
 
@@ -20,26 +23,19 @@ pub fn append_argument(a: Argument, src: &[u8], buf: &mut [u8], at: usize) -> Se
     ensures { (result ≡ appended_of a src.now (length buf.old) at)
         × (buf.new ≡ left_by a src.now buf.old at) }
 {
-    let f = form::form_of(a, src.len());
-    if !f.good {
-        return Sent {
-            reason: reason::BAD_PAYLOAD,
-            len: 0,
-        };
+    Sent::from(append(a, src, buf, at))
+}
+
+// The length of the stretch with the argument behind it.
+fn append(a: Argument, src: &[u8], buf: &mut [u8], at: usize) -> Result<usize, Reason>
+    ensures { (sent_by result ≡ appended_of a src.now (length buf.old) at)
+        × (buf.new ≡ left_by a src.now buf.old at) }
+{
+    let Some(form) = form_of(a, src) else {
+        return Err(Reason::BadPayload);
+    };
+    if !has_room(buf.len(), at, field_len(form)) {
+        return Err(Reason::NoRoom);
     }
-    let start = f.start;
-    let end = start + f.len;
-    let bytes = &src[start..end];
-    let n = field::field_len(f, bytes);
-    if !has_room(buf.len(), at, n) {
-        return Sent {
-            reason: reason::NO_ROOM,
-            len: 0,
-        };
-    }
-    let next = field::put_field(f, bytes, buf, at);
-    Sent {
-        reason: reason::ACCEPTED,
-        len: next,
-    }
+    Ok(put_field(form, buf, at))
 }

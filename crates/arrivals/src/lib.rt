@@ -2,16 +2,16 @@
 // out is held in a store that the caller lends and that only these functions write.
 #![tactic(auto)]
 
-ghost use Rattle.std.specs.Prelude.{◌≡◌, ◌≤◌, [], length};
-ghost use Rattle.streams.specs.Reader.{next_at, next_of, push_at, push_of, reader, settled};
+ghost use Rattle.std.specs.Prelude.{◌≡◌, ◌-◌, ◌≤◌, [], length};
+ghost use Rattle.streams.specs.Reader.{bad_first, next_at, next_of, push_at, push_of, settled};
 ghost use Rattle.streams.specs.Reader.{stands_first, start_over, store_size, usable};
 
-use encode::put::lesser;
-use message::head::{Head, LENGTH_BYTES};
+use encode::put::write_bytes;
+use message::head::{LENGTH_BYTES, read_head};
 use protocol::reason;
+use protocol::reason::Reason;
 use room::make_room;
 use streams::{NextFrame, Pushed, Reader, STORE};
-use varint::wide;
 
 mod room;
 
@@ -24,48 +24,84 @@ pub fn start_over() -> Reader
 
 // An arrival, taken as far as there is room beside the bytes held. The clause `size` ties the store of the code to
 // that of the definitions.
+#[tactic(auto, unfolding(streams::specs::Reader::push_of))]
 pub fn push(reader: Reader, arrival: &[u8], store: &mut [u8; STORE]) -> Pushed
     ensures answer { result ≡ (push_of reader arrival.now store.old).answer }
     ensures stored { store.new ≡ (push_of reader arrival.now store.old).store }
     ensures size { length store.old ≡ store_size }
 {
-    push_into(reader, arrival, store)
+    push_at(usable_reader(reader, STORE), arrival, store)
 }
 
-// The frame that stands first, handed out.
+// The frame that stands first, handed out. Not by `usable_reader`: a reader that is no part of its store is seldom, and
+// the early return keeps a frame from waiting for the one before.
+#[tactic(auto, unfolding(streams::specs::Reader::next_of))]
 pub fn next_frame(reader: Reader, store: &[u8; STORE]) -> NextFrame
     ensures answer { result ≡ next_of reader store.now }
     ensures size { length store.now ≡ store_size }
 {
-    next_in(reader, store)
+    if reader.end < reader.start || store.len() < reader.end {
+        return waiting();
+    }
+    match read_head(&store[reader.start..reader.end]) {
+        Ok(head) => NextFrame {
+            reader: settle(
+                store,
+                Reader {
+                    start: reader.start + head.end,
+                    ..reader
+                },
+            ),
+            reason: reason::ACCEPTED,
+            start: reader.start,
+            len: head.end,
+            kind: u64::from(head.kind),
+        },
+        Err(reason) => NextFrame {
+            reader: settle(store, reader),
+            reason: reason.into(),
+            start: 0,
+            len: 0,
+            kind: 0,
+        },
+    }
 }
 
-// What stands first, by its reason: a whole frame, neither, a bad length.
+// The reason told of what stands first: none of a whole frame.
+#[tactic(auto, unfolding(streams::specs::Reader::stands_first))]
 fn stands_first(s: &[u8]) -> u64
     ensures { result ≡ stands_first s.now }
 {
-    match message::head::read_head(s) {
-        Head::Frame { kind: _, end: _ } => reason::ACCEPTED,
-        Head::Refused(reason) => reason,
+    match read_head(s) {
+        Ok(_) => reason::ACCEPTED,
+        Err(reason) => reason.into(),
     }
 }
 
-// The bytes from `start` up to `end` are held, but of a bad length that stands first only its four bytes.
-fn settle(store: &[u8], start: usize, end: usize) -> Reader
-    requires { (start ≤ end) × (end ≤ length store.now) }
-    ensures { result ≡ settled store.now (reader start end) }
+// Whether a bad length stands first.
+#[tactic(auto, unfolding(streams::specs::Reader::stands_first))]
+fn is_bad_first(s: &[u8]) -> bool
+    ensures { result ≡ bad_first s.now }
 {
-    let first = stands_first(&store[start..end]);
-    if first == reason::BAD_LENGTH {
+    matches!(read_head(s), Err(Reason::BadLength))
+}
+
+// These bytes are held, but of a bad length that stands first only its four bytes.
+fn settle(store: &[u8], held: Reader) -> Reader
+    requires { (held.start ≤ held.end) × (held.end ≤ length store.now) }
+    ensures { result ≡ settled store.now held }
+{
+    if is_bad_first(&store[held.start..held.end]) {
         return Reader {
-            start,
-            end: start + LENGTH_BYTES,
+            end: held.start + LENGTH_BYTES,
+            ..held
         };
     }
-    Reader { start, end }
+    held
 }
 
 // Nothing is handed out, since nothing is held.
+#[tactic(auto, unfolding(streams::specs::Reader::stands_first))]
 fn waiting() -> NextFrame
     ensures { result ≡ next_at [] start_over }
 {
@@ -78,63 +114,41 @@ fn waiting() -> NextFrame
     }
 }
 
-// next_frame on a store of any length.
-fn next_in(reader: Reader, store: &[u8]) -> NextFrame
-    ensures { result ≡ next_of reader store.now }
+// The room beside the bytes held in a store of this size: in front of them, too.
+fn room_beside(held: Reader, size: usize) -> usize
+    requires { (held.start ≤ held.end) × (held.end ≤ size) }
+    ensures { result ≡ size - (held.end - held.start) }
 {
-    let start = reader.start;
-    let end = reader.end;
-    if end < start {
-        return waiting();
-    }
-    if store.len() < end {
-        return waiting();
-    }
-    match message::head::read_head(&store[start..end]) {
-        Head::Frame { kind, end: len } => NextFrame {
-            reader: settle(store, start + len, end),
-            reason: reason::ACCEPTED,
-            start,
-            len,
-            kind: wide(kind),
-        },
-        Head::Refused(reason) => NextFrame {
-            reader: settle(store, start, end),
-            reason,
-            start: 0,
-            len: 0,
-            kind: 0,
-        },
-    }
+    size - (held.end - held.start)
 }
 
 // An arrival behind the bytes held, which are a part of the store.
+#[tactic(auto, unfolding(streams::specs::Reader::push_at))]
 fn push_at(held: Reader, arrival: &[u8], store: &mut [u8]) -> Pushed
     requires { (held.start ≤ held.end) × (held.end ≤ length store.old) }
     ensures answer { result ≡ (push_at store.old held arrival.now).answer }
     ensures stored { store.new ≡ (push_at store.old held arrival.now).store }
 {
-    let start = held.start;
-    let end = held.end;
-    if stands_first(&store[start..end]) == reason::BAD_LENGTH {
+    if is_bad_first(&store[held.start..held.end]) {
         return Pushed {
             reader: Reader {
-                start,
-                end: start + LENGTH_BYTES,
+                end: held.start + LENGTH_BYTES,
+                ..held
             },
-            reason: reason::BAD_LENGTH,
+            reason: Reason::BadLength.into(),
             count: 0,
         };
     }
-    let n = lesser(arrival.len(), store.len() - (end - start));
+    let n = arrival.len().min(room_beside(held, store.len()));
     let room = make_room(held, n, store);
-    let from = room.start;
-    let at = room.end;
-    encode::put::write_bytes(store, at, &arrival[..n]);
-    let to = at + n;
+    write_bytes(store, room.end, &arrival[..n]);
+    let filled = Reader {
+        end: room.end + n,
+        ..room
+    };
     Pushed {
-        reader: settle(store, from, to),
-        reason: stands_first(&store[from..to]),
+        reader: settle(store, filled),
+        reason: stands_first(&store[filled.start..filled.end]),
         count: n,
     }
 }
@@ -143,20 +157,8 @@ fn push_at(held: Reader, arrival: &[u8], store: &mut [u8]) -> Pushed
 fn usable_reader(r: Reader, size: usize) -> Reader
     ensures { result ≡ usable size r }
 {
-    if r.end < r.start {
-        return start_over();
-    }
-    if size < r.end {
+    if r.end < r.start || size < r.end {
         return start_over();
     }
     r
-}
-
-// push on a store of any length.
-fn push_into(reader: Reader, arrival: &[u8], store: &mut [u8]) -> Pushed
-    ensures answer { result ≡ (push_of reader arrival.now store.old).answer }
-    ensures stored { store.new ≡ (push_of reader arrival.now store.old).store }
-{
-    let held = usable_reader(reader, store.len());
-    push_at(held, arrival, store)
 }

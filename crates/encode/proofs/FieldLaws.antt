@@ -1,10 +1,11 @@
 -- Lengths of fields, and fields put in two parts. Assumes nothing.
-use Rattle.prelude.proofs.Basics.{ℕ, zero, suc, ◌+◌, ◌-◌, ◌*◌, ◌/◌, ◌%◌, ◌≤◌, ◌<◌, arith, Bool, true, false, ◌≡◌, refl}
-use Rattle.prelude.proofs.Basics.{ap, List, [], ◌∷◌, ◌++◌, length, length-append, before_suc}
+use Rattle.prelude.proofs.Basics.{ℕ, zero, suc, ◌+◌, ◌*◌, ◌/◌, ◌%◌, ◌≤◌, arith, Bool, true, false, ◌≡◌, refl}
+use Rattle.prelude.proofs.Basics.{ap, List, [], ◌∷◌, ◌++◌, length, length-append}
 use Rattle.varint.specs.Shortest.{varint_bytes}
 use Rattle.varint.proofs.VarintLaws.{varint_length}
 use Rattle.encode.specs.Fixed.{fixed_bytes}
-use Rattle.encode.specs.Field.{number_field, optional_field, prefix_of, bytes_field, fixed_field}
+use Rattle.std.specs.Prelude.{Option, Some, None, cond}
+use Rattle.encode.specs.Field.{number_field, optional_field, optional_number, prefix_of, bytes_field, fixed_field}
 use Rattle.encode.specs.Puts.{Puts}
 use Rattle.encode.proofs.PutsLaws.{puts_then, puts_as}
 
@@ -15,13 +16,12 @@ number_parts num v = length-append (varint_bytes (num * 8)) (varint_bytes v)
 pub number_short : (num v : ℕ) → length (number_field num v) ≤ 20
 number_short num v = omega (arith, number_parts num v, varint_length (num * 8), varint_length v)
 
-pub optional_there : {b : Bool} (num v : ℕ) → b ≡ true → number_field num v ≡ optional_field b num v
+-- an option that is made of a flag and a number
+pub optional_told : {o : Option ℕ} (b : Bool) (num v : ℕ) → o ≡ cond b (Some v) None →
+    optional_number num o ≡ optional_field b num v
 unfolding optional_field
-optional_there num v e = rw e
-
-pub optional_absent : {b : Bool} (num v : ℕ) → b ≡ false → [] ≡ optional_field b num v
-unfolding optional_field
-optional_absent num v e = rw e
+optional_told true num v e = rw e refl
+optional_told false num v e = rw e refl
 
 pub optional_short : (b : Bool) (num v : ℕ) → length (optional_field b num v) ≤ 20
 unfolding optional_field
@@ -49,10 +49,10 @@ fixed_parts num wire k v =
     omega (arith, length-append (varint_bytes (num * 8 + wire)) (fixed_bytes k v), fixed_length k v)
 
 -- the first of them, and the others
-pub fixed_more : (k v : ℕ) → 0 < k → fixed_bytes k v ≡ v % 256 ∷ fixed_bytes (k - 1) (v / 256)
+pub fixed_more : (k j v : ℕ) → k ≡ j + 1 → fixed_bytes k v ≡ v % 256 ∷ fixed_bytes j (v / 256)
 unfolding fixed_bytes
-fixed_more zero v h = absurd (omega arith)
-fixed_more (suc k) v h = ap (λ (j : ℕ). v % 256 ∷ fixed_bytes j (v / 256)) (before_suc k)
+fixed_more zero j v h = absurd (omega arith)
+fixed_more (suc k) j v h = let e : k ≡ j = omega arith in ap (λ (i : ℕ). v % 256 ∷ fixed_bytes i (v / 256)) e
 
 pub fixed_none : (k v : ℕ) → k ≤ 0 → fixed_bytes k v ≡ []
 unfolding fixed_bytes

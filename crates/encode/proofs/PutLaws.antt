@@ -2,17 +2,17 @@
 use Rattle.prelude.proofs.Basics.{ℕ, ◌+◌, ◌≤◌, ◌<◌, arith, Bool, true, false, cond, ◌≡◌, refl, List, ◌++◌, append_assoc}
 use Rattle.prelude.proofs.Basics.{length, take, drop, drop_at, length-sets, length-take-le, sets, sets-eq, le-leb}
 use Rattle.prelude.proofs.Basics.{leb-true, lt-leb}
-use Rattle.encode.specs.declared.put.Put.TheVariants.{Next, Full}
+use Rattle.std.specs.Prelude.{Some, None}
 use Rattle.encode.specs.Put.{fits_at, put_at, written}
 
 -- no room: nothing is written
 pub put_full : (b : List ℕ) (at : ℕ) (bs : List ℕ) → length b < at + length bs →
-    (Full ≡ put_at b at bs) × (b ≡ written b at bs)
+    (None ≡ put_at b at bs) × (b ≡ written b at bs)
 put_full b at bs h = rw (lt-leb (at + length bs) (length b) h) (refl, refl)
 
 -- room: the bytes stored one after the other are the bytes written
 pub put_fits : (b : List ℕ) (at : ℕ) (bs : List ℕ) → at + length bs ≤ length b →
-    (Next (at + length bs) ≡ put_at b at bs) × (sets b at bs ≡ written b at bs)
+    (Some (at + length bs) ≡ put_at b at bs) × (sets b at bs ≡ written b at bs)
 put_fits b at bs h = rw (le-leb (at + length bs) (length b) h) (refl, sets-eq bs b at h)
 
 -- a buffer keeps its length

@@ -1,12 +1,11 @@
 -- Laws of bytes put one stretch behind the other. Assumes nothing.
-use Rattle.prelude.proofs.Basics.{ℕ, suc, ◌+◌, ◌-◌, ◌≤◌, ◌<◌, arith, add-zero, zero-add, add-one, ◌≡◌, refl, sym, ap}
-use Rattle.prelude.proofs.Basics.{subst, ◌∙◌, List, [], ◌∷◌, ◌++◌, append-nil, append_assoc, length, get_or, set, take}
-use Rattle.prelude.proofs.Basics.{drop, drop_of_length-le, length-append, length-drop, length-set, drop-cons, drop-drop}
+use Rattle.prelude.proofs.Basics.{ℕ, suc, ◌+◌, ◌-◌, ◌≤◌, ◌<◌, arith, add-zero, zero-add, ◌≡◌, refl, sym, ap}
+use Rattle.prelude.proofs.Basics.{subst, ◌∙◌, List, [], ◌∷◌, ◌++◌, append-nil, append_assoc, length, set, take}
+use Rattle.prelude.proofs.Basics.{drop, drop_of_length-le, length-append, length-drop, drop-drop, length-take-le, take-append-drop}
 use Rattle.prelude.proofs.Basics.{length-sets, sets, sets-eq, take_all, take_at, leb, le-leb, lt-leb, less_or_not}
 use lib.Seq.{set_out}
 use borrow.Rule.Slice.PartMut.{mid_of, put_mid}
-use Rattle.encode.specs.declared.put.Put.{Put}
-use Rattle.encode.specs.declared.put.Put.TheVariants.{Next, Full}
+use Rattle.std.specs.Prelude.{Option, Some, None}
 use Rattle.encode.specs.Put.{put_at, written}
 use Rattle.encode.specs.Puts.{Puts, PutsIfRoom}
 use Rattle.encode.proofs.PutLaws.{put_full, put_fits}
@@ -103,24 +102,24 @@ putting_ended r e =
 -- ---- with room, and without
 
 pub puts_room : {b bs b₁ : List ℕ} {at r : ℕ} → at + length bs ≤ length b → Puts b at bs r b₁ →
-    PutsIfRoom b at bs (Next r) b₁
+    PutsIfRoom b at bs (Some r) b₁
 puts_room {b} {bs} {b₁} {at} {r} h f =
     let w = put_fits b at bs h in
     let e : r ≡ at + length bs = omega (arith, f.behind) in
-    record { answered = ap Next e ∙ w.0; left = f.stored ∙ w.1 }
+    record { answered = ap Some e ∙ w.0; left = f.stored ∙ w.1 }
 
-pub puts_none : {b : List ℕ} {at : ℕ} (bs : List ℕ) → length b < at + length bs → PutsIfRoom b at bs Full b
+pub puts_none : {b : List ℕ} {at : ℕ} (bs : List ℕ) → length b < at + length bs → PutsIfRoom b at bs None b
 puts_none {b} {at} bs h = let w = put_full b at bs h in record { answered = w.0; left = w.1 }
 
-pub if_room_as : {b xs ys b₁ : List ℕ} {at : ℕ} {r : Put} → xs ≡ ys → PutsIfRoom b at xs r b₁ → PutsIfRoom b at ys r b₁
+pub if_room_as : {b xs ys b₁ : List ℕ} {at : ℕ} {r : Option ℕ} → xs ≡ ys → PutsIfRoom b at xs r b₁ → PutsIfRoom b at ys r b₁
 if_room_as {b} {xs} {ys} {b₁} {at} {r} e f = subst (λ (l : List ℕ). PutsIfRoom b at l r b₁) e f
 
 -- the two equations of a contract
-pub equations : {b xs ys b₁ : List ℕ} {at : ℕ} {r : Put} → xs ≡ ys → PutsIfRoom b at xs r b₁ →
+pub equations : {b xs ys b₁ : List ℕ} {at : ℕ} {r : Option ℕ} → xs ≡ ys → PutsIfRoom b at xs r b₁ →
     (r ≡ put_at b at ys) × (b₁ ≡ written b at ys)
 equations e f = let g = if_room_as e f in (g.answered, g.left)
 
-pub equations_as : (b : List ℕ) (at : ℕ) {xs ys b₁ : List ℕ} {r : Put} → xs ≡ ys →
+pub equations_as : (b : List ℕ) (at : ℕ) {xs ys b₁ : List ℕ} {r : Option ℕ} → xs ≡ ys →
     (r ≡ put_at b at xs) × (b₁ ≡ written b at xs) → (r ≡ put_at b at ys) × (b₁ ≡ written b at ys)
 equations_as b at {b₁ = b₁} {r = r} e f =
     subst (λ (l : List ℕ). (r ≡ put_at b at l) × (b₁ ≡ written b at l)) e f
@@ -163,37 +162,35 @@ puts_rest {b} {ys} {part} {p} {m} {k} h e f =
         ∙ ap (λ (l : List ℕ). ys ++ l) (drop-drop (0 + length ys) p b)
         ∙ ap (λ (i : ℕ). ys ++ drop (p + i) b) (zero-add (length ys))
 
--- ---- the copying loop: what is left of `src`, stored from here on, gives the buffer that is to be
+-- ---- bytes copied over a part of the buffer
 
-pub record Copying (b₀ : List ℕ) (at : ℕ) (src b : List ℕ) (i : ℕ) : Type 0 where
-  pub room : at + length src ≤ length b₀
-  pub within : i ≤ length src
-  pub left : sets b (at + i) (drop i src) ≡ sets b₀ at src
-  pub kept : length b ≡ length b₀
-
-pub copy_starts : (b : List ℕ) (at : ℕ) (src : List ℕ) → at + length src ≤ length b → Copying b at src b 0
-copy_starts b at src h =
-    record { room = h; within = omega arith; left = ap (λ (i : ℕ). sets b i src) (add-zero at); kept = refl }
-
-pub copy_goes_on : {b₀ src b : List ℕ} {at i : ℕ} → Copying b₀ at src b i → i < length src →
-    Copying b₀ at src (set b (at + i) (get_or src i 0)) (i + 1)
-copy_goes_on {b₀} {src} {b} {at} {i} r h =
+-- the part that they fit exactly
+pub puts_copied : {b bs part : List ℕ} {at k : ℕ} → at + length bs ≤ length b → k ≡ length bs → part ≡ bs →
+    Puts b at bs (at + length bs) (put_mid at k b part)
+puts_copied {b} {bs} {part} {at} {k} h e f =
     record {
-      room = r.room;
-      within = omega arith;
-      left =
-          rw (add-one i) (ap (λ (j : ℕ). sets (set b (at + i) (get_or src i 0)) j (drop (suc i) src)) next)
-          ∙ sym (ap (sets b (at + i)) (drop-cons src i 0 h))
-          ∙ r.left;
-      kept = rw length-set r.kept;
+      behind = omega arith;
+      stored =
+          rw (e, f)
+          (ap (λ (l : List ℕ). take at b ++ (bs ++ l)) (drop-drop (length bs) at b)
+          ∙ sym (append_assoc (take at b) bs (drop (at + length bs) b))
+          ∙ sym (sets-eq bs b at h));
     }
+
+-- the rest of it, where they do not all fit
+pub puts_cut : {b bs part : List ℕ} {at k : ℕ} → at + k ≡ length b → k ≤ length bs → part ≡ take k bs →
+    Puts b at bs (at + k) (put_mid at k b part)
+puts_cut {b} {bs} {part} {at} {k} h within f =
+    record { behind = omega arith; stored = front.stored ∙ rest-out ∙ ap (sets b at) (take-append-drop k bs) }
   where
-    next : at + suc i ≡ suc (at + i)
-    next = omega arith
+    long : length (take k bs) ≡ k
+    long = length-take-le k bs within
 
-pub copy_ends : {b₀ src b : List ℕ} {at i : ℕ} → Copying b₀ at src b i → length src ≤ i → Puts b₀ at src (at + i) b
-copy_ends {b₀} {src} {b} {at} {i} r h =
-    record {
-      behind = omega (arith, r.within, r.room);
-      stored = sym (ap (sets b (at + i)) (drop_of_length-le src h)) ∙ r.left;
-    }
+    front : Puts b at (take k bs) (at + length (take k bs)) (put_mid at k b part)
+    front = puts_copied (omega (arith, long)) (sym long) f
+
+    rest-out : sets b at (take k bs) ≡ sets b at (take k bs ++ drop k bs)
+    rest-out =
+        sym (sets_out (drop k bs) (sets b at (take k bs)) (at + length (take k bs))
+        (omega (arith, long, length-sets b at (take k bs))))
+        ∙ sets_append (take k bs) (drop k bs) b at

@@ -1,5 +1,5 @@
 -- Fields as they are written (W7): a tag, which is the number times 8 and the wire type, and the value.
-use Rattle.std.specs.Prelude.{ℕ, ◌+◌, ◌*◌, Bool, cond, List, [], ◌++◌, length}
+use Rattle.std.specs.Prelude.{ℕ, ◌+◌, ◌*◌, Bool, cond, Option, Some, None, List, [], ◌++◌, length}
 use Rattle.varint.specs.Shortest.{varint_bytes}
 use Rattle.encode.specs.Fixed.{fixed_bytes}
 
@@ -10,6 +10,11 @@ number_field num v = varint_bytes (num * 8) ++ varint_bytes v
 -- the same, where it is present
 unfoldable pub optional_field : Bool → ℕ → ℕ → List ℕ
 optional_field present num v = cond present (number_field num v) []
+
+-- the same of an option
+abbrev pub optional_number : ℕ → Option ℕ → List ℕ
+optional_number num (Some v) = number_field num v
+optional_number num None = []
 
 -- what stands before the n bytes of a field: its tag, of wire type 2, and their count
 abbrev pub prefix_of : ℕ → ℕ → List ℕ

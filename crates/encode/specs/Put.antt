@@ -1,20 +1,13 @@
 -- Bytes put at a place of a lent buffer: all of them where they fit, none where they do not.
-use Rattle.std.specs.Prelude.{ℕ, ◌+◌, Bool, cond, List, ◌++◌, length, take, drop, leb}
-use Rattle.encode.specs.declared.put.Put.{Put}
-use Rattle.encode.specs.declared.put.Put.TheVariants.{Next, Full}
+use Rattle.std.specs.Prelude.{ℕ, ◌+◌, Bool, cond, Option, Some, None, List, ◌++◌, length, take, drop, leb}
 
 -- the bytes end within the buffer
 abbrev pub fits_at : List ℕ → ℕ → List ℕ → Bool
 fits_at buf at bytes = leb (at + length bytes) (length buf)
 
 -- the answer: the place behind the bytes, where they fit
-abbrev pub put_at : List ℕ → ℕ → List ℕ → Put
-put_at buf at bytes = cond (fits_at buf at bytes) (Next (at + length bytes)) Full
-
--- the place behind what was put, 0 where it does not fit
-abbrev pub place_behind : Put → ℕ
-place_behind (Next n) = n
-place_behind Full = 0
+abbrev pub put_at : List ℕ → ℕ → List ℕ → Option ℕ
+put_at buf at bytes = cond (fits_at buf at bytes) (Some (at + length bytes)) None
 
 -- the buffer afterwards: the bytes at their place and every other byte as it was; unchanged where they do not fit
 abbrev pub written : List ℕ → ℕ → List ℕ → List ℕ

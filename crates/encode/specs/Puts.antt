@@ -1,7 +1,6 @@
 -- What a function that puts bytes into a lent buffer comes to.
-use Rattle.std.specs.Prelude.{ℕ, ◌+◌, min, max, ◌≡◌, List, length}
+use Rattle.std.specs.Prelude.{ℕ, ◌+◌, min, max, ◌≡◌, Option, List, length}
 use Rattle.std.proofs.lemmas.List.Edits.{sets}
-use Rattle.encode.specs.declared.put.Put.{Put}
 use Rattle.encode.specs.Put.{put_at, written}
 
 -- the bytes stored from a place on, as far as the buffer goes
@@ -12,6 +11,6 @@ pub record Puts (before : List ℕ) (at : ℕ) (bytes : List ℕ) (next : ℕ) (
   pub stored : after ≡ sets before at bytes
 
 -- all of them where there is room, and nothing where there is none
-pub record PutsIfRoom (before : List ℕ) (at : ℕ) (bytes : List ℕ) (answer : Put) (after : List ℕ) : Type 0 where
+pub record PutsIfRoom (before : List ℕ) (at : ℕ) (bytes : List ℕ) (answer : Option ℕ) (after : List ℕ) : Type 0 where
   pub answered : answer ≡ put_at before at bytes
   pub left : after ≡ written before at bytes

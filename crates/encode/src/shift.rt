@@ -12,9 +12,5 @@ pub fn move_front(buf: &mut [u8], start: usize, len: usize)
     if !has_room(buf.len(), start, len) {
         return;
     }
-    let mut i = 0;
-    while i < len {
-        buf[i] = buf[start + i];
-        i += 1;
-    }
+    buf.copy_within(start..start + len, 0);
 }

@@ -1,8 +1,9 @@
 -- Demand 3. The invariant ties the openings that the tally holds to the live cursors of the table: under every weight
 -- the two have the same sum. Assumes nothing.
 use Rattle.prelude.proofs.Basics.{ℕ, ◌+◌, ◌-◌, ◌≤◌, min, arith, le_trans, Bool, true, false, not, ◌&&◌, cond}
-use Rattle.prelude.proofs.Basics.{true≢false, false≢true, ◌≡◌, refl, sym, ap, subst, ◌∙◌, List, [], ◌∷◌, length, get_or}
-use Rattle.prelude.proofs.Basics.{take, eqb, eq-eqb, eqb-false, eqb-true, ltb-false, ne_eqb, not-true, both}
+use Rattle.prelude.proofs.Basics.{true≢false, false≢true, ◌≡◌, refl, sym, ap, subst, ◌∙◌, List, [], ◌∷◌, length}
+use Rattle.prelude.proofs.Basics.{get_or, take, eqb, eq-eqb, eqb-false, eqb-true, ltb-false, ne_eqb, not-true, both}
+use Rattle.prelude.proofs.Basics.{Option, Some, None}
 use mathlib.Core.Bool.{or-false}
 use Rattle.protocol.specs.Client.{open', fetch}
 use Rattle.protocol.specs.Reason as Reason
@@ -16,7 +17,6 @@ use Rattle.message.specs.declared.request.Request.TheVariants.{Close, Fetch}
 use Rattle.message.specs.declared.request.Frame.{Frame}
 use Rattle.message.specs.declared.request.Frame.TheVariants.{Good}
 use Rattle.session.specs.declared.Cursor.{Cursor}
-use Rattle.session.specs.declared.Place.{Place}
 use Rattle.session.specs.Session.{Session}
 use Rattle.session.specs.Lists.{sum_by, how_many, All, change, changed, entry_at}
 use Rattle.session.specs.Entry.{no_cursor, new_cursor, is_live_cursor, is_cursor, raise}
@@ -92,14 +92,14 @@ record Held (s : Session) (id : ℕ) : Type 0 where
 held : (s : Session) (id : ℕ) → not (is_live_cursor (live_cursor s id)) ≡ false → Held s id
 held s id h = go (cursor_at s id) refl
   where
-    go : (x : Place) → cursor_at s id ≡ x → Held s id
-    go (Place.At i) e =
+    go : (x : Option ℕ) → cursor_at s id ≡ x → Held s id
+    go (Some i) e =
         record {
           place = i;
           passes = found (is_cursor id) no_cursor s.cursors i e;
           it = ap (λ x. entry_at s.cursors x no_cursor) e;
         }
-    go Place.Nothing e = absurd (true≢false (sym (ap (λ x. not (is_live_cursor (entry_at s.cursors x no_cursor))) e)
+    go None e = absurd (true≢false (sym (ap (λ x. not (is_live_cursor (entry_at s.cursors x no_cursor))) e)
         ∙ h))
 
 -- an opening with a cursor id has these rows reported and sent

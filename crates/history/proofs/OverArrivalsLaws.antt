@@ -1,9 +1,9 @@
 -- The demands over the frames handed out follow from the demands over any frames. Assumes nothing.
 use Rattle.prelude.proofs.Basics.{ℕ, arith, ◌≡◌, refl, sym, ap, subst, ◌∙◌, List, [], ◌∷◌, map, append-nil, length}
-use Rattle.prelude.proofs.Basics.{get_or, take, length-take-le, eqb, both}
+use Rattle.prelude.proofs.Basics.{get_or, take, length-take-le, eqb, both, Ok, Err}
 use Rattle.protocol.specs.Reason as Reason
-use Rattle.message.specs.declared.head.Head.{Head}
-use Rattle.message.specs.Head.{length_bytes, head_of}
+use Rattle.protocol.specs.declared.reason.Reason as Declared
+use Rattle.message.specs.Head.{HeadResult, framed, length_bytes, head_of}
 use Rattle.message.specs.Frame.{frame_of, of_head, refused_head, reason_of, used_of}
 use Rattle.message.proofs.UsedLaws.{uses_all}
 use Rattle.message.proofs.WithinLaws.{frame_within}
@@ -33,9 +33,9 @@ demand_3_restored_arrivals before m rules store os is e = demand_3_restored befo
 -- ---- written messages
 
 -- a head that is refused holds no request
-no_request : (reason : ℕ) → reason_of (refused_head reason) ≡ Reason.accepted → ⊥
+no_request : (reason : Declared.Reason) → reason_of (refused_head reason) ≡ Reason.accepted → ⊥
 no_request reason =
-    both (λ x. reason_of x ≡ Reason.accepted → ⊥) (eqb reason Reason.bad_length) _ _
+    both (λ x. reason_of x ≡ Reason.accepted → ⊥) (eqb (Reason.number_of reason) Reason.bad_length) _ _
     (λ _ g. omega arith) (λ _ g. omega arith)
 
 -- a frame that is accepted and used whole is a frame and nothing else
@@ -43,11 +43,13 @@ read_whole : (f : List ℕ) → reason_of (frame_of f) ≡ Reason.accepted → u
 unfolding frame_of
 read_whole f good used = go (head_of f) refl good used
   where
-    go : (h : Head) → head_of f ≡ h → reason_of (of_head f h) ≡ Reason.accepted → used_of (of_head f h) ≡ length f → Whole f
-    go (Head.Frame kind end) e g u =
+    go : (h : HeadResult) → head_of f ≡ h → reason_of (of_head f h) ≡ Reason.accepted → used_of (of_head f h) ≡ length f → Whole f
+    go (Ok head) e g u =
+        let end = head.end in
+        let kind = head.kind in
         let all = sym (length-take-le end f (frame_within f (sym e))) ∙ sym (uses_all (take end f) kind) ∙ u in
-        e ∙ ap (λ (k : ℕ). Head.Frame k end) (frame_told f e).type ∙ ap (Head.Frame (get_or f length_bytes 0)) all
-    go (Head.Refused reason) e g u = absurd (no_request reason g)
+        e ∙ ap (λ (k : ℕ). framed k end) (frame_told f e).type ∙ ap (framed (get_or f length_bytes 0)) all
+    go (Err reason) e g u = absurd (no_request reason g)
 
 -- a message is read back from its frame
 written_reads : (w : Written) → ReadsAs w.draft w.body w.args (written_bytes w)

@@ -1,15 +1,13 @@
 -- What the cursor table weighs after an accepted message, under every weight, and what openings weigh. Assumes nothing.
 use Rattle.prelude.proofs.Basics.{ℕ, ◌+◌, ◌≤◌, arith, Bool, true, false, not, ◌&&◌, cond, true≢false, ◌≡◌, refl, sym}
-use Rattle.prelude.proofs.Basics.{◌∙◌, List, get_or, set, eqb, not-true, both}
+use Rattle.prelude.proofs.Basics.{◌∙◌, List, get_or, set, eqb, not-true, both, Option, Some, None, option_or, is_none}
 use Rattle.session.specs.declared.Cursor.{Cursor}
-use Rattle.session.specs.declared.Place.{Place}
-use Rattle.session.specs.Lists.{first, or_place, sum_by, how_many, put, changed, change}
+use Rattle.session.specs.Lists.{first, sum_by, how_many, put, changed, change}
 use Rattle.session.specs.Entry.{no_cursor, new_cursor, is_live_cursor, is_cursor, free_cursor, raise}
 use Rattle.session.specs.Tables.{ends}
 use Rattle.session.proofs.PlaceLaws.{Taken, taken}
 use Rattle.session.proofs.PlaceLaws.Taken.{own, new}
 use Rattle.session.proofs.SumLaws.{sum_same, sum_map, sum_add, sum_set, and_true}
-use Rattle.rules.specs.Refusal.{no_place}
 use Rattle.history.specs.Tally.{Opening, sent}
 use Rattle.history.proofs.ListLaws.{sum_absent, sum_only}
 
@@ -117,11 +115,11 @@ module _ (q : ℕ → ℕ → Bool) (id : ℕ) (own-id : (k stmt : ℕ) → q k 
         free : weigh w (get_or cs i no_cursor) ≡ 0
         free = rw (not-true (is_live_cursor (get_or cs i no_cursor)) l.passing)
 
-    pub open_weigh : (at : Place) → or_place (first (is_cursor id) cs 0) (first free_cursor cs 0) ≡ at →
-        no_place at ≡ false →
+    pub open_weigh : (at : Option ℕ) → option_or (first (is_cursor id) cs 0) (first free_cursor cs 0) ≡ at →
+        is_none at ≡ false →
         table w (put cs at opening) ≡ table (off q w) cs + w (new_cursor id stmt rows sent)
-    open_weigh (Place.At i) e z = open_at i (taken (is_cursor id) free_cursor no_cursor cs i e)
-    open_weigh Place.Nothing e z = absurd (true≢false z)
+    open_weigh (Some i) e z = open_at i (taken (is_cursor id) free_cursor no_cursor cs i e)
+    open_weigh None e z = absurd (true≢false z)
 
 -- ---- a fetch
 

@@ -1,6 +1,6 @@
 -- The examples that are shown by proof (V1 to V12).
 use Rattle.std.specs.Prelude.{ℕ, ◌^◌, ◌-◌, ◌≡◌, List, [], ◌∷◌, ◌++◌, false, length, replicate}
-use Rattle.varint.specs.declared.Varint.{Varint}
+use Rattle.varint.specs.declared.Number.{Number}
 use Rattle.varint.specs.Varint.{varint_at}
 use Rattle.session.specs.Lists.{All}
 use Rattle.session.specs.Session.{Session}
@@ -14,12 +14,14 @@ use Rattle.rules.specs.Step.{Step, reply_of, step_of}
 use Rattle.history.specs.Tally.{empty}
 use Rattle.history.specs.Run.{Input, Told}
 use Rattle.history.specs.History.{reached, Kept}
+use Rattle.std.specs.Prelude.{Option, None}
+use Rattle.varint.specs.Number.{some_number}
 
 -- the last of some steps from a fresh session, with the reason and the reply that it gives; or a varint, with what it
 -- reads as
 pub data Sample : Type 0 where
   step : List Input → Input → ℕ → List ℕ → Sample
-  number : List ℕ → Varint → Sample
+  number : List ℕ → Option Number → Sample
 
 abbrev pub last_step : List Input → Input → Step
 last_step before i = step_of (reached before).session i.frame i.report i.buffer
@@ -68,9 +70,9 @@ samples =
     ∷ step [] (alone (0xFC ∷ 0xFF ∷ 0 ∷ 0 ∷ [])) Reason.not_all_there []  -- V4
     ∷ step [] deallocate_one Reason.no_stmt (error_frame 5110 (text Reason.no_stmt 1 0))  -- V5
     ∷ step (prepare_one 5 ∷ []) deallocate_one Reason.accepted (1 ∷ 0 ∷ 0 ∷ 0 ∷ 0 ∷ [])  -- V6
-    ∷ number (0x80 ∷ 0x01 ∷ []) (Varint.Number 128 2)  -- V7
-    ∷ number (replicate 10 0xFF) Varint.Bad  -- V8
-    ∷ number (replicate 9 0xFF ++ (0x01 ∷ [])) (Varint.Number (2 ^ 64 - 1) 10)  -- V9
+    ∷ number (0x80 ∷ 0x01 ∷ []) (some_number 128 2)  -- V7
+    ∷ number (replicate 10 0xFF) None  -- V8
+    ∷ number (replicate 9 0xFF ++ (0x01 ∷ [])) (some_number (2 ^ 64 - 1) 10)  -- V9
     ∷ step [] (prepare_one 3) Reason.bad_payload (error_frame 5000 (text Reason.bad_payload 0 0))  -- V10
     ∷ step (prepare_one 5 ∷ []) (open_one 0) Reason.accepted (fetch_done ++ stmt_execute_ok)  -- V11
     ∷ step (prepare_one 5 ∷ open_one 0 ∷ []) (fetch_one 1) Reason.all_sent (error_frame 6011 (text Reason.all_sent 1 0))

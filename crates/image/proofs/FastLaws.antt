@@ -3,7 +3,7 @@ use Rattle.prelude.proofs.Basics.{ℕ, ◌+◌, ◌-◌, ◌*◌, ◌%◌, ◌^�
 use Rattle.prelude.proofs.Basics.{ap, ap₂, ◌∙◌, List, length, get_or, drop, length-drop, length-take-le, eqb}
 use Rattle.prelude.proofs.Basics.{eqb-false, eqb-true, le-ltb, lt-ltb, ltb, less_or_not, add-one}
 use native.Mathlib.Nat.{mul-add, mul_comm, mul-le-mul_right, pow-suc}
-use Rattle.varint.specs.declared.Varint.{Varint}
+use Rattle.varint.specs.declared.Number.{Number}
 use Rattle.varint.specs.Varint.{onto, groups, low64, varint_at}
 use Rattle.varint.specs.Padded.{padded_at}
 use Rattle.varint.specs.Past.{Past}
@@ -14,22 +14,24 @@ use Rattle.varint.proofs.ShortestLaws.{shortest_at_most}
 use Rattle.session.specs.Sound.{max_number}
 use Rattle.image.specs.private.Ends.{number_at}
 use Rattle.image.proofs.NumberLaws.{number_bad, number_padded, number_large, number_good}
+use Rattle.std.specs.Prelude.{Option, Some, None}
+use Rattle.varint.specs.Number.{some_number}
 
 module _ (s : List ℕ) (at : ℕ) where
-  pub number_none : length s ≤ at → Varint.Bad ≡ number_at s at
+  pub number_none : length s ≤ at → None ≡ number_at s at
   number_none h = number_bad s at (varint_none s at h)
 
-  pub number_one : (b : ℕ) → b ≡ get_or s at 0 → at < length s → b < 128 → Varint.Number b (at + 1) ≡ number_at s at
+  pub number_one : (b : ℕ) → b ≡ get_or s at 0 → at < length s → b < 128 → some_number b (at + 1) ≡ number_at s at
   number_one b e h low =
       let l = rw e at low in
       rw e (number_good s at (get_or s at 0) (at + 1) (varint_one s at h l) (padded_one s at h l) (omega arith))
 
   -- a number of six bytes or more is padded or too large
-  number-long : (v next : ℕ) → Varint.Number v next ≡ varint_at s at → at + 5 < next → next ≤ length s →
-      Varint.Bad ≡ number_at s at
+  number-long : (v next : ℕ) → some_number v next ≡ varint_at s at → at + 5 < next → next ≤ length s →
+      None ≡ number_at s at
   number-long v next e long h = go (padded_at s at) refl
     where
-      go : (b : Bool) → padded_at s at ≡ b → Varint.Bad ≡ number_at s at
+      go : (b : Bool) → padded_at s at ≡ b → None ≡ number_at s at
       go true f = number_padded s at f
       go false f =
           number_large s at v next e f
@@ -98,10 +100,10 @@ module _ {s : List ℕ} {at low marks k : ℕ} (m : Marked s at low marks k) (fe
       v-read : v ≡ m.value + byte * 128 ^ k
       v-read = omega (arith, v-is, m.is, ap (λ (n : ℕ). n * 128 ^ k) e)
 
-      answered : Varint.Number v next ≡ varint_at s at
+      answered : some_number v next ≡ varint_at s at
       answered =
           let n : next ≡ at + k + 1 = omega arith in
-          ap₂ Varint.Number v-read n
+          ap₂ some_number v-read n
           ∙ whole_last m.reading few there (rw e at low_byte)
           ∙ behind_answer s at m.inside m.more refl
 
@@ -115,10 +117,10 @@ module _ {s : List ℕ} {at low marks k : ℕ} (m : Marked s at low marks k) (fe
       needed h = sym flagged ∙ le-ltb v (128 ^ k) (omega (arith, v-is, m.is, mul-le-mul_right (128 ^ k) h))
 
       -- a last byte of 0 was not needed
-      pub marked_last : v ≤ max_number → cond (eqb b 0) Varint.Bad (Varint.Number v next) ≡ number_at s at
+      pub marked_last : v ≤ max_number → cond (eqb b 0) None (some_number v next) ≡ number_at s at
       marked_last small = go (eqb b 0) refl
         where
-          go : (t : Bool) → eqb b 0 ≡ t → cond t Varint.Bad (Varint.Number v next) ≡ number_at s at
+          go : (t : Bool) → eqb b 0 ≡ t → cond t None (some_number v next) ≡ number_at s at
           go true z =
               let none : b * 128 ^ k ≡ 0 * 128 ^ k = ap (λ (n : ℕ). n * 128 ^ k) (eqb-true b 0 z) in
               number_padded s at
@@ -127,23 +129,23 @@ module _ {s : List ℕ} {at low marks k : ℕ} (m : Marked s at low marks k) (fe
               number_good s at v next answered
               (needed (less_or_not 0 b (λ h. h) (λ h. absurd (eqb-false b 0 z (omega arith))))) small
 
-      marked-large : 0 < b → max_number < v → Varint.Bad ≡ number_at s at
+      marked-large : 0 < b → max_number < v → None ≡ number_at s at
       marked-large h large = number_large s at v next answered (needed h) large
 
 -- five bytes that have others behind them begin no such number
-five_more : {s : List ℕ} {at low marks : ℕ} → Marked s at low marks 5 → Varint.Bad ≡ number_at s at
+five_more : {s : List ℕ} {at low marks : ℕ} → Marked s at low marks 5 → None ≡ number_at s at
 five_more {s} {at} m =
     go (groups 5 s (at + 5)) (groups_past 5 s (at + 5))
     (ap low64 m.reading.whole ∙ behind_answer s at m.inside m.more refl)
   where
-    go : (x : Varint) → Past (at + 5) (length s) x → low64 (onto m.value (128 ^ 5) x) ≡ varint_at s at →
-        Varint.Bad ≡ number_at s at
-    go (Varint.Number v next) p e = number-long s at _ next e p.0 p.1
-    go Varint.Bad p e = number_bad s at e
+    go : (x : Option Number) → Past (at + 5) (length s) x → low64 (onto m.value (128 ^ 5) x) ≡ varint_at s at →
+        None ≡ number_at s at
+    go (Some r) p e = number-long s at _ r.next e p.0 p.1
+    go None p e = number_bad s at e
 
 -- 16 in the fifth byte are 2^32
 pub fifth_over : {s : List ℕ} {at low marks : ℕ} → Marked s at low marks 4 → at + 4 < length s → (b : ℕ) →
-    b ≡ get_or s (at + 4) 0 → 16 ≤ b → b < 256 → Varint.Bad ≡ number_at s at
+    b ≡ get_or s (at + 4) 0 → 16 ≤ b → b < 256 → None ≡ number_at s at
 fifth_over {s} {at} {low} m there b e h u =
     less_or_not b 128
     (λ l. marked-large m (omega arith) there b e l _ _ refl refl (omega arith) (omega (arith, m.is)))

@@ -3,52 +3,58 @@ use Rattle.prelude.proofs.Basics.{ℕ, suc, ◌+◌, ◌-◌, ◌≤◌, ◌<◌
 use Rattle.prelude.proofs.Basics.{cond, ◌≡◌, refl, sym, ap, subst, ◌∙◌, List, [], ◌∷◌, ◌++◌, length, set, take}
 use Rattle.prelude.proofs.Basics.{length-set, leb, le-leb, leb-true, lt-leb}
 use lib.Seq.{take-suc-set}
-use Rattle.varint.specs.declared.Varint.{Varint}
+use Rattle.varint.specs.declared.Number.{Number}
 use Rattle.varint.specs.Varint.{varint_at}
 use Rattle.varint.specs.Padded.{padded_at}
 use Rattle.session.specs.Sound.{max_number}
 use Rattle.image_rules.specs.Numbers.{Front, ahead, on_varint, front_at}
-use Rattle.image.specs.private.Ends.{most, small, number_at}
+use Rattle.image.specs.private.Ends.{small, number_at}
+use Rattle.std.specs.Prelude.{Option, Some, None}
+use Rattle.varint.specs.Number.{some_number}
 
 -- ---- one number
 
 module _ (s : List ℕ) (at : ℕ) where
-  pub number_bad : Varint.Bad ≡ varint_at s at → Varint.Bad ≡ number_at s at
-  number_bad e = go (padded_at s at) ∙ ap (λ x. cond (padded_at s at) Varint.Bad (small x)) e
+  pub number_bad : None ≡ varint_at s at → None ≡ number_at s at
+  number_bad e = go (padded_at s at) ∙ ap (λ x. cond (padded_at s at) None (small x)) e
     where
-      go : (b : Bool) → Varint.Bad ≡ cond b Varint.Bad Varint.Bad
+      go : (b : Bool) → ◌≡◌ {A = Option Number} None (cond b None None)
       go true = refl
       go false = refl
 
-  pub number_padded : padded_at s at ≡ true → Varint.Bad ≡ number_at s at
-  number_padded e = sym (ap (λ (b : Bool). cond b Varint.Bad (small (varint_at s at))) e)
+  pub number_padded : padded_at s at ≡ true → None ≡ number_at s at
+  number_padded e = sym (ap (λ (b : Bool). cond b None (small (varint_at s at))) e)
 
-  module _ (v next : ℕ) (e : Varint.Number v next ≡ varint_at s at) (plain : padded_at s at ≡ false) where
-    number_is : small (Varint.Number v next) ≡ number_at s at
+  module _ (v next : ℕ) (e : some_number v next ≡ varint_at s at) (plain : padded_at s at ≡ false) where
+    number_is : small (some_number v next) ≡ number_at s at
     number_is =
-        ap small e ∙ sym (ap (λ (b : Bool). cond b Varint.Bad (small (varint_at s at))) plain)
+        ap small e ∙ sym (ap (λ (b : Bool). cond b None (small (varint_at s at))) plain)
 
-    pub number_large : max_number < v → Varint.Bad ≡ number_at s at
+    pub number_large : max_number < v → None ≡ number_at s at
     number_large h =
-        sym (ap (λ (b : Bool). cond b (Varint.Number v next) Varint.Bad) (lt-leb v max_number h)) ∙ number_is
+        sym (ap (λ (b : Bool). cond b (some_number v next) None) (lt-leb v max_number h)) ∙ number_is
 
-    pub number_good : v ≤ max_number → Varint.Number v next ≡ number_at s at
+    pub number_good : v ≤ max_number → some_number v next ≡ number_at s at
     number_good h =
-        sym (ap (λ (b : Bool). cond b (Varint.Number v next) Varint.Bad) (le-leb v max_number h)) ∙ number_is
+        sym (ap (λ (b : Bool). cond b (some_number v next) None) (le-leb v max_number h)) ∙ number_is
+
+abbrev value_in : Option Number → ℕ
+value_in (Some r) = r.value
+value_in None = 0
 
 -- what is read as a number is small
-pub number_small : (s : List ℕ) (at v next : ℕ) → number_at s at ≡ Varint.Number v next → v ≤ max_number
+pub number_small : (s : List ℕ) (at v next : ℕ) → number_at s at ≡ some_number v next → v ≤ max_number
 number_small s at v next e = go (padded_at s at) (varint_at s at) e
   where
-    fits : (w n : ℕ) (b : Bool) → leb w max_number ≡ b → cond b (Varint.Number w n) Varint.Bad ≡ Varint.Number v next →
+    fits : (w n : ℕ) (b : Bool) → leb w max_number ≡ b → cond b (some_number w n) None ≡ some_number v next →
         v ≤ max_number
-    fits w n true f g = let z : w ≡ v = cc in omega (arith, leb-true w max_number f)
+    fits w n true f g = let z : w ≡ v = ap value_in g in omega (arith, leb-true w max_number f)
     fits w n false f g = absurd (let z : ◌≡◌ {A = ℕ} 0 1 = cc in omega arith)
 
-    go : (b : Bool) (x : Varint) → cond b Varint.Bad (small x) ≡ Varint.Number v next → v ≤ max_number
+    go : (b : Bool) (x : Option Number) → cond b None (small x) ≡ some_number v next → v ≤ max_number
     go true x f = absurd (let z : ◌≡◌ {A = ℕ} 0 1 = cc in omega arith)
-    go false (Varint.Number w n) f = fits w n (leb w max_number) refl f
-    go false Varint.Bad f = absurd (let z : ◌≡◌ {A = ℕ} 0 1 = cc in omega arith)
+    go false (Some r) f = fits r.value r.next (leb r.value max_number) refl f
+    go false None f = absurd (let z : ◌≡◌ {A = ℕ} 0 1 = cc in omega arith)
 
 front_number : (k : ℕ) (s : List ℕ) (at : ℕ) →
     front_at (suc k) s at ≡ on_varint (number_at s at) (λ n next. ahead n (front_at k s next))
@@ -59,16 +65,16 @@ front_number k s at = go (padded_at s at) (varint_at s at)
     more n next = ahead n (front_at k s next)
 
     one : (b : Bool) (v next : ℕ) →
-        cond b (more v next) Front.broken ≡ on_varint (cond b (Varint.Number v next) Varint.Bad) more
+        cond b (more v next) Front.broken ≡ on_varint (cond b (some_number v next) None) more
     one true v next = refl
     one false v next = refl
 
-    go : (b : Bool) (x : Varint) →
+    go : (b : Bool) (x : Option Number) →
         cond b Front.broken (on_varint x (λ n next. cond (leb n max_number) (more n next) Front.broken))
-        ≡ on_varint (cond b Varint.Bad (small x)) more
+        ≡ on_varint (cond b None (small x)) more
     go true x = refl
-    go false (Varint.Number v next) = one (leb v max_number) v next
-    go false Varint.Bad = refl
+    go false (Some r) = one (leb r.value max_number) r.value r.next
+    go false None = refl
 
 -- ---- several
 
@@ -92,20 +98,20 @@ all_then [] n f = refl
 all_then (m ∷ ns) n f = ap (ahead m) (all_then ns n f)
 
 -- the loop: what was read, and what is left to read, is the whole
-pub record Fetching (k : ℕ) (s : List ℕ) (at : ℕ) (ns : List ℕ) (p i : ℕ) : Type 0 where
+pub record Fetching (k : ℕ) (s : List ℕ) (at n : ℕ) (ns : List ℕ) (p i : ℕ) : Type 0 where
   pub within : i ≤ k
-  pub room : k ≤ most
-  pub long : length ns ≡ most
+  pub room : k ≤ n
+  pub long : length ns ≡ n
   pub whole : ahead_all (take i ns) (front_at (k - i) s p) ≡ front_at k s at
 
-pub fetching_starts : (k : ℕ) (s : List ℕ) (at : ℕ) (ns : List ℕ) → k ≤ most → length ns ≡ most →
-    Fetching k s at ns at 0
+pub fetching_starts : (k : ℕ) (s : List ℕ) (at : ℕ) (ns : List ℕ) → k ≤ length ns →
+    Fetching k s at (length ns) ns at 0
 unfolding ahead_all
-fetching_starts k s at ns h l =
+fetching_starts k s at ns h =
     let e : k - 0 ≡ k = omega arith in
-    record { within = omega arith; room = h; long = l; whole = ap (λ (n : ℕ). front_at n s at) e }
+    record { within = omega arith; room = h; long = refl; whole = ap (λ (n : ℕ). front_at n s at) e }
 
-module _ {k : ℕ} {s : List ℕ} {at : ℕ} {ns : List ℕ} {p i : ℕ} (r : Fetching k s at ns p i) where
+module _ {k : ℕ} {s : List ℕ} {at n : ℕ} {ns : List ℕ} {p i : ℕ} (r : Fetching k s at n ns p i) where
   module _ (h : i < k) where
     next-front : front_at (k - i) s p
         ≡ on_varint (number_at s p) (λ n next. ahead n (front_at (k - (i + 1)) s next))
@@ -113,15 +119,15 @@ module _ {k : ℕ} {s : List ℕ} {at : ℕ} {ns : List ℕ} {p i : ℕ} (r : Fe
         let e : k - i ≡ suc (k - (i + 1)) = omega arith in
         ap (λ (n : ℕ). front_at n s p) e ∙ front_number (k - (i + 1)) s p
 
-    pub fetching_breaks : Varint.Bad ≡ number_at s p → Front.broken ≡ front_at k s at
+    pub fetching_breaks : None ≡ number_at s p → Front.broken ≡ front_at k s at
     fetching_breaks e =
         sym (all_broken (take i ns))
         ∙ ap (ahead_all (take i ns))
         (ap (λ x. on_varint x (λ n next. ahead n (front_at (k - (i + 1)) s next))) e ∙ sym next-front)
         ∙ r.whole
 
-    pub fetching_goes_on : (v next : ℕ) → Varint.Number v next ≡ number_at s p →
-        Fetching k s at (set ns i v) next (i + 1)
+    pub fetching_goes_on : (v next : ℕ) → some_number v next ≡ number_at s p →
+        Fetching k s at n (set ns i v) next (i + 1)
     fetching_goes_on v next e =
         record {
           within = omega arith;
@@ -170,12 +176,12 @@ front_split (suc w) m s at =
     ahead-join v (Front.numbers ns mid) = refl
     ahead-join v Front.broken = refl
 
-    go : (x : Varint) →
+    go : (x : Option Number) →
         ((n : ℕ) → front_at (w + m) s n ≡ join_front (front_at w s n) (λ mid. front_at m s mid)) →
         on_varint x (λ n next. ahead n (front_at (w + m) s next))
         ≡ join_front (on_varint x (λ n next. ahead n (front_at w s next))) (λ mid. front_at m s mid)
-    go (Varint.Number v next) more = ap (ahead v) (more next) ∙ ahead-join v (front_at w s next)
-    go Varint.Bad more = refl
+    go (Some r) more = ap (ahead r.value) (more r.next) ∙ ahead-join r.value (front_at w s r.next)
+    go None more = refl
 
 abbrev pub Long : ℕ → Front → Type 0
 Long k (Front.numbers ns end) = length ns ≡ k
@@ -191,10 +197,10 @@ front_long (suc k) s at =
     longer v (Front.numbers ns end) h = ap suc h
     longer v Front.broken h = tt
 
-    go : (x : Varint) → ((n : ℕ) → Long k (front_at k s n)) →
+    go : (x : Option Number) → ((n : ℕ) → Long k (front_at k s n)) →
         Long (suc k) (on_varint x (λ n next. ahead n (front_at k s next)))
-    go (Varint.Number v next) more = longer v (front_at k s next) (more next)
-    go Varint.Bad more = tt
+    go (Some r) more = longer r.value (front_at k s r.next) (more r.next)
+    go None more = tt
 
 pub all_more : (ns ms : List ℕ) (p : ℕ) → ahead_all ns (Front.numbers ms p) ≡ Front.numbers (ns ++ ms) p
 unfolding ahead_all

@@ -1,9 +1,8 @@
 -- An entry whose slot was not seen is not live yet. Assumes nothing.
-use Rattle.prelude.proofs.Basics.{ℕ, ◌<◌, ◌%◌, arith, Bool, true, false, ◌&&◌, true≢false, ◌≡◌, refl, sym, ap}
+use Rattle.prelude.proofs.Basics.{ℕ, ◌<◌, ◌%◌, arith, Bool, true, false, ◌&&◌, true≢false, ◌≡◌, refl, sym, ap, Option}
 use Rattle.prelude.proofs.Basics.{◌∙◌, mod-lt, List, length, get_or, set, replicate, length-set, get_or-set_same}
 use Rattle.prelude.proofs.Basics.{get_or-set_other, eqb, eqb-true, eqb-false}
 use lib.ListN.{length-replicate}
-use Rattle.session.specs.declared.Place.{Place}
 use Rattle.session.specs.Lists.{how_many, put}
 use Rattle.session.proofs.SumLaws.{one, sum_put_le}
 use Rattle.image.specs.private.Ends.{slots}
@@ -21,7 +20,7 @@ module _ {A : Type 0} (live : A → Bool) (num : A → ℕ) where
       Unseen (replicate slots false) xs
   unseen_starts xs h = record { long = length-replicate slots false; none = λ id _. h id }
 
-  module _ {seen : List Bool} {xs : List A} (u : Unseen seen xs) (y : A) (lives : live y ≡ true) (at : Place) where
+  module _ {seen : List Bool} {xs : List A} (u : Unseen seen xs) (y : A) (lives : live y ≡ true) (at : Option ℕ) where
     abbrev marked : List Bool
     marked = set seen (num y % slots) true
 

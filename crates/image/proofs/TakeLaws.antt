@@ -1,8 +1,8 @@
 -- Entries taken one by one, and what is asked of each. Assumes nothing.
 use Rattle.prelude.proofs.Basics.{ℕ, zero, suc, ◌+◌, ◌-◌, ◌*◌, ◌≤◌, ◌<◌, arith, add-zero, add-one, Bool, true, false}
 use Rattle.prelude.proofs.Basics.{◌&&◌, cond, ◌≡◌, refl, sym, ap, ◌∙◌, List, ◌++◌, length, get_or, take, drop, get_or-take}
-use Rattle.prelude.proofs.Basics.{get_or-drop, take_at, drop_at, leb, ltb, le-leb, leb-true, lt-leb, ltb-true}
-use Rattle.prelude.proofs.Basics.{before_suc, both}
+use Rattle.prelude.proofs.Basics.{get_or-drop, take_at, drop_at, leb, ltb, le-leb, leb-true, lt-leb, ltb-true, not}
+use Rattle.prelude.proofs.Basics.{drop-drop, before_suc, both, Option, Some, None, is_none, is_some}
 use native.Mathlib.Nat.{mul-zero, mul-suc}
 use Rattle.session.specs.Session.{Session}
 use Rattle.session.specs.Tables.{max_stmts, max_cursors}
@@ -12,7 +12,6 @@ use Rattle.image_rules.specs.declared.CursorEntry.{CursorEntry}
 use Rattle.image_rules.specs.Numbers.{Front, front_at}
 use Rattle.image_rules.specs.Image.{stmt_width, cursor_width}
 use Rattle.image_rules.specs.Restore.{Reading, on_front, Table, entries_at, rises, stmt_table, cursor_table}
-use Rattle.image.specs.declared.numbers.End.{End}
 use Rattle.image.specs.private.Ends.{front_to}
 use Rattle.image.proofs.NumberLaws.{ahead_all, all_broken, all_more, join_front, front_split, Long, front_long}
 
@@ -160,12 +159,56 @@ unfolding entries_of
 entries_end t zero next ns end x h = refl
 entries_end t (suc n) next ns end x h = absurd (omega arith)
 
+-- what is left of the numbers of `count` entries behind the first i
+abbrev pub behind : {E : Type 0} → Table E → ℕ → List ℕ → ℕ → List ℕ
+behind t count ns i = drop (t.width * i) (take (t.width * count) ns)
+
+-- the loop over the entries of a table: i of them are taken, and what is left gives the whole
+pub record Taking {E : Type 0} (t : Table E) (count : ℕ) (ns : List ℕ) (end : ℕ) (whole : Reading) (i next : ℕ)
+    (x : Session) : Type 0 where
+  pub rest : entries_of t (count - i) next (behind t count ns i) end x ≡ whole
+
+module _ {E : Type 0} {t : Table E} {count : ℕ} {ns : List ℕ} {end : ℕ} {whole : Reading} where
+  pub taking_starts : {x : Session} → entries_of t count 0 (take (t.width * count) ns) end x ≡ whole →
+      Taking t count ns end whole 0 0 x
+  taking_starts {x} h =
+      let a : count - 0 ≡ count = omega arith in
+      record {
+        rest =
+            ap (λ (n : ℕ). entries_of t n 0 (behind t count ns 0) end x) a
+            ∙ ap (λ (n : ℕ). entries_of t count 0 (drop n (take (t.width * count) ns)) end x) (mul-zero t.width)
+            ∙ h;
+      }
+
+  module _ {i next : ℕ} {x : Session} (l : Taking t count ns end whole i next x) where
+    pub taking_ends : count ≤ i → Reading.read x end ≡ whole
+    taking_ends h = entries_end t (count - i) next (behind t count ns i) end x (omega arith) ∙ l.rest
+
+    module _ (h : i < count) (e : E) (read : e ≡ t.entry (take t.width (behind t count ns i))) where
+      pub taking_refuses : t.takes next e x ≡ false → Reading.broken ≡ whole
+      taking_refuses f =
+          entries_refuse t (count - i) next (behind t count ns i) end x e read (omega arith) f ∙ l.rest
+
+      pub taking_goes_on : t.takes next e x ≡ true → {y : Session} → y ≡ t.taken e x →
+          Taking t count ns end whole (i + 1) (t.place e + 1) y
+      taking_goes_on f {y} put =
+          let a : count - i - 1 ≡ count - (i + 1) = omega arith in
+          let b : t.width * i + t.width ≡ t.width * (i + 1) = omega arith in
+          record {
+            rest =
+                ap (λ (n : ℕ). entries_of t n (t.place e + 1) (behind t count ns (i + 1)) end y) (sym a)
+                ∙ entries_go_on t (count - i) next (behind t count ns i) end x e read (omega arith) f put
+                (drop-drop t.width (t.width * i) (take (t.width * count) ns)
+                ∙ ap (λ (n : ℕ). drop n (take (t.width * count) ns)) b)
+                ∙ l.rest;
+          }
+
 -- ---- what was read
 
-pub front_broken : (r : End) (ns : List ℕ) {f : Front} → r ≡ End.Broken → front_to r ns ≡ f → Front.broken ≡ f
+pub front_broken : (r : Option ℕ) (ns : List ℕ) {f : Front} → r ≡ None → front_to r ns ≡ f → Front.broken ≡ f
 front_broken r ns e f = sym (ap (λ x. front_to x ns) e) ∙ f
 
-pub front_at_lem : (r : End) (ns : List ℕ) {f : Front} {next : ℕ} → r ≡ End.At next → front_to r ns ≡ f →
+pub front_at_lem : (r : Option ℕ) (ns : List ℕ) {f : Front} {next : ℕ} → r ≡ Some next → front_to r ns ≡ f →
     Front.numbers ns next ≡ f
 front_at_lem r ns e f = sym (ap (λ x. front_to x ns) e) ∙ f
 
@@ -233,6 +276,11 @@ and_off b e = sym (ap (λ (c : Bool). c && b) e)
 
 pub and_on : {a b c : Bool} → a ≡ true → c ≡ b → c ≡ (a && b)
 and_on {b = b} e f = f ∙ sym (ap (λ (d : Bool). d && b) e)
+
+-- a search found nothing
+pub not_found : {A : Type 0} (x : Option A) (r : Bool) → is_some x ≡ not r → r ≡ is_none x
+not_found x true e = sym (ap not e)
+not_found x false e = sym (ap not e)
 
 -- ---- the place of an entry that is taken
 

@@ -1,24 +1,22 @@
 -- The parts of an image, read in turn, are the whole. Assumes nothing.
-use Rattle.prelude.proofs.Basics.{ℕ, ◌<◌, ◌≤◌, arith, Bool, true, false, ◌&&◌, ◌||◌, cond, ◌≡◌, refl, sym, ap, ◌∙◌}
-use Rattle.prelude.proofs.Basics.{List, [], ◌∷◌, length, get_or, take, get_or-take, eqb, leb, eq-eqb, ne_eqb, le-leb}
-use Rattle.prelude.proofs.Basics.{lt-leb}
-use Rattle.prelude.proofs.Basics.{eqb-true}
+use Rattle.prelude.proofs.Basics.{ℕ, arith, Bool, true, false, cond, ◌≡◌, refl, sym, ap, ◌∙◌}
+use Rattle.prelude.proofs.Basics.{List, [], ◌∷◌, length, get_or, take, get_or-take, eqb, eq-eqb, ne_eqb}
+use Rattle.prelude.proofs.Basics.{Option, Some, None, is_some, true≢false, false≢true}
+use Rattle.std.specs.Bool.{then_some}
 use Rattle.protocol.specs.Reason as Reason
 use Rattle.session.specs.Session.{Session}
 use Rattle.session.specs.Tables.{fresh, closed_now}
 use Rattle.image_rules.specs.Numbers.{Front, front_at}
-use Rattle.image_rules.specs.Image.{form}
 use Rattle.image_rules.specs.Restore.{Reading, on_front, on_read, entries_at, nth, stmt_table, cursor_table, begun}
 use Rattle.image_rules.specs.Restore.{head_width, head_good, cursors_at, reading_of, restored_by, restore_of}
-use Rattle.image.specs.declared.numbers.End.{End}
-use Rattle.image.specs.private.Ends.{read_to, read_all}
+use Rattle.image.specs.private.Ends.{read_to}
 
 -- ---- the result of a part
 
-pub read_broken : (r : End) (x : Session) {f : Reading} → r ≡ End.Broken → read_to r x ≡ f → Reading.broken ≡ f
+pub read_broken : (r : Option ℕ) (x : Session) {f : Reading} → r ≡ None → read_to r x ≡ f → Reading.broken ≡ f
 read_broken r x e f = sym (ap (λ y. read_to y x) e) ∙ f
 
-pub read_at : (r : End) (x : Session) {f : Reading} {next : ℕ} → r ≡ End.At next → read_to r x ≡ f →
+pub read_at : (r : Option ℕ) (x : Session) {f : Reading} {next : ℕ} → r ≡ Some next → read_to r x ≡ f →
     Reading.read x next ≡ f
 read_at r x e f = sym (ap (λ y. read_to y x) e) ∙ f
 
@@ -44,35 +42,14 @@ module _ (s : List ℕ) (at : ℕ) (x : Session) where
     rest_refused e = ap (λ r. on_read r last) e ∙ rest-is
 
     pub rest_read : (y : Session) (end : ℕ) → Reading.read y end ≡ entries_at cursor_table (get_or ns 0 0) 0 s after x →
-        read_all (eqb end (length s)) y (length s) ≡ cursors_at s at x
-    rest_read y end e = go (eqb end (length s)) refl ∙ ap (λ r. on_read r last) e ∙ rest-is
+        (r : Option ℕ) → r ≡ then_some (eqb end (length s)) end → read_to r y ≡ cursors_at s at x
+    rest_read y end e r g = ap (λ z. read_to z y) g ∙ go (eqb end (length s)) ∙ ap (λ z. on_read z last) e ∙ rest-is
       where
-        go : (b : Bool) → eqb end (length s) ≡ b → read_all b y (length s) ≡ cond b (Reading.read y end) Reading.broken
-        go true f = ap (λ (n : ℕ). Reading.read y n) (sym (eqb-true end (length s) f))
-        go false f = refl
+        go : (b : Bool) → read_to (then_some b end) y ≡ cond b (Reading.read y end) Reading.broken
+        go true = refl
+        go false = refl
 
 -- ---- the head
-
-pub head_form : (a closed stmts : ℕ) → (a ≡ form → ⊥) → false ≡ head_good (a ∷ closed ∷ stmts ∷ [])
-head_form a closed stmts h =
-    sym (ap (λ (b : Bool). b && (leb closed 1 && (eqb closed 0 || eqb stmts 0))) (ne_eqb a form h))
-
-module _ (a closed stmts : ℕ) (e : a ≡ form) where
-  head-by : leb closed 1 && (eqb closed 0 || eqb stmts 0) ≡ head_good (a ∷ closed ∷ stmts ∷ [])
-  head-by = sym (ap (λ (b : Bool). b && (leb closed 1 && (eqb closed 0 || eqb stmts 0))) (eq-eqb a form e))
-
-  pub head_flag : 1 < closed → false ≡ head_good (a ∷ closed ∷ stmts ∷ [])
-  head_flag h = sym (ap (λ (b : Bool). b && (eqb closed 0 || eqb stmts 0)) (lt-leb closed 1 h)) ∙ head-by
-
-  module _ (h : closed ≤ 1) where
-    head-last : eqb closed 0 || eqb stmts 0 ≡ head_good (a ∷ closed ∷ stmts ∷ [])
-    head-last = sym (ap (λ (b : Bool). b && (eqb closed 0 || eqb stmts 0)) (le-leb closed 1 h)) ∙ head-by
-
-    pub head_open : closed ≡ 0 → eqb closed 0 ≡ head_good (a ∷ closed ∷ stmts ∷ [])
-    head_open f = eq-eqb closed 0 f ∙ sym (ap (λ (b : Bool). b || eqb stmts 0) (eq-eqb closed 0 f)) ∙ head-last
-
-    pub head_empty : (closed ≡ 0 → ⊥) → eqb stmts 0 ≡ head_good (a ∷ closed ∷ stmts ∷ [])
-    head_empty f = sym (ap (λ (b : Bool). b || eqb stmts 0) (ne_eqb closed 0 f)) ∙ head-last
 
 pub begun_open : (closed : ℕ) → closed ≡ 0 → fresh ≡ begun closed
 begun_open closed e = sym (ap (λ (b : Bool). cond b fresh (closed_now fresh)) (eq-eqb closed 0 e))
@@ -142,15 +119,13 @@ module _ (s : List ℕ) where
 
 -- ---- the answer
 
-module _ (before x : Session) (s : List ℕ) (b : Bool) (e : read_all b x (length s) ≡ reading_of s) where
-  pub accepted_is : b ≡ true →
+module _ (before x : Session) (s : List ℕ) where
+  pub accepted_is : (r : Option ℕ) → read_to r x ≡ reading_of s → is_some r ≡ true →
       (Reason.accepted ≡ (restore_of before s).reason) × (x ≡ (restore_of before s).session)
-  accepted_is f =
-      let g = sym (ap (λ (b : Bool). read_all b x (length s)) f) ∙ e in
-      (ap (λ r. (restored_by before r).reason) g, ap (λ r. (restored_by before r).session) g)
+  accepted_is (Some end) e f = (ap (λ r. (restored_by before r).reason) e, ap (λ r. (restored_by before r).session) e)
+  accepted_is None e f = absurd (false≢true f)
 
-  pub refused_is : b ≡ false →
+  pub refused_is : (r : Option ℕ) → read_to r x ≡ reading_of s → is_some r ≡ false →
       (Reason.bad_image ≡ (restore_of before s).reason) × (before ≡ (restore_of before s).session)
-  refused_is f =
-      let g = sym (ap (λ (b : Bool). read_all b x (length s)) f) ∙ e in
-      (ap (λ r. (restored_by before r).reason) g, ap (λ r. (restored_by before r).session) g)
+  refused_is (Some end) e f = absurd (true≢false f)
+  refused_is None e f = (ap (λ r. (restored_by before r).reason) e, ap (λ r. (restored_by before r).session) e)

@@ -9,8 +9,7 @@ use Rattle.varint.specs.Shortest.{varint_bytes}
 use Rattle.session.specs.Session.{flag}
 use Rattle.session.specs.Lists.{sum_by, how_many}
 use Rattle.session.specs.Words.{build}
-use Rattle.encode.specs.declared.put.Put.{Put}
-use Rattle.encode.specs.declared.put.Put.TheVariants.{Next, Full}
+use Rattle.std.specs.Prelude.{Option, Some, None}
 use Rattle.encode.specs.Put.{fits_at, put_at}
 use Rattle.encode.specs.Puts.{Puts}
 use Rattle.encode.proofs.PutsLaws.{puts_nothing, puts_then, puts_as}
@@ -118,17 +117,26 @@ module _ {A E : Type 0} (live : A → Bool) (entry : ℕ → A → E) (numbers :
       let upto : i * most ≤ n * most = mul-le-mul_right most (omega (arith, l.inside)) in
       (puts_as all l.put, omega (arith, l.short, ap length all, upto))
 
+  -- past the last place none is left
+  pub all_filled : {most n : ℕ} {b₀ b : List ℕ} {at p i left : ℕ} → Filling live f here most n b₀ at b p i left → n ≤ i →
+      let whole = bytes_of (joined numbers (placed live entry 0 (build f 0 n))) in
+      Puts b₀ at whole p b × (length whole ≤ n * most)
+  unfolding build sum_by
+  all_filled {i = i} l h =
+      let e : l.ahead ≡ 0 = omega (arith, l.inside) in
+      filled l (omega (arith, l.counted, ap (λ (k : ℕ). how_many live (build f i k)) e))
+
 -- ---- handing over
 
 -- the answer by what writing the bytes comes to
-abbrev pub of_put : Put → Written
-of_put (Next n) = answer Reason.accepted n
-of_put Full = answer Reason.no_room 0
+abbrev pub of_put : Option ℕ → Written
+of_put (Some n) = answer Reason.accepted n
+of_put None = answer Reason.no_room 0
 
 pub handed_by_lem : (image buf : List ℕ) → of_put (put_at buf 0 image) ≡ handed image buf
 handed_by_lem image buf = go (fits_at buf 0 image)
   where
-    go : (b : Bool) → of_put (cond b (Next (0 + length image)) Full)
+    go : (b : Bool) → of_put (cond b (Some (0 + length image)) None)
         ≡ cond b (answer Reason.accepted (length image)) (answer Reason.no_room 0)
     go true = ap (answer Reason.accepted) (zero-add (length image))
     go false = refl

@@ -4,11 +4,12 @@
 
 ghost use Rattle.std.specs.Prelude.{◌≡◌};
 ghost use Rattle.session.specs.Words.{session_of};
+ghost use Rattle.protocol.specs.Reason.{outcome_number};
 ghost use Rattle.image_rules.specs.Image.{buffer_with, written_of};
 ghost use Rattle.image_rules.specs.Restore.{restore_of};
 
 use image_rules::Written;
-use protocol::reason;
+use protocol::reason::Reason;
 use session::{Session, WORDS};
 
 mod numbers;
@@ -30,17 +31,16 @@ pub fn write_image(words: &[u32; WORDS], buf: &mut [u8]) -> Written
     write::hand_over(&image[..len], buf)
 }
 
-// The session of an image in the place of this one. Answers 0, or 18 where the image is not acceptable: the session
-// then is as it was.
-pub fn restore(words: &mut [u32; WORDS], image: &[u8]) -> u64
-    ensures answer { result ≡ (restore_of (session_of words.old) image.now).reason }
+// The session of an image in the place of this one. Refused 18 where the image is not acceptable: the session then is
+// as it was.
+pub fn restore(words: &mut [u32; WORDS], image: &[u8]) -> Result<(), Reason>
+    ensures answer { outcome_number result ≡ (restore_of (session_of words.old) image.now).reason }
     ensures session { session_of words.new ≡ (restore_of (session_of words.old) image.now).session }
 {
     let mut restored = Session::fresh();
-    if !read::take_image(&mut restored.words, image) {
-        return reason::BAD_IMAGE;
+    if read::take_image(&mut restored.words, image).is_none() {
+        return Err(Reason::BadImage);
     }
-    let taken = restored.words;
-    *words = taken;
-    reason::ACCEPTED
+    *words = restored.words;
+    Ok(())
 }

@@ -1,10 +1,10 @@
 // Numbers of an image: each below 2^32, in its shortest form.
 ghost use Rattle.std.specs.Prelude.{cond, ◌≡◌, eqb, length, take, ◌<◌, ◌≤◌};
-ghost use Rattle.varint.specs.declared.Varint.{Varint};
+ghost use Rattle.varint.specs.Number.{some_number};
 ghost use Rattle.image_rules.specs.Numbers.{front_at};
-ghost use Rattle.image.specs.private.Ends.{front_to, most, number_at};
+ghost use Rattle.image.specs.private.Ends.{front_to, number_at};
 
-use varint::{Varint, read_short};
+use varint::{Number, read_short};
 
 // The numbers that are read at once: those of all statements, which are more than those of all cursors.
 pub(crate) const MOST: usize = 192;
@@ -38,48 +38,37 @@ const FOUR_MARKS: u64 = THREE_MARKS + FIFTH;
 // So much in the fifth byte is 2^32.
 const FIFTH_LIMIT: u64 = 16;
 
-// The place behind what was read, or an image that is not acceptable.
-#[derive(Clone, Copy)]
-pub(crate) enum End {
-    At(usize),
-    Broken,
-}
-
-// The k numbers from the place `at` on, put into `numbers`.
-pub(crate) fn read_numbers(image: &[u8], at: usize, k: usize, numbers: &mut [u32]) -> End
-    requires numbers_len { length numbers.old ≡ most }
-    requires k_le_most { k ≤ most }
+// The k numbers from the place `at` on, put into `numbers`, and the place behind them. It is None where an image with
+// these bytes is not acceptable.
+pub(crate) fn read_numbers(image: &[u8], at: usize, k: usize, numbers: &mut [u32]) -> Option<usize>
+    requires { k ≤ length numbers.old }
     ensures read { front_to result (take k numbers.new) ≡ front_at k image.now at }
-    ensures long { length numbers.new ≡ most }
+    ensures long { length numbers.new ≡ length numbers.old }
 {
     let mut p = at;
-    let mut i = 0;
-    while i < k {
-        let Varint::Number { value, next } = read_number(image, p) else {
-            return End::Broken;
-        };
-        numbers[i] = value as u32;
-        p = next;
-        i += 1;
+    for i in 0..k {
+        let number = read_number(image, p)?;
+        numbers[i] = number.value as u32;
+        p = number.next;
     }
-    End::At(p)
+    Some(p)
 }
 
 // A number below 2^32 in its shortest form. Where as many bytes are there as it has at most, the end is asked for once.
 // The bytes are added up with their marks, which go off at the end.
-fn read_number(image: &[u8], at: usize) -> Varint
+fn read_number(image: &[u8], at: usize) -> Option<Number>
     ensures { result ≡ number_at image.now at }
 {
     let n = image.len();
     if n <= at {
-        return Varint::Bad;
+        return None;
     }
     let a = octet(image[at]);
     if a < MORE {
-        return Varint::Number {
+        return Some(Number {
             value: a,
             next: at + 1,
-        };
+        });
     }
     if n - at < LONGEST {
         return read_plain(&image[..n], at);
@@ -101,42 +90,40 @@ fn read_number(image: &[u8], at: usize) -> Varint
     }
     let e = octet(image[at + 4]);
     if FIFTH_LIMIT <= e {
-        return Varint::Bad;
+        return None;
     }
     number_of(e, four + e * FIFTH - FOUR_MARKS, at + 5)
 }
 
-// A byte as a number, with its range.
+// A byte as a number, with its range, which u64::from does not tell.
 fn octet(b: u8) -> u64
     ensures answer { result ≡ b }
     ensures small { result < 256 }
 {
-    b as u64
+    u64::from(b)
 }
 
 // The number of several bytes. A last one of 0 is padding.
-fn number_of(last: u64, value: u64, next: usize) -> Varint
-    ensures { result ≡ cond (eqb last 0) Varint.Bad (Varint.Number value next) }
+fn number_of(last: u64, value: u64, next: usize) -> Option<Number>
+    ensures { result ≡ cond (eqb last 0) None (some_number value next) }
 {
     if last == 0 {
-        return Varint::Bad;
+        return None;
     }
-    Varint::Number { value, next }
+    Some(Number { value, next })
 }
 
 // The same at the end of an image, where fewer bytes are left.
-fn read_plain(image: &[u8], at: usize) -> Varint
+fn read_plain(image: &[u8], at: usize) -> Option<Number>
     ensures { result ≡ number_at image.now at }
 {
     let mut padded = false;
-    let Varint::Number { value, next } = read_short(image, at, &mut padded) else {
-        return Varint::Bad;
-    };
+    let number = read_short(image, at, &mut padded)?;
     if padded {
-        return Varint::Bad;
+        return None;
     }
-    if MAX_NUMBER < value {
-        return Varint::Bad;
+    if MAX_NUMBER < number.value {
+        return None;
     }
-    Varint::Number { value, next }
+    Some(number)
 }

@@ -24,7 +24,7 @@ pub(crate) fn put_number(buf: &mut [u8], at: usize, v: u32) -> usize
     ensures { Puts buf.old at (varint_bytes v) result buf.new }
 {
     if !has_longest(buf.len(), at) {
-        return put_varint(buf, at, v as u64);
+        return put_varint(buf, at, u64::from(v));
     }
     if v < GROUP {
         buf[at] = v as u8;

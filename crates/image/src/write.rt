@@ -1,6 +1,6 @@
 // Writing the image of a session: into a buffer that any fits, and from there into the one that is lent.
 ghost use Rattle.std.specs.Prelude.{◌≡◌, cond, ◌*◌, ◌<◌, ◌≤◌, length};
-ghost use Rattle.session.specs.Session.{flag, is_closed};
+ghost use Rattle.session.specs.Session.{is_closed};
 ghost use Rattle.session.specs.Tables.{cursor_count, max_cursors, max_stmts, stmt_count};
 ghost use Rattle.session.specs.Words.{session_of};
 ghost use Rattle.encode.specs.Put.{written};
@@ -12,10 +12,10 @@ ghost use Rattle.image.specs.private.Handed.{handed};
 
 use crate::put::put_number;
 use encode::number::put_varint;
-use encode::put::{Put, write_bytes};
+use encode::put::write_bytes;
 use image_rules::Written;
 use protocol::reason;
-use session::{Cursor, Place, Stmt, WORDS, count, words};
+use session::{Cursor, MAX_CURSORS, MAX_STMTS, Stmt, WORDS, count, words};
 
 const FORM: u64 = 1;
 
@@ -37,30 +37,25 @@ pub(crate) fn put_image(buf: &mut [u8], words: &[u32; WORDS]) -> usize
 fn closed(words: &[u32; WORDS]) -> u64
     ensures { result ≡ cond (is_closed (session_of words.now)) 1 0 }
 {
-    if words::is_closed(words) { 1 } else { 0 }
+    u64::from(words::is_closed(words))
 }
 
-// 1 for a live entry.
-fn one(live: u32) -> u64
-    ensures { result ≡ cond (flag live) 1 0 }
-{
-    if live != 0 { 1 } else { 0 }
-}
-
-// The n live statements, in place order: the places behind the last one are not looked at.
+// The n live statements, in place order: the places behind the last one are not looked at. One loop for both tables
+// would be handed how an entry is read, put and told live: more than the loop.
 fn put_stmts(buf: &mut [u8], at: usize, words: &[u32; WORDS], n: u64) -> usize
     requires { n ≡ stmt_count (session_of words.now) }
     ensures put { Puts buf.old at (stmt_bytes (session_of words.now)) result buf.new }
     ensures short { length (stmt_bytes (session_of words.now)) ≤ max_stmts * most_stmt }
 {
     let mut p = at;
-    let mut i = 0;
     let mut left = n;
-    while 0 < left {
-        let t = words::stmt_at(words, Place::At(i));
+    for i in 0..MAX_STMTS {
+        if left == 0 {
+            return p;
+        }
+        let t = words::stmt_at(words, Some(i));
         p = put_stmt(buf, p, i, t);
-        left -= one(t.live);
-        i += 1;
+        left -= u64::from(t.live != 0);
     }
     p
 }
@@ -86,13 +81,14 @@ fn put_cursors(buf: &mut [u8], at: usize, words: &[u32; WORDS], n: u64) -> usize
     ensures short { length (cursor_bytes (session_of words.now)) ≤ max_cursors * most_cursor }
 {
     let mut p = at;
-    let mut i = 0;
     let mut left = n;
-    while 0 < left {
-        let c = words::cursor_at(words, Place::At(i));
+    for i in 0..MAX_CURSORS {
+        if left == 0 {
+            return p;
+        }
+        let c = words::cursor_at(words, Some(i));
         p = put_cursor(buf, p, i, c);
-        left -= one(c.live);
-        i += 1;
+        left -= u64::from(c.live != 0);
     }
     p
 }
@@ -119,11 +115,11 @@ pub(crate) fn hand_over(image: &[u8], buf: &mut [u8]) -> Written
     ensures buffer { buf.new ≡ written buf.old 0 image.now }
 {
     match write_bytes(buf, 0, image) {
-        Put::Next(n) => Written {
+        Some(n) => Written {
             reason: reason::ACCEPTED,
             len: n,
         },
-        Put::Full => Written {
+        None => Written {
             reason: reason::NO_ROOM,
             len: 0,
         },

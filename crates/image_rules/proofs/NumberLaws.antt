@@ -2,7 +2,7 @@
 use Rattle.prelude.proofs.Basics.{ℕ, zero, suc, ◌+◌, ◌-◌, ◌^◌, ◌≤◌, ◌<◌, arith, add-zero, Bool, false}
 use Rattle.prelude.proofs.Basics.{cond, ◌≡◌, refl, sym, ap, subst, ◌∙◌, List, [], ◌∷◌, ◌++◌, append_assoc, length, drop}
 use Rattle.prelude.proofs.Basics.{drop-drop, drop_at, length-append, take-append-drop, leb, le-leb, leb-true, both}
-use Rattle.varint.specs.declared.Varint.{Varint}
+use Rattle.varint.specs.declared.Number.{Number}
 use Rattle.varint.specs.Varint.{varint_at}
 use Rattle.varint.specs.Shortest.{varint_bytes}
 use Rattle.varint.specs.Padded.{padded_at}
@@ -13,6 +13,8 @@ use Rattle.varint.proofs.FlagLaws.{plain_there, only_written}
 use Rattle.session.specs.Lists.{All}
 use Rattle.session.specs.Sound.{max_number}
 use Rattle.image_rules.specs.Numbers.{bytes_of, Front, ahead, on_varint, front_at}
+use Rattle.std.specs.Prelude.{Option, Some, None}
+use Rattle.varint.specs.Number.{some_number}
 
 -- a number that an image can hold
 abbrev pub Fits : ℕ → Type 0
@@ -67,7 +69,7 @@ pub record Fronts (k : ℕ) (s : List ℕ) (at : ℕ) (ns : List ℕ) (next : �
   pub within : next ≤ length s
 
 -- the bytes that were read are the number's, and the rest stands behind them
-one_front : (s : List ℕ) (at v next : ℕ) → varint_at s at ≡ Varint.Number v next → padded_at s at ≡ false →
+one_front : (s : List ℕ) (at v next : ℕ) → varint_at s at ≡ some_number v next → padded_at s at ≡ false →
     (drop at s ≡ varint_bytes v ++ drop next s) × (next ≤ length s)
 one_front s at v next e f = (
   sym (take-append-drop (next - at) (drop at s))
@@ -108,12 +110,12 @@ front_tells zero s at h = record { count = refl; bytes = refl; fit = tt; within 
 front_tells (suc k) s at h =
     both (Tells (suc k) s at) (padded_at s at) _ _ (λ _. tt) (λ f. go f (varint_at s at) refl (front_tells k s))
   where
-    go : padded_at s at ≡ false → (x : Varint) → varint_at s at ≡ x →
+    go : padded_at s at ≡ false → (x : Option Number) → varint_at s at ≡ x →
         ((n : ℕ) → n ≤ length s → Tells k s n (front_at k s n)) →
         Tells (suc k) s at (on_varint x (λ n next. cond (leb n max_number) (ahead n (front_at k s next)) Front.broken))
-    go f (Varint.Number v next) e more =
-        let o = one_front s at v next e f in
-        both (Tells (suc k) s at) (leb v max_number) (ahead v (front_at k s next)) Front.broken
-        (λ l. ahead_tells k s at v next (leb-true v max_number l) o.0 (front_at k s next) (more next o.1))
+    go f (Some r) e more =
+        let o = one_front s at r.value r.next e f in
+        both (Tells (suc k) s at) (leb r.value max_number) (ahead r.value (front_at k s r.next)) Front.broken
+        (λ l. ahead_tells k s at r.value r.next (leb-true r.value max_number l) o.0 (front_at k s r.next) (more r.next o.1))
         (λ _. tt)
-    go f Varint.Bad e more = tt
+    go f None e more = tt

@@ -1,11 +1,11 @@
 -- A session that takes an entry of an image stays sound and lists it behind the others. Assumes nothing.
-use Rattle.prelude.proofs.Basics.{ℕ, zero, suc, ◌+◌, ◌≤◌, ◌<◌, arith, zero-add, Bool, true, false, not, ◌&&◌}
+use Rattle.prelude.proofs.Basics.{is_none, is_some}
+use Rattle.prelude.proofs.Basics.{ℕ, zero, suc, ◌+◌, ◌≤◌, ◌<◌, arith, zero-add, Bool, true, false, ◌&&◌}
 use Rattle.prelude.proofs.Basics.{true≢false, false≢true, ◌≡◌, refl, sym, ap, ◌∙◌, List, [], ◌∷◌, ◌++◌}
-use Rattle.prelude.proofs.Basics.{append-nil, append_assoc, map, length, get_or, set, length-set}
+use Rattle.prelude.proofs.Basics.{append-nil, append_assoc, map, length, get_or, set, length-set, Option, Some, None}
 use Rattle.prelude.proofs.Basics.{get_or-set_other, eqb, leb, ltb, eq-eqb, eqb-true, leb-true, ltb-true, le-leb, lt-ltb}
 use Rattle.session.specs.declared.Stmt.{Stmt}
 use Rattle.session.specs.declared.Cursor.{Cursor}
-use Rattle.session.specs.declared.Place.{Place}
 use Rattle.session.specs.Session.{Session, is_closed}
 use Rattle.session.specs.Lists.{All, first, sum_by, how_many}
 use Rattle.session.specs.Entry.{no_stmt, no_cursor, new_stmt, new_cursor, is_live_stmt, is_live_cursor, is_stmt, is_cursor}
@@ -18,7 +18,7 @@ use Rattle.image_rules.specs.declared.StmtEntry.{StmtEntry}
 use Rattle.image_rules.specs.declared.CursorEntry.{CursorEntry}
 use Rattle.image_rules.specs.Listing.{stmt_entry, cursor_entry, stmts_of, cursors_of}
 use Rattle.image_rules.specs.Acceptable.{Rising, stmts_with, cursors_with, cursors_on}
-use Rattle.image_rules.specs.Restore.{none, stmt_table, cursor_table}
+use Rattle.image_rules.specs.Restore.{stmt_table, cursor_table}
 use Rattle.image_rules.specs.Image.{stmt_numbers, cursor_numbers}
 use Rattle.image_rules.proofs.NumberLaws.{Fits}
 use Rattle.image_rules.proofs.PlacedLaws.{placed_last}
@@ -60,29 +60,29 @@ none_live live d e (x ∷ xs) h (suc i) = none_live live d e xs (omega arith) i
 -- ---- what a lookup found, by what is counted
 
 module _ {A : Type 0} (p : A → Bool) (xs : List A) where
-  none-zero : none (first p xs 0) ≡ true → how_many p xs ≡ 0
+  none-zero : is_none (first p xs 0) ≡ true → how_many p xs ≡ 0
   none-zero e = go (first p xs 0) refl e
     where
-      go : (x : Place) → first p xs 0 ≡ x → none x ≡ true → how_many p xs ≡ 0
-      go (Place.At i) f g = absurd (false≢true g)
-      go Place.Nothing f g = none_from p xs 0 f
+      go : (x : Option ℕ) → first p xs 0 ≡ x → is_none x ≡ true → how_many p xs ≡ 0
+      go (Some i) f g = absurd (false≢true g)
+      go None f g = none_from p xs 0 f
 
-  pub zero_none : how_many p xs ≡ 0 → none (first p xs 0) ≡ true
-  zero_none e = ap none (none_back p xs 0 e)
+  pub zero_none : how_many p xs ≡ 0 → is_none (first p xs 0) ≡ true
+  zero_none e = ap is_none (none_back p xs 0 e)
 
-  some-found : 1 ≤ how_many p xs → not (none (first p xs 0)) ≡ true
+  some-found : 1 ≤ how_many p xs → is_some (first p xs 0) ≡ true
   some-found h = go (first p xs 0) refl
     where
-      go : (x : Place) → first p xs 0 ≡ x → not (none x) ≡ true
-      go (Place.At i) f = refl
-      go Place.Nothing f = absurd (omega (arith, none_from p xs 0 f))
+      go : (x : Option ℕ) → first p xs 0 ≡ x → is_some x ≡ true
+      go (Some i) f = refl
+      go None f = absurd (omega (arith, none_from p xs 0 f))
 
-  found_some : (d : A) → not (none (first p xs 0)) ≡ true → 1 ≤ how_many p xs
+  found_some : (d : A) → is_some (first p xs 0) ≡ true → 1 ≤ how_many p xs
   found_some d e = go (first p xs 0) refl e
     where
-      go : (x : Place) → first p xs 0 ≡ x → not (none x) ≡ true → 1 ≤ how_many p xs
-      go (Place.At i) f g = counted p d xs i (found p d xs i f)
-      go Place.Nothing f g = absurd (false≢true g)
+      go : (x : Option ℕ) → first p xs 0 ≡ x → is_some x ≡ true → 1 ≤ how_many p xs
+      go (Some i) f g = counted p d xs i (found p d xs i f)
+      go None f g = absurd (false≢true g)
 
 pub and_both : {a b : Bool} → a ≡ true → b ≡ true → a && b ≡ true
 and_both {a} {b} e f = ap (λ (c : Bool). c && b) e ∙ f

@@ -1,9 +1,9 @@
 -- Reading an image back (I5): its entries are taken into a session that has none, one after the other, each where the
 -- rules allow it. Where one does not, or anything stands behind the last, the image is refused. This is shaped for the
 -- code; what it means is said in ImageRules.
-use Rattle.std.specs.Prelude.{ℕ, zero, suc, Bool, true, false, ◌&&◌, ◌||◌, not, cond, List, length, get_or, eqb, leb, ltb}
+use Rattle.std.specs.Prelude.{Some, is_none, is_some}
+use Rattle.std.specs.Prelude.{ℕ, zero, suc, Bool, ◌&&◌, ◌||◌, cond, List, length, get_or, eqb, leb, ltb}
 use Rattle.protocol.specs.Reason as Reason
-use Rattle.session.specs.declared.Place.{Place}
 use Rattle.session.specs.Session.{Session}
 use Rattle.session.specs.Entry.{new_stmt, new_cursor}
 use Rattle.session.specs.Tables.{max_stmts, max_cursors, fresh, closed_now, stmt_at, cursor_at, cursor_on, stored_stmt}
@@ -47,11 +47,6 @@ entries_at t (suc count) next s at x =
     let rest = entries_at t count (suc (t.place e)) s after (t.taken e x) in
     cond (t.takes next e x) rest Reading.broken)
 
--- no entry was found
-abbrev pub none : Place → Bool
-none (Place.At i) = false
-none Place.Nothing = true
-
 -- the numbers of an entry or of the head, by their order
 abbrev pub nth : List ℕ → ℕ → ℕ
 nth ns k = get_or ns k 0
@@ -82,8 +77,8 @@ stmt_table =
       entry = stmt_of;
       place = λ e. e.place;
       takes = λ next e x.
-          rises max_stmts next e.place && (leb e.placeholders max_placeholders && none (stmt_at x e.id));
-      taken = λ e x. stored_stmt x (Place.At e.place) (new_stmt e.id e.placeholders);
+          rises max_stmts next e.place && (leb e.placeholders max_placeholders && is_none (stmt_at x e.id));
+      taken = λ e x. stored_stmt x (Some e.place) (new_stmt e.id e.placeholders);
     }
 
 abbrev pub cursor_table : Table CursorEntry
@@ -93,9 +88,9 @@ cursor_table =
       entry = cursor_of;
       place = λ e. e.place;
       takes = λ next e x.
-          rises max_cursors next e.place && (leb e.sent e.rows && (not (none (stmt_at x e.stmt))
-          && (none (cursor_at x e.id) && none (cursor_on x e.stmt))));
-      taken = λ e x. stored_cursor x (Place.At e.place) (new_cursor e.id e.stmt e.rows e.sent);
+          rises max_cursors next e.place && (leb e.sent e.rows && (is_some (stmt_at x e.stmt)
+          && (is_none (cursor_at x e.id) && is_none (cursor_on x e.stmt))));
+      taken = λ e x. stored_cursor x (Some e.place) (new_cursor e.id e.stmt e.rows e.sent);
     }
 
 -- ---- the whole

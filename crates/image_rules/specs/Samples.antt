@@ -1,10 +1,9 @@
 -- Images that are shown by proof (V19, V20): of sessions without entries, of one in mid-load, of one with the largest
 -- numbers; and bytes that break one rule each.
-use Rattle.std.specs.Prelude.{ℕ, ◌≡◌, List, [], ◌∷◌}
+use Rattle.std.specs.Prelude.{ℕ, ◌≡◌, List, [], ◌∷◌, Some}
 use Rattle.protocol.specs.Reason as Reason
 use Rattle.session.specs.Session.{Session}
 use Rattle.session.specs.Lists.{All}
-use Rattle.session.specs.declared.Place.{Place}
 use Rattle.session.specs.Entry.{new_stmt}
 use Rattle.session.specs.Sound.{max_number, max_placeholders}
 use Rattle.session.specs.Tables.{fresh, closed_now, prepared, opened, stored_stmt}
@@ -29,7 +28,7 @@ loading_image = 1 ∷ 0 ∷ 1 ∷ 0 ∷ 0xAC ∷ 2 ∷ 2 ∷ 1 ∷ 0 ∷ 7 ∷ 0
 
 -- the last place, the largest id, the most placeholders; all places before it are free
 abbrev pub greatest : Session
-greatest = stored_stmt fresh (Place.At 63) (new_stmt max_number max_placeholders)
+greatest = stored_stmt fresh (Some 63) (new_stmt max_number max_placeholders)
 
 abbrev pub samples : List Sample
 samples =

@@ -1,6 +1,6 @@
 -- Facts on scalars that a host gives: each is told as it was given.
-use Rattle.prelude.proofs.Basics.{ℕ, ◌^◌, ◌≤◌, ◌<◌, Bool, true, false, not, cond, ◌≡◌, refl, sym, ap, subst, eqb, ltb}
-use Rattle.prelude.proofs.Basics.{eqb-true, le-ltb, lt-ltb, ltb-true, ne_eqb}
+use Rattle.prelude.proofs.Basics.{ℕ, ◌^◌, Bool, true, false, not, cond, ◌≡◌, refl, sym, ap, subst, eqb, ltb}
+use Rattle.prelude.proofs.Basics.{eqb-true, ltb-true}
 use lib.Ieee.{binary32, binary64}
 use mir.Syntax.{w64}
 use mir.ValLaws.{of_z-to_z}
@@ -10,31 +10,6 @@ use Rattle.karramotx.specs.Given.{float_of_bits, of_kind}
 use Rattle.karramotx.specs.Value.{numbered, refused_by, value_of}
 use Rattle.karramotx.specs.ValueRules.{given, GivenIsTold}
 use Rattle.karramotx.proofs.ValueLaws.{kept}
-
-pub of_kind_lem : (k kind value n : ℕ) → kind ≡ k → of_kind k value n ≡ of_kind kind value n
-of_kind_lem k kind value n e = ap (λ x. of_kind x value n) (sym e)
-
-pub of_no_kind : (k value n : ℕ) → (k ≡ 1 → ⊥) → (k ≡ 2 → ⊥) → (k ≡ 3 → ⊥) → (k ≡ 4 → ⊥) → (k ≡ 5 → ⊥) → (k ≡ 6 → ⊥) →
-    (k ≡ 7 → ⊥) → (k ≡ 8 → ⊥) → Va.Refused 6 ≡ of_kind k value n
-unfolding of_kind
-of_no_kind t value n a b c d e f g h =
-    simp (
-      ne_eqb t 1 a,
-      ne_eqb t 2 b,
-      ne_eqb t 3 c,
-      ne_eqb t 4 d,
-      ne_eqb t 5 e,
-      ne_eqb t 6 f,
-      ne_eqb t 7 g,
-      ne_eqb t 8
-          h,
-    )
-
-pub float_none : (bits : ℕ) → 2 ^ 32 ≤ bits → Va.Refused 6 ≡ float_of_bits bits
-float_none bits h = simp (le-ltb bits (2 ^ 32) h)
-
-pub float_bits : (bits : ℕ) → bits < 2 ^ 32 → float_of bits ≡ float_of_bits bits
-float_bits bits h = simp (lt-ltb bits (2 ^ 32) h)
 
 -- by the kind: in a case it is a numeral, so that what depends on it computes
 either : (P : ℕ → Type 0) (kind k : ℕ) → P k → (eqb kind k ≡ false → P kind) → P kind

@@ -16,8 +16,8 @@ use Rattle.layout.specs.declared.part.Part.{Part}
 use Rattle.layout.specs.Merged.{parts_in, merged}
 use Rattle.layout.specs.Part.{embedded, count_of, value_of as field_value, start_of, len_of, low32}
 use Rattle.args.specs.Value.{bad, present, bytes_of, bytes_in, of_type, scalar_of, of_any_type, any_of, scalar_parts}
-use Rattle.args.specs.Arguments.{arg_place, of_place, next_argument, and_more, arguments_from, arguments_at, handed_out}
-use Rattle.args.specs.declared.arguments.ArgPlace.{ArgPlace}
+use Rattle.args.specs.Arguments.{Sought, arg_place, of_place, next_argument, and_more, arguments_from, arguments_at, handed_out}
+use Rattle.std.specs.Prelude.{Option, Some, None, Ok, Err}
 use Rattle.args.specs.declared.arguments.NextArgument.{NextArgument}
 use Rattle.message.specs.Request.{args_of}
 use Rattle.message.specs.Frame.{argument_in as argument_from, argument_of, frame_of}
@@ -121,16 +121,16 @@ bytes_number octets x =
     (Va.String (start_of x 1) (len_of x 1)) (λ _. tt) (λ _. tt))
     (λ _. tt)
 
-abbrev NextExact : NextArgument → Type 0
-NextExact (NextArgument.Found a next) = Exact a
-NextExact NextArgument.End = Unit {0}
+abbrev NextExact : Option NextArgument → Type 0
+NextExact (Some found) = Exact found.value
+NextExact None = Unit {0}
 
 more_number : (more : ℕ → List Argument) → ((next i : ℕ) → Exact (get_or (more next) i (Va.Refused 9))) →
-    (n : NextArgument) → NextExact n →
+    (n : Option NextArgument) → NextExact n →
     (i : ℕ) → Exact (get_or (and_more more n) i (Va.Refused 9))
-more_number more rest (NextArgument.Found a next) h zero = h
-more_number more rest (NextArgument.Found a next) h (suc i) = rest next i
-more_number more rest NextArgument.End h i = tt
+more_number more rest (Some found) h zero = h
+more_number more rest (Some found) h (suc i) = rest found.next i
+more_number more rest None h i = tt
 
 module _ (s : List ℕ) where
   type-number : (ps : List Part) (x : Slots) (t : ℕ) → Small x → Exact (of_type s ps x t)
@@ -178,10 +178,10 @@ module _ (s : List ℕ) where
   unfolding any_of
   any-number ps x = both Exact x.good _ bad (λ _. any-type-number ps x (low32 (field_value x 1))) (λ _. tt)
 
-  place-number : (p : ArgPlace) → NextExact (of_place s p)
-  place-number (ArgPlace.At start len next) = any-number (scalar_parts s start len) (embedded (rows_of any) s start len)
-  place-number ArgPlace.End = tt
-  place-number ArgPlace.Bad = tt
+  place-number : (x : Sought) → NextExact (of_place s x)
+  place-number (Ok (Some p)) = any-number (scalar_parts s p.start p.len) (embedded (rows_of any) s p.start p.len)
+  place-number (Ok None) = tt
+  place-number (Err reason) = tt
 
   next-number : (at : ℕ) → NextExact (next_argument s at)
   unfolding next_argument
@@ -211,9 +211,9 @@ argument_number s index (Good used q) =
 pub told_by_index : ToldByIndex
 told_by_index frame index = told (argument_of frame index) (argument_number frame index (frame_of frame))
 
-told_next : (n : NextArgument) → NextExact n → ToldNext n
-told_next (NextArgument.Found a next) h = told a h
-told_next NextArgument.End h = (refl, refl)
+told_next : (n : Option NextArgument) → NextExact n → ToldNext n
+told_next (Some found) h = told found.value h
+told_next None h = (refl, refl)
 
 pub told_in_pass : ToldInPass
 told_in_pass s at = told_next (next_argument s at) (next-number s at)
@@ -240,10 +240,10 @@ value_by_index frame index =
     value_back (argument_of frame index) (argument_number frame index (frame_of frame))
     ∙ as_handed_out frame index (frame_of frame)
 
-value_next : (n : NextArgument) → NextExact n → ValueNext n
+value_next : (n : Option NextArgument) → NextExact n → ValueNext n
 unfolding told_argument
-value_next (NextArgument.Found a next) h = (value_back a h, refl)
-value_next NextArgument.End h = tt
+value_next (Some found) h = (value_back found.value h, refl)
+value_next None h = tt
 
 pub value_in_pass : ValueInPass
 value_in_pass s at = value_next (next_argument s at) (next-number s at)

@@ -1,11 +1,10 @@
 -- The number of a sint field has 64 bits, since only a varint is kept for it. Assumes nothing.
 use Rattle.prelude.proofs.Basics.{ℕ, zero, suc, ◌^◌, ◌<◌, arith, mod-lt, Bool, true, false, cond, ◌≡◌, refl, sym}
 use Rattle.prelude.proofs.Basics.{ap, subst, List, [], ◌∷◌, length, get_or, set, take, eqb, leb, ltb, eqb-true, both}
-use Rattle.varint.specs.declared.Varint.{Varint}
+use Rattle.varint.specs.declared.Number.{Number}
 use Rattle.varint.specs.Varint.{groups, low64}
 use Rattle.wire.specs.declared.tag.Tag.{Tag}
 use Rattle.wire.specs.declared.value.Value.{Value}
-use Rattle.wire.specs.declared.group.Skip.{Skip}
 use Rattle.wire.specs.declared.field.Field.{Field}
 use Rattle.wire.specs.Tag.{tag_at}
 use Rattle.wire.specs.Group.{group_end}
@@ -20,41 +19,42 @@ use Rattle.layout.specs.declared.fields.Use.{Use}
 use Rattle.layout.specs.declared.part.Part.{Part}
 use Rattle.layout.specs.Part.{value_of}
 use Rattle.layout.specs.Merged.{end_of, part_onto, parts_onto, merged}
+use Rattle.std.specs.Prelude.{Option, Some, None}
 
 -- ---- a field whose wire type is 0
 
-abbrev SmallValue : Value → Type 0
-SmallValue (Value.Good v start len next) = v < 2 ^ 64
-SmallValue Value.Bad = Unit {0}
+abbrev SmallValue : Option Value → Type 0
+SmallValue (Some r) = r.number < 2 ^ 64
+SmallValue None = Unit {0}
 
-abbrev SmallField : Field → Type 0
-SmallField (Field.Good number wire v start len next) = wire ≡ 0 → v < 2 ^ 64
-SmallField Field.Bad = Unit {0}
+abbrev SmallField : Option Field → Type 0
+SmallField (Some r) = r.wire ≡ 0 → r.value < 2 ^ 64
+SmallField None = Unit {0}
 
-varint_small : (at : ℕ) (x : Varint) → SmallValue (of_varint at (low64 x))
-varint_small at (Varint.Number v next) = mod-lt v (omega arith)
-varint_small at Varint.Bad = tt
+varint_small : (at : ℕ) (x : Option Number) → SmallValue (of_varint at (low64 x))
+varint_small at (Some r) = mod-lt r.value (omega arith)
+varint_small at None = tt
 
 module _ (s : List ℕ) where
   value-small : (wire at : ℕ) → wire ≡ 0 → SmallValue (value_at s wire at)
   value-small wire at e =
       subst (λ (w : ℕ). SmallValue (value_at s w at)) (sym e) (varint_small at (groups 10 s at))
 
-  of-value : (number wire : ℕ) (x : Value) → (wire ≡ 0 → SmallValue x) → SmallField (of_value number wire x)
-  of-value number wire (Value.Good v start len next) h = h
-  of-value number wire Value.Bad h = tt
+  of-value : (number wire : ℕ) (x : Option Value) → (wire ≡ 0 → SmallValue x) → SmallField (of_value number wire x)
+  of-value number wire (Some r) h = h
+  of-value number wire None h = tt
 
-  of-group : (number at : ℕ) (x : Skip) → SmallField (of_group number at x)
-  of-group number at (Skip.At next) = λ e. absurd (omega arith)
-  of-group number at Skip.Bad = tt
+  of-group : (number at : ℕ) (x : Option ℕ) → SmallField (of_group number at x)
+  of-group number at (Some next) = λ e. absurd (omega arith)
+  of-group number at None = tt
 
-  of_tag_lem : (x : Tag) → SmallField (of_tag s x)
-  of_tag_lem (Tag.Field number wire at) =
-      both SmallField (eqb wire 3) (of_group number at (group_end max_depth s at number))
-      (of_value number wire (value_at s wire at))
-      (λ _. of-group number at (group_end max_depth s at number))
-      (λ _. of-value number wire (value_at s wire at) (value-small wire at))
-  of_tag_lem Tag.Bad = tt
+  of_tag_lem : (x : Option Tag) → SmallField (of_tag s x)
+  of_tag_lem (Some r) =
+      both SmallField (eqb r.wire 3) (of_group r.number r.next (group_end max_depth s r.next r.number))
+      (of_value r.number r.wire (value_at s r.wire r.next))
+      (λ _. of-group r.number r.next (group_end max_depth s r.next r.number))
+      (λ _. of-value r.number r.wire (value_at s r.wire r.next) (value-small r.wire r.next))
+  of_tag_lem None = tt
 
   field-small : (at : ℕ) → SmallField (field_at s at)
   unfolding field_at
@@ -97,11 +97,11 @@ noted_small x number wire v start len h f =
 
 on_field_lem : (s : List ℕ) (x : Slots) (more : ℕ → Slots → Slots) →
     ((next : ℕ) (y : Slots) → Small y → Small (more next y)) →
-    Small x → (f : Field) → SmallField f → Small (on_field (rows_of scalar) x more f)
-on_field_lem s x more on h (Field.Good number wire v start len next) g =
-    on next (noted (use_of (rows_of scalar) number wire v) x number v start len)
-    (noted_small x number wire v start len h g)
-on_field_lem s x more on h Field.Bad g = omega arith
+    Small x → (f : Option Field) → SmallField f → Small (on_field (rows_of scalar) x more f)
+on_field_lem s x more on h (Some r) g =
+    on r.next (noted (use_of (rows_of scalar) r.number r.wire r.value) x r.number r.value r.start r.len)
+    (noted_small x r.number r.wire r.value r.start r.len h g)
+on_field_lem s x more on h None g = omega arith
 
 fields_small : (most : ℕ) (s : List ℕ) (at : ℕ) (x : Slots) → Small x → Small (fields_from most (rows_of scalar) s at x)
 unfolding fields_from

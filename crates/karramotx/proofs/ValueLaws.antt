@@ -1,45 +1,17 @@
--- What a host is told of an argument: a NaN is what differs from itself; each bit of a double and a float is told.
-use Rattle.prelude.proofs.Basics.{ℕ, ◌*◌, ◌/◌, ◌%◌, ◌^◌, ◌<◌, arith, Bool, true, false, not, cond, ◌≡◌, refl, sym, ap}
-use Rattle.prelude.proofs.Basics.{◌∙◌, T, eqb, both}
+-- What a host is told of an argument: each bit of a double and a float.
+use Rattle.prelude.proofs.Basics.{ℕ, ◌*◌, ◌/◌, ◌%◌, ◌^◌, ◌<◌, arith, Bool, true, false, cond, ◌≡◌, sym, ap}
+use Rattle.prelude.proofs.Basics.{◌∙◌, eqb, both}
 use lib.IntN.{pos, negsuc}
 use mir.Syntax.{w64}
-use mir.Val.{Fits, SFits, bool_byte}
+use mir.Val.{SFits}
 use mir.Facts.{to_z-of_z}
-use lib.Ieee.{Float, nan, inf, fin, Format, binary32, of_bits, to_bits, nan_bits, is_nan, fits, ne, top}
-use lib.Ieee.Compare.{differs_from_itself, nan_differs}
-use lib.Ieee.Bits.{to_bits-of_bits, to_bits-lt, nan_bits_is}
+use lib.Ieee.{Float, Format, of_bits, to_bits, nan_bits, is_nan, top}
+use lib.Ieee.Bits.{to_bits-of_bits, nan_bits_is}
 use Rattle.scalar.specs.Zigzag.{unzigzag}
 use Rattle.scalar.specs.Argument.{carried}
 use Rattle.scalar.specs.declared.argument.Argument.{Argument}
 use Rattle.karramotx.specs.Value.{numbered, refused_by, value_of}
 use Rattle.karramotx.specs.ValueRules.{SignedTold}
-
--- the code's test for a NaN
-nan_is : is_nan nan ≡ true
-unfolding is_nan
-nan_is = refl
-
-pub differs_nan : (d : Float) → ne d d ≡ true → is_nan d ≡ true
-differs_nan d e = ap is_nan (differs_from_itself d (rw e tt)) ∙ nan_is
-
-pub same_number : (d : Float) → ne d d ≡ false → is_nan d ≡ false
-unfolding is_nan
-same_number nan e = sym nan_differs ∙ e
-same_number (inf s) e = refl
-same_number (fin s m e₁) e = refl
-
--- `f64::to_bits` and `f32::to_bits` ask it so
-pub asked : (d : Float) → is_nan d ≡ false → T (not (is_nan d))
-asked d e = rw e tt
-
--- the bits of a float fit 64
-pub fits_wide : (d : Float) → fits binary32 d ≡ true → Fits w64 (to_bits binary32 d)
-fits_wide d e = record { fits = omega (arith, to_bits-lt binary32 d (rw e tt)) }
-
--- a bool as the machine has it
-pub bool_byte_lem : (b : Bool) → bool_byte b ≡ cond b 1 0
-bool_byte_lem true = refl
-bool_byte_lem false = refl
 
 module _ (f : Format) (raw : ℕ → Argument) (number : Float → Argument) (kind : ℕ) where
   -- both cases are told as bits: those of the argument are the ones that came

@@ -1,5 +1,5 @@
 -- A frame as one struct. What its message does not have is 0, absent or none.
-use Rattle.std.specs.Prelude.{ℕ, Bool, false, List}
+use Rattle.std.specs.Prelude.{ℕ, Bool, true, false, List, Option, Some, None}
 use Rattle.protocol.specs.Reason as Reason
 use Rattle.args.specs.Arguments.{no_arguments}
 use Rattle.args.specs.declared.arguments.Arguments.{Arguments}
@@ -12,6 +12,7 @@ use Rattle.message.specs.declared.request.Frame.TheVariants.{NotAllThere, BadLen
 use Rattle.message.specs.declared.request.Frame.TheVariants.{BodyTwice, Good}
 use Rattle.karramotx.specs.declared.told.Args.{Args}
 use Rattle.karramotx.specs.declared.told.Message.{Message}
+use Rattle.karramotx.specs.declared.told.Optional.{Optional}
 
 -- the arguments, as hosts are told of them
 abbrev pub args_told : Arguments → Args
@@ -25,6 +26,11 @@ args_told a =
       end = a.end;
     }
 
+-- an optional field, absent with the value 0
+abbrev pub optional_told : Option ℕ → Optional
+optional_told (Some value) = record { present = true; value = value }
+optional_told None = record { present = false; value = 0 }
+
 -- a message of this type with nothing in it
 abbrev pub bare : ℕ → ℕ → ℕ → Message
 bare reason used kind =
@@ -34,8 +40,8 @@ bare reason used kind =
       kind = kind;
       stmt = 0;
       cursor = 0;
-      rows = no_optional;
-      compact = no_optional;
+      rows = optional_told no_optional;
+      compact = optional_told no_optional;
       operation = 0;
       body = no_part;
       args = args_told (no_arguments 0 0);
@@ -62,8 +68,8 @@ message_of (Good used q) =
       kind = kind_of q;
       stmt = stmt_of q;
       cursor = cursor_of q;
-      rows = rows_of q;
-      compact = compact_of q;
+      rows = optional_told (rows_of q);
+      compact = optional_told (compact_of q);
       operation = operation_of q;
       body = body_of q;
       args = args_told (args_of q);

@@ -1,5 +1,5 @@
 -- An argument as numbers (A4, L8, W6).
-use Rattle.std.specs.Prelude.{ℕ, cond, Float}
+use Rattle.std.specs.Prelude.{ℕ, cond, Option, Some, None, Float}
 use Rattle.std.specs.Int.{w64}
 use Rattle.std.proofs.Common.{of_z}
 use Rattle.std.specs.Float.{binary32, binary64}
@@ -51,6 +51,6 @@ with_next v next =
     record { reason = v.reason; kind = v.kind; value = v.value; start = v.start; len = v.len; next = next }
 
 -- the next argument: refused or not, the place behind it is told; 9 where there is none
-abbrev pub next_value_of : NextArgument → Value
-next_value_of (NextArgument.Found a next) = with_next (value_of a) next
-next_value_of NextArgument.End = refused_by Reason.few_arguments
+abbrev pub next_value_of : Option NextArgument → Value
+next_value_of (Some found) = with_next (value_of found.value) found.next
+next_value_of None = refused_by Reason.few_arguments

@@ -1,5 +1,5 @@
 -- What a host is told of an argument is what the frame carries, and what a host gave.
-use Rattle.std.specs.Prelude.{ℕ, ◌^◌, ◌<◌, ◌≡◌, Bool, not, cond, ◌&&◌, ◌||◌, List, ltb, eqb}
+use Rattle.std.specs.Prelude.{ℕ, ◌^◌, ◌<◌, ◌≡◌, Bool, not, cond, ◌&&◌, ◌||◌, List, Option, Some, None, ltb, eqb}
 use Rattle.std.specs.Int.{w64}
 use Rattle.std.proofs.Common.{to_z}
 use Rattle.protocol.specs.Reason as Reason
@@ -54,11 +54,11 @@ abbrev pub ToldByIndex : Type 0
 ToldByIndex = (frame : List ℕ) (index : ℕ) → Told (argument_of frame index)
 
 -- and in one pass; no argument has no type
-abbrev pub next_type : NextArgument → ℕ
-next_type (NextArgument.Found a next) = type_of a
-next_type NextArgument.End = 0
+abbrev pub next_type : Option NextArgument → ℕ
+next_type (Some found) = type_of found.value
+next_type None = 0
 
-abbrev pub ToldNext : NextArgument → Type 0
+abbrev pub ToldNext : Option NextArgument → Type 0
 ToldNext n = ((next_value_of n).reason ≡ next_reason n) × ((next_value_of n).kind ≡ next_type n)
 
 abbrev pub ToldInPass : Type 0
@@ -84,11 +84,11 @@ abbrev pub ValueByIndex : Type 0
 ValueByIndex = (frame : List ℕ) (index : ℕ) → told_argument (value_of (argument_of frame index)) ≡ argument_of frame index
 
 -- and in one pass, where an object or an array is refused 8, and the place behind it is told (A7)
-abbrev pub ValueNext : NextArgument → Type 0
-ValueNext (NextArgument.Found a next) =
-    (told_argument (next_value_of (NextArgument.Found a next)) ≡ handed_out a)
-    × ((next_value_of (NextArgument.Found a next)).next ≡ next)
-ValueNext NextArgument.End = Unit {0}
+abbrev pub ValueNext : Option NextArgument → Type 0
+ValueNext (Some found) =
+    (told_argument (next_value_of (Some found)) ≡ handed_out found.value)
+    × ((next_value_of (Some found)).next ≡ found.next)
+ValueNext None = Unit {0}
 
 abbrev pub ValueInPass : Type 0
 ValueInPass = (s : List ℕ) (at : ℕ) → ValueNext (next_argument s at)

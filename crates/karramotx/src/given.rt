@@ -31,6 +31,7 @@ fn float_of_bits(bits: u64) -> Argument
 }
 
 // The argument, with its bytes, if it has any, the first n of a source.
+#[tactic(auto, unfolding(crate::specs::Given::of_kind))]
 pub fn argument_of(scalar: Scalar, n: usize) -> Argument
     ensures { result ≡ given_argument scalar n }
 {

@@ -4,8 +4,8 @@ ghost use Rattle.message.specs.Padded.{where_read};
 ghost use Rattle.session.specs.Words.{session_of};
 ghost use Rattle.karramotx.specs.private.Inspected.{inspected};
 
-use crate::told;
 use crate::told::Message;
+use keeper::padded::said;
 use message::request::Frame;
 use rules::Look;
 use session::WORDS;
@@ -29,10 +29,10 @@ pub fn inspect(session: &[u32; WORDS], frame: Frame, padded: bool) -> Inspection
     ensures { result ≡ inspected (session_of session.now) frame (where_read frame padded) }
 {
     let found = keeper::inspect::inspect(session, frame);
-    let mut message = told::message_of(frame);
-    message.padded = keeper::padded::said(message.reason, padded);
+    let mut message = Message::from(frame);
+    message.padded = said(message.reason, padded);
     let mut look = found.look;
-    look.padded = keeper::padded::said(look.reason, message.padded);
+    look.padded = said(look.reason, message.padded);
     let touches = found.touches;
     Inspection {
         look,

@@ -24,6 +24,7 @@ ghost use Rattle.karramotx.specs.Value.{next_value_of, value_of};
 use given::Scalar;
 use image_rules::Written;
 use inspection::Inspection;
+use keeper::padded::said;
 use layout::part::Part;
 use protocol::reason;
 use rules::{Answer, Look, Report};
@@ -61,14 +62,8 @@ pub extern "C" fn karramotx_read(frame: &[u8]) -> Message
     ensures { result ≡ message_at frame.now }
 {
     let mut padded = false;
-    let mut m = told::message_of(message::frame::read_frame(frame, &mut padded));
-    if m.reason == reason::ACCEPTED {
-        m.padded = padded;
-        return m;
-    }
-    if m.reason == reason::BODY_TWICE {
-        m.padded = padded;
-    }
+    let mut m = Message::from(message::frame::read_frame(frame, &mut padded));
+    m.padded = said(m.reason, padded);
     m
 }
 
@@ -120,7 +115,10 @@ pub extern "C" fn karramotx_image(session: &[u32; WORDS], buf: &mut [u8]) -> Wri
 pub extern "C" fn karramotx_restore(session: &mut [u32; WORDS], image: &[u8]) -> u64
     ensures { Restores session.old image.now result session.new }
 {
-    image::restore(session, image)
+    match image::restore(session, image) {
+        Ok(()) => reason::ACCEPTED,
+        Err(refusal) => u64::from(refusal),
+    }
 }
 
 // A reader of arrivals that holds nothing.
@@ -155,7 +153,7 @@ pub extern "C" fn karramotx_next_frame(reader: Reader, store: &[u8; STORE]) -> N
 pub extern "C" fn karramotx_argument(frame: &[u8], index: usize) -> Value
     ensures { result ≡ value_of (argument_of frame.now index) }
 {
-    value::value_of(message::frame::argument(frame, index))
+    message::frame::argument(frame, index).into()
 }
 
 // The next argument at or behind the place `at`. In one pass: s is the frame up to its `args.end`, `at` is
@@ -164,7 +162,7 @@ pub extern "C" fn karramotx_argument(frame: &[u8], index: usize) -> Value
 pub extern "C" fn karramotx_next_argument(s: &[u8], at: usize) -> Value
     ensures { result ≡ next_value_of (next_argument s.now at) }
 {
-    value::next_value(args::arguments::next_argument(s, at))
+    args::arguments::next_argument(s, at).into()
 }
 
 // Where the chosen body lies in the frame; 0 and 0 where there is none.

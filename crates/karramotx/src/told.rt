@@ -2,11 +2,13 @@
 ghost use Rattle.std.specs.Prelude.{◌≡◌};
 ghost use Rattle.message.specs.declared.request.Frame.{Frame};
 ghost use Rattle.message.specs.declared.request.Request.{Request};
-ghost use Rattle.karramotx.specs.Message.{args_told, blank, message_of, refused};
+ghost use Rattle.protocol.specs.Reason.{number_of};
+ghost use Rattle.karramotx.specs.Message.{args_told, bare, blank, message_of, optional_told, refused};
 
 use args::arguments::Arguments;
 use layout::part::Part;
-use message::request::{Execute, Fetch, Frame, Open, Optional, Prepare, Request};
+use message::request::{Execute, Fetch, Frame, Open, Prepare, Request};
+use protocol::reason::Reason;
 use protocol::{client, reason};
 
 // `reason` is 0, or the number by which the frame is refused by itself, and then all else but `used`, and for 17
@@ -31,6 +33,31 @@ pub struct Message {
     pub padded: bool,
 }
 
+// An optional field: whether it is present, and its value (0 where it is not).
+#[repr(C)]
+#[derive(Clone, Copy)]
+pub struct Optional {
+    pub present: bool,
+    pub value: u64,
+}
+
+impl From<Option<u64>> for Optional {
+    ghost from_gives = { λ field told. told ≡ optional_told field };
+
+    fn from(field: Option<u64>) -> Optional {
+        match field {
+            Some(value) => Optional {
+                present: true,
+                value,
+            },
+            None => Optional {
+                present: false,
+                value: 0,
+            },
+        }
+    }
+}
+
 // The arguments, as `Arguments` has them.
 #[repr(C)]
 #[derive(Clone, Copy)]
@@ -44,63 +71,67 @@ pub struct Args {
 }
 
 // Nothing is said of padding yet.
-pub fn message_of(frame: Frame) -> Message
-    ensures { result ≡ message_of frame }
-{
-    match frame {
-        Frame::NotAllThere => refused(reason::NOT_ALL_THERE, 0),
-        Frame::BadLength => refused(reason::BAD_LENGTH, 0),
-        Frame::UnknownType { used } => refused(reason::UNKNOWN_TYPE, used),
-        Frame::BadPayload { used, kind: _ } => refused(reason::BAD_PAYLOAD, used),
-        Frame::BodyTwice { used, kind: _ } => refused(reason::BODY_TWICE, used),
-        Frame::Good { used, request } => told(used, request),
+impl From<Frame> for Message {
+    ghost from_gives = { λ frame m. m ≡ message_of frame };
+
+    fn from(frame: Frame) -> Message {
+        match frame {
+            Frame::NotAllThere => refused(Reason::NotAllThere, 0),
+            Frame::BadLength => refused(Reason::BadLength, 0),
+            Frame::UnknownType { used } => refused(Reason::UnknownType, used),
+            Frame::BadPayload { used, kind: _ } => refused(Reason::BadPayload, used),
+            Frame::BodyTwice { used, kind: _ } => refused(Reason::BodyTwice, used),
+            Frame::Good { used, request } => told(used, request),
+        }
     }
 }
 
-fn args_told(args: Arguments) -> Args
-    ensures { result ≡ args_told args }
-{
-    Args {
-        good: args.good,
-        count: args.count,
-        kind: args.kind,
-        index: args.index,
-        start: args.start,
-        end: args.end,
+impl From<Arguments> for Args {
+    ghost from_gives = { λ arguments args. args ≡ args_told arguments };
+
+    fn from(arguments: Arguments) -> Args {
+        Args {
+            good: arguments.good,
+            count: arguments.count,
+            kind: arguments.kind,
+            index: arguments.index,
+            start: arguments.start,
+            end: arguments.end,
+        }
     }
 }
 
-fn refused(reason: u64, used: usize) -> Message
-    ensures { result ≡ refused reason used }
+// A message of this type with nothing in it.
+fn bare(reason: u64, used: usize, kind: u64) -> Message
+    ensures { result ≡ bare reason used kind }
 {
     Message {
         reason,
         used,
-        kind: 0,
+        kind,
         stmt: 0,
         cursor: 0,
-        rows: Optional {
-            present: false,
-            value: 0,
-        },
-        compact: Optional {
-            present: false,
-            value: 0,
-        },
+        rows: None.into(),
+        compact: None.into(),
         operation: 0,
         body: Part { start: 0, len: 0 },
-        args: args_told(Arguments::none(0, 0)),
+        args: Arguments::none(0, 0).into(),
         padded: false,
     }
+}
+
+// A frame refused by itself.
+fn refused(reason: Reason, used: usize) -> Message
+    ensures { result ≡ refused (number_of reason) used }
+{
+    bare(reason.into(), used, 0)
 }
 
 // A message of this type with nothing in it yet.
 fn blank(used: usize, kind: u64) -> Message
     ensures { result ≡ blank used kind }
 {
-    let mut m = refused(reason::ACCEPTED, used);
-    m.kind = kind;
-    m
+    bare(reason::ACCEPTED, used, kind)
 }
 
 // A request, by what its message has.
@@ -119,7 +150,7 @@ fn told(used: usize, request: Request) -> Message
     }
 }
 
-// Optional fields and arguments are copied number by number: a struct that is copied as one takes the bytes between its
+// Arguments are copied number by number: a struct that is copied as one takes the bytes between its
 // fields along, and a processor waits for them.
 fn prepare_told(used: usize, p: Prepare) -> Message
     ensures { result ≡ message_of (Frame.Good used (Request.Prepare p)) }
@@ -130,7 +161,7 @@ fn prepare_told(used: usize, p: Prepare) -> Message
     m.stmt = p.stmt as u64;
     m.operation = p.operation;
     m.body = body;
-    m.args = args_told(args);
+    m.args = args.into();
     m
 }
 
@@ -141,8 +172,8 @@ fn execute_told(used: usize, x: Execute) -> Message
     let compact = x.compact;
     let mut m = blank(used, client::EXECUTE);
     m.stmt = x.stmt as u64;
-    m.compact = compact.same();
-    m.args = args_told(args);
+    m.compact = compact.into();
+    m.args = args.into();
     m
 }
 
@@ -163,7 +194,7 @@ fn open_told(used: usize, o: Open) -> Message
     let mut m = execute_told(used, x);
     m.kind = client::OPEN;
     m.cursor = o.cursor as u64;
-    m.rows = rows.same();
+    m.rows = rows.into();
     m.body = body;
     m
 }
@@ -182,6 +213,6 @@ fn fetch_told(used: usize, f: Fetch) -> Message
     let rows = f.rows;
     let mut m = blank(used, client::FETCH);
     m.cursor = f.cursor as u64;
-    m.rows = rows.same();
+    m.rows = rows.into();
     m
 }

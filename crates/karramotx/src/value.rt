@@ -4,6 +4,7 @@ ghost use Rattle.karramotx.specs.Value.{double_value, float_value, next_value_of
 ghost use Rattle.karramotx.specs.Value.{value_of};
 
 use args::arguments::NextArgument;
+use protocol::{reason, scalars};
 use scalar::argument::Argument;
 
 // `reason` is 0, or the number by which the argument is refused, and then all else but `next` is 0. `kind` is
@@ -26,7 +27,7 @@ fn numbered(kind: u64, value: u64) -> Value
     ensures { result ≡ numbered kind value }
 {
     Value {
-        reason: 0,
+        reason: reason::ACCEPTED,
         kind,
         value,
         start: 0,
@@ -40,7 +41,7 @@ fn placed(kind: u64, start: usize, len: usize) -> Value
     ensures { result ≡ placed kind start len }
 {
     Value {
-        reason: 0,
+        reason: reason::ACCEPTED,
         kind,
         value: 0,
         start,
@@ -62,56 +63,60 @@ fn refused(reason: u64) -> Value
     }
 }
 
-// A double that is no NaN. (The reader hands a NaN out as its bits; this is refused for whoever builds one.)
+// A double that is no NaN. (The reader hands a NaN out as its bits; this is refused for whoever builds one.) Apart from
+// the float below, since std has no trait of the floats with their bits.
 fn double_value(d: f64) -> Value
     ensures { result ≡ double_value d }
 {
-    if d != d {
-        return refused(6);
+    if d.is_nan() {
+        return refused(reason::BAD_PAYLOAD);
     }
-    numbered(5, f64::to_bits(d))
+    numbered(scalars::DOUBLE, d.to_bits())
 }
 
 // A float, as the double above.
 fn float_value(d: f32) -> Value
     ensures { result ≡ float_value d }
 {
-    if d != d {
-        return refused(6);
+    if d.is_nan() {
+        return refused(reason::BAD_PAYLOAD);
     }
-    numbered(6, f32::to_bits(d) as u64)
+    numbered(scalars::FLOAT, u64::from(d.to_bits()))
 }
 
-pub fn value_of(a: Argument) -> Value
-    ensures { result ≡ value_of a }
-{
-    match a {
-        Argument::Signed(v) => numbered(1, scalar::zigzag::to_bits(v)),
-        Argument::Unsigned(n) => numbered(2, n),
-        Argument::Null => numbered(3, 0),
-        Argument::Octets { start, len } => placed(4, start, len),
-        Argument::Double(d) => double_value(d),
-        Argument::DoubleNan(bits) => numbered(5, bits),
-        Argument::Float(d) => float_value(d),
-        Argument::FloatNan(bits) => numbered(6, bits as u64),
-        Argument::Bool(b) => numbered(7, b as u64),
-        Argument::String { start, len } => placed(8, start, len),
-        Argument::Object => refused(8),
-        Argument::Array => refused(8),
-        Argument::Refused(reason) => refused(reason),
+impl From<Argument> for Value {
+    ghost from_gives = { λ a v. v ≡ value_of a };
+
+    fn from(a: Argument) -> Value {
+        match a {
+            Argument::Signed(v) => numbered(scalars::SINT, scalar::zigzag::to_bits(v)),
+            Argument::Unsigned(n) => numbered(scalars::UINT, n),
+            Argument::Null => numbered(scalars::NULL, 0),
+            Argument::Octets { start, len } => placed(scalars::OCTETS, start, len),
+            Argument::Double(d) => double_value(d),
+            Argument::DoubleNan(bits) => numbered(scalars::DOUBLE, bits),
+            Argument::Float(d) => float_value(d),
+            Argument::FloatNan(bits) => numbered(scalars::FLOAT, bits as u64),
+            Argument::Bool(b) => numbered(scalars::BOOL, b as u64),
+            Argument::String { start, len } => placed(scalars::STRING, start, len),
+            Argument::Object | Argument::Array => refused(reason::NOT_SCALAR),
+            Argument::Refused(reason) => refused(reason),
+        }
     }
 }
 
 // The same of the next argument, with the place behind it; 9 where there is none.
-pub fn next_value(found: NextArgument) -> Value
-    ensures { result ≡ next_value_of found }
-{
-    match found {
-        NextArgument::Found { value, next } => {
-            let mut v = value_of(value);
-            v.next = next;
-            v
+impl From<Option<NextArgument>> for Value {
+    ghost from_gives = { λ found v. v ≡ next_value_of found };
+
+    fn from(found: Option<NextArgument>) -> Value {
+        match found {
+            Some(found) => {
+                let mut v = Value::from(found.value);
+                v.next = found.next;
+                v
+            }
+            None => refused(reason::FEW_ARGUMENTS),
         }
-        NextArgument::End => refused(9),
     }
 }

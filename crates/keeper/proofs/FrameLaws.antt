@@ -15,7 +15,7 @@ use Rattle.keeper.proofs.Names.{frame_of, Frame, Request, Session, is_closed, re
 use Rattle.keeper.proofs.Names.{step_reason, look_reason, report_reason, refusal_of, refused, refused_reply}
 use Rattle.keeper.proofs.Names.{decision_of, step_by, step_on, Answer, Report, error_fits}
 use Rattle.keeper.specs.private.Reasons.{closed_or}
-use Rattle.keeper.specs.private.Does.{Does, Readable, Answers, with_length, length_in, refusing, no_names, number_of}
+use Rattle.keeper.specs.private.Does.{Does, Readable, Answers, with_length, length_in, refusing, no_names, number_named}
 use Rattle.keeper.specs.private.Does.{kind_named, error_of}
 use Rattle.keeper.proofs.AnswerLaws.{put_behind}
 
@@ -103,21 +103,21 @@ module _ (s : Session) (used : ℕ) (r : Report) (b : List ℕ) (room : min_buff
   unknown-nameless : (c : Bool) →
       Reply.Error (refusal_of (UnknownType used) r (closed_or c Reason.unknown_type)) ≡ Reply.Error
       (error_of (closed_or c Reason.unknown_type) no_names r)
-  unfolding number_of kind_named
+  unfolding number_named kind_named
   unknown-nameless true = refl
   unknown-nameless false = refl
 
   payload-nameless : (kind : ℕ) (c : Bool) →
       Reply.Error (refusal_of (BadPayload used kind) r (closed_or c Reason.bad_payload)) ≡ Reply.Error
       (error_of (closed_or c Reason.bad_payload) no_names r)
-  unfolding number_of kind_named
+  unfolding number_named kind_named
   payload-nameless kind true = refl
   payload-nameless kind false = refl
 
   twice-nameless : (kind : ℕ) (c : Bool) →
       Reply.Error (refusal_of (BodyTwice used kind) r (closed_or c Reason.body_twice)) ≡ Reply.Error
       (error_of (closed_or c Reason.body_twice) no_names r)
-  unfolding number_of kind_named
+  unfolding number_named kind_named
   twice-nameless kind true = refl
   twice-nameless kind false = refl
 

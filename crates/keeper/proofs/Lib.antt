@@ -1,7 +1,7 @@
 mod Names
 pub mod AnswerLaws
+pub mod ResultLaws
 pub mod ReasonLaws
-pub mod RowsLaws
 pub mod StepLaws
 pub mod RequestLaws
 pub mod FrameLaws

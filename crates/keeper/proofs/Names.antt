@@ -6,7 +6,6 @@ pub use Rattle.message.specs.declared.request.Execute.{Execute}
 pub use Rattle.message.specs.declared.request.Fetch.{Fetch}
 pub use Rattle.message.specs.declared.request.Frame.{Frame}
 pub use Rattle.message.specs.declared.request.Open.{Open}
-pub use Rattle.message.specs.declared.request.Optional.{Optional}
 pub use Rattle.message.specs.declared.request.Prepare.{Prepare}
 pub use Rattle.message.specs.declared.request.Request.{Request}
 pub use Rattle.session.specs.Lists.{entry_at}
@@ -16,13 +15,12 @@ pub use Rattle.session.specs.Tables.{stmt_at, cursor_at, live_cursor, stmt_place
 pub use Rattle.session.specs.Words.{session_of}
 pub use Rattle.session.specs.Sound.{max_number, max_placeholders}
 pub use Rattle.session.specs.declared.Cursor.{Cursor}
-pub use Rattle.session.specs.declared.Place.{Place}
 pub use Rattle.session.specs.declared.Stmt.{Stmt}
 unfoldable pub use Rattle.reply.specs.Reply.{reply_bytes}
 pub use Rattle.reply.specs.ReplyRules.{min_buffer}
 pub use Rattle.reply.specs.declared.Reply.{Reply}
 pub use Rattle.rules.specs.Report.{is_prepared, is_result, fails}
-pub use Rattle.rules.specs.Refusal.{first_of, no_place, report_tests, step_reason}
+pub use Rattle.rules.specs.Refusal.{first_of, report_tests, step_reason}
 unfoldable pub use Rattle.rules.specs.Refusal.{look_reason, report_reason}
 pub use Rattle.rules.specs.Rows.{fetch_count, open_count}
 unfoldable pub use Rattle.rules.specs.Rows.{first_row}

@@ -1,17 +1,15 @@
 -- The refusals of a request and of an engine report, case by case. Assumes nothing.
-use Rattle.prelude.proofs.Basics.{ℕ, ◌≤◌, ◌<◌, Bool, true, false, not, ◌&&◌, cond, ◌≡◌, refl, ap, ◌∙◌, [], ◌∷◌, eqb}
-use Rattle.prelude.proofs.Basics.{leb, ltb, eq-eqb, le-leb, le-ltb, lt-leb, lt-ltb, ne_eqb, yes, no as without}
+use Rattle.prelude.proofs.Basics.{ℕ, ◌≤◌, ◌<◌, Bool, true, false, not, ◌&&◌, cond, ◌≡◌, refl, sym, ap, ◌∙◌, [], ◌∷◌, eqb}
+use Rattle.prelude.proofs.Basics.{Option, is_none, ltb, eq-eqb, eqb-true, le-leb, le-ltb, lt-leb, lt-ltb, ne_eqb, yes, no as without}
 use Rattle.protocol.specs.Reason as Reason
 use Rattle.args.specs.declared.arguments.Arguments.{Arguments}
 use Rattle.session.specs.Session.{flag}
 use Rattle.session.specs.Tables.{cursor_on, live_stmt, carried}
-use Rattle.rules.specs.Report.{prepared, result, failed, max_columns}
 use Rattle.rules.specs.Refusal.{refusal}
 use Rattle.keeper.proofs.Names.{Execute, Open, Request, entry_at, Session, no_stmt, no_cursor, is_live_stmt}
-use Rattle.keeper.proofs.Names.{is_live_cursor, stmt_at, cursor_place, max_number, max_placeholders, Cursor, Place}
-use Rattle.keeper.proofs.Names.{Stmt, is_prepared, is_result, fails, first_of, no_place, Report}
+use Rattle.keeper.proofs.Names.{is_live_cursor, stmt_at, cursor_place, Cursor}
+use Rattle.keeper.proofs.Names.{Stmt, first_of}
 use Rattle.keeper.specs.private.Reasons.{binding_reason, cursor_reason, fetch_reason, request_reason, or_else, unless}
-use Rattle.keeper.specs.private.Reasons.{consulted}
 
 -- ---- two refusals, a flag
 
@@ -21,11 +19,15 @@ or_else_first first next h = without next first (ne_eqb first Reason.accepted h)
 pub or_else_next : (first next : ℕ) → first ≡ Reason.accepted → next ≡ or_else first next
 or_else_next first next h = yes next first (eq-eqb first Reason.accepted h)
 
-pub dead : (live reason : ℕ) → live ≡ 0 → reason ≡ unless (flag live) reason
-dead live reason e = rw e
+pub dead : (live : ℕ) {n reason : ℕ} → n ≡ unless (flag live) reason → (n ≡ 0 → ⊥) → (live ≡ 0) × (n ≡ reason)
+dead live {n} {reason} e some = go (eqb live 0) refl e
+  where
+    go : (b : Bool) → eqb live 0 ≡ b → n ≡ cond (not b) 0 reason → (live ≡ 0) × (n ≡ reason)
+    go true f g = (eqb-true live 0 f, g)
+    go false f g = absurd (some g)
 
-pub alive : (live reason : ℕ) → (live ≡ 0 → ⊥) → Reason.accepted ≡ unless (flag live) reason
-alive live reason h = rw (ne_eqb live 0 h)
+pub alive : (live : ℕ) {reason : ℕ} → Reason.accepted ≡ unless (flag live) reason → (reason ≡ 0 → ⊥) → live ≡ 0 → ⊥
+alive live {reason} e some z = some (sym (e ∙ rw z))
 
 -- ---- a statement that arguments are bound to
 
@@ -49,25 +51,25 @@ module _ (t : Stmt) (a : Arguments) where
 
 -- ---- a cursor to open, a cursor that is to send rows
 
-module _ (id : ℕ) (c : Cursor) (place : Place) where
+module _ (id : ℕ) (c : Cursor) (place : Option ℕ) where
   pub opening_other : (c.live ≡ 0 → ⊥) → (c.id ≡ id → ⊥) → Reason.other_cursor ≡ cursor_reason id c place
   unfolding cursor_reason
   opening_other live h = rw (ne_eqb c.live 0 live, ne_eqb c.id id h)
 
   -- no other cursor is carried: the place decides
   opening-by : (is_live_cursor c && not (eqb c.id id)) ≡ false →
-      unless (not (no_place place)) Reason.cursors_full ≡ cursor_reason id c place
+      unless (not (is_none place)) Reason.cursors_full ≡ cursor_reason id c place
   unfolding cursor_reason
-  opening-by e = turn (no_place place) ∙ without Reason.other_cursor _ e
+  opening-by e = turn (is_none place) ∙ without Reason.other_cursor _ e
     where
       turn : (full : Bool) → unless (not full) Reason.cursors_full ≡ cond full Reason.cursors_full Reason.accepted
       turn true = refl
       turn false = refl
 
-  pub opening_none : c.live ≡ 0 → unless (not (no_place place)) Reason.cursors_full ≡ cursor_reason id c place
+  pub opening_none : c.live ≡ 0 → unless (not (is_none place)) Reason.cursors_full ≡ cursor_reason id c place
   opening_none e = opening-by (rw e)
 
-  pub opening_same : c.id ≡ id → unless (not (no_place place)) Reason.cursors_full ≡ cursor_reason id c place
+  pub opening_same : c.id ≡ id → unless (not (is_none place)) Reason.cursors_full ≡ cursor_reason id c place
   opening_same e = opening-by (rw (eq-eqb c.id id e) (go (is_live_cursor c)))
     where
       go : (b : Bool) → (b && false) ≡ false
@@ -91,12 +93,12 @@ module _ (c : Cursor) where
 -- ---- an Execute, an Open
 
 -- the statement that was looked up: where it stands, and what stands there
-module _ (s : Session) (x : Execute) (place : Place) (t : Stmt) (n : ℕ) (p : place ≡ stmt_at s x.stmt)
+module _ (s : Session) (x : Execute) (place : Option ℕ) (t : Stmt) (n : ℕ) (p : place ≡ stmt_at s x.stmt)
     (e : t ≡ entry_at s.stmts place no_stmt) (h : n ≡ binding_reason t x.args) where
   bound : n ≡ binding_reason (live_stmt s x.stmt) x.args
   bound =
       h
-      ∙ ap (λ (y : Stmt). binding_reason y x.args) (e ∙ ap (λ (k : Place). entry_at s.stmts k no_stmt) p)
+      ∙ ap (λ (y : Stmt). binding_reason y x.args) (e ∙ ap (λ (k : Option ℕ). entry_at s.stmts k no_stmt) p)
 
   pub execute_bound : n ≡ request_reason s (Request.Execute x)
   unfolding request_reason binding_reason
@@ -136,9 +138,9 @@ module _ (s : Session) (o : Open) where
       (not (eqb o.execute.args.kind 0))
       (ltb o.execute.args.count t.placeholders)
       (is_live_cursor c && not (eqb c.id o.cursor))
-      (no_place (cursor_place s o.cursor))
+      (is_none (cursor_place s o.cursor))
 
-module _ (s : Session) (o : Open) (place : Place) (t : Stmt) (n : ℕ) (p : place ≡ stmt_at s o.execute.stmt)
+module _ (s : Session) (o : Open) (place : Option ℕ) (t : Stmt) (n : ℕ) (p : place ≡ stmt_at s o.execute.stmt)
     (e : t ≡ entry_at s.stmts place no_stmt) (h : n ≡ binding_reason t o.execute.args) where
   open-from : or_else n (opening_of s o) ≡ request_reason s (Request.Open o)
   open-from = ap (λ (k : ℕ). or_else k (opening_of s o)) (bound s o.execute place t n p e h) ∙ open-split s o
@@ -147,59 +149,14 @@ module _ (s : Session) (o : Open) (place : Place) (t : Stmt) (n : ℕ) (p : plac
   open_bound r = or_else_first n (opening_of s o) r ∙ open-from
 
   -- the cursor that the statement carries, and the place that the new one takes
-  pub open_carried : n ≡ Reason.accepted → (on taken : Place) (c : Cursor) (m : ℕ) →
+  pub open_carried : n ≡ Reason.accepted → (on taken : Option ℕ) (c : Cursor) (m : ℕ) →
       on ≡ cursor_on s o.execute.stmt → c ≡ entry_at s.cursors on no_cursor →
       taken ≡ cursor_place s o.cursor → m ≡ cursor_reason o.cursor c taken →
       m ≡ request_reason s (Request.Open o)
   open_carried r on taken c m q f g l =
       l
       ∙ ap (λ (y : Cursor). cursor_reason o.cursor y taken)
-      (f ∙ ap (λ (k : Place). entry_at s.cursors k no_cursor) q)
+      (f ∙ ap (λ (k : Option ℕ). entry_at s.cursors k no_cursor) q)
       ∙ ap (cursor_reason o.cursor (carried s o.execute.stmt)) g
       ∙ or_else_next n (opening_of s o) r
       ∙ open-from
-
--- ---- an engine report
-
-module _ (r : Report) where
-  pub fails_not : (r.kind ≡ failed → ⊥) → false ≡ fails r
-  fails_not h = rw (ne_eqb r.kind failed h)
-
-  pub fails_zero : r.kind ≡ failed → r.code ≡ 0 → false ≡ fails r
-  fails_zero k h = rw (k, h)
-
-  pub fails_code : r.kind ≡ failed → (r.code ≡ 0 → ⊥) → leb r.code max_number ≡ fails r
-  fails_code k h = rw (k, ne_eqb r.code 0 h)
-
-  pub prepared_not : (r.kind ≡ prepared → ⊥) → false ≡ is_prepared r
-  prepared_not h = rw (ne_eqb r.kind prepared h)
-
-  pub prepared_limit : r.kind ≡ prepared → leb r.placeholders max_placeholders ≡ is_prepared r
-  prepared_limit k = rw k
-
-  pub result_not : (r.kind ≡ result → ⊥) → false ≡ is_result r
-  result_not h = rw (ne_eqb r.kind result h)
-
-  module _ (k : r.kind ≡ result) where
-    pub result_wide : max_columns < r.columns → false ≡ is_result r
-    result_wide h = rw (k, lt-leb r.columns max_columns h)
-
-    pub result_long : r.columns ≤ max_columns → max_number < r.rows → false ≡ is_result r
-    result_long h g = rw (k, le-leb r.columns max_columns h, lt-leb r.rows max_number g)
-
-    pub result_some : r.columns ≤ max_columns → r.rows ≤ max_number → (r.columns ≡ 0 → ⊥) → true ≡ is_result r
-    result_some h g e =
-        rw (k, le-leb r.columns max_columns h, le-leb r.rows max_number g, ne_eqb r.columns 0 e)
-
-    pub result_none : r.rows ≤ max_number → r.columns ≡ 0 → eqb r.rows 0 ≡ is_result r
-    result_none g e = rw (k, e, le-leb r.rows max_number g)
-
-pub report_failed : (suits fails : Bool) → fails ≡ true → Reason.engine_failed ≡ consulted suits fails
-report_failed true fails f = rw f
-report_failed false fails f = rw f
-
-pub report_suited : (suits fails : Bool) → fails ≡ false → suits ≡ true → Reason.accepted ≡ consulted suits fails
-report_suited suits fails f g = rw (f, g)
-
-pub report_wrong : (suits fails : Bool) → fails ≡ false → suits ≡ false → Reason.bad_report ≡ consulted suits fails
-report_wrong suits fails f g = rw (f, g)

@@ -1,21 +1,25 @@
 -- A step on a request that is ready: refused with its Error, or accepted with what it sends and the session after it.
 -- Assumes nothing.
-use Rattle.prelude.proofs.Basics.{ℕ, ◌≤◌, arith, le_trans, Bool, true, false, cond, ◌≡◌, refl, sym, ap, subst, ◌∙◌}
-use Rattle.prelude.proofs.Basics.{List, length, eqb, leb, eq-eqb, eqb-true, le-ltb, leb-false, leb-true, lt-leb, ne_eqb}
-use Rattle.protocol.specs.Reason as Reason
+use Rattle.prelude.proofs.Basics.{ℕ, ◌≤◌, arith, le_trans, Bool, true, false, ◌≡◌, refl, sym, ap, subst, ◌∙◌}
+use Rattle.prelude.proofs.Basics.{List, length, leb, eq-eqb, le-ltb, leb-false, leb-true, lt-leb, ne_eqb, no as without}
+use Rattle.std.specs.Prelude.{Result, Err}
+use Rattle.protocol.specs.Reason as Reasons
+use Rattle.protocol.specs.Reason.{number_of}
+use Rattle.protocol.specs.declared.reason.Reason.{Reason}
 use Rattle.message.specs.declared.request.Frame.TheVariants.{Good}
 use Rattle.rules.specs.Read.{Read}
 use Rattle.rules.specs.Decision.{Decision, named, named_kind, accepted}
 use Rattle.rules.proofs.RefusalLaws.{late_read}
 use Rattle.rules.proofs.BufferLaws.{reply_fits}
-use Rattle.keeper.proofs.Names.{Frame, Request, Session, is_closed, session_of, reply_bytes, min_buffer, Reply}
+use Rattle.keeper.proofs.Names.{Frame, Request, Session, is_closed, reply_bytes, min_buffer, Reply}
 use Rattle.keeper.proofs.Names.{first_of, report_tests, step_reason, look_reason, report_reason, refusal_of, refused}
 use Rattle.keeper.proofs.Names.{session_after, refused_reply, decision_of, step_by, step_on, Answer, Report}
 use Rattle.keeper.proofs.Names.{error_fits, Names, Sends}
-use Rattle.keeper.specs.private.Reasons.{request_reason, or_else}
-use Rattle.keeper.specs.private.Does.{Does, Answers, Readable, Ready, accepting, refusing, with_length, length_in}
-use Rattle.keeper.specs.private.Does.{no_names, names_of, number_of, kind_named, error_of, sends_of}
+use Rattle.keeper.specs.private.Reasons.{request_reason, closed_or, or_else}
+use Rattle.keeper.specs.private.Does.{Does, Answers, Readable, Accepts, Refuses, Decides, accepting, refusing, with_length, length_in}
+use Rattle.keeper.specs.private.Does.{names_of, number_named, kind_named, error_of, sends_of}
 use Rattle.keeper.proofs.AnswerLaws.{put_behind}
+use Rattle.protocol.proofs.ReasonLaws.{some_reason}
 
 -- ---- with room, whatever the session
 
@@ -28,15 +32,15 @@ module _ (s : Session) (used : ℕ) (q : Request) (r : Report) (b : List ℕ) (r
   reason = step_reason s x r
 
   error-is : (n : ℕ) → Reply.Error (refusal_of x r n) ≡ Reply.Error (error_of n (names_of q) r)
-  unfolding named named_kind number_of kind_named
+  unfolding named named_kind number_named kind_named
   error-is n = refl
 
-  late : (reason ≡ 0 → ⊥) → Reason.closed ≤ reason
-  late some = go (leb reason Reason.no_room) refl
+  late : (reason ≡ 0 → ⊥) → Reasons.closed ≤ reason
+  late some = go (leb reason Reasons.no_room) refl
     where
-      go : (t : Bool) → leb reason Reason.no_room ≡ t → Reason.closed ≤ reason
-      go true e = absurd (some (late_read s x r refl (leb-true reason Reason.no_room e)))
-      go false e = leb-false reason Reason.no_room e
+      go : (t : Bool) → leb reason Reasons.no_room ≡ t → Reasons.closed ≤ reason
+      go true e = absurd (some (late_read s x r refl (leb-true reason Reasons.no_room e)))
+      go false e = leb-false reason Reasons.no_room e
 
   decided : (d : Decision) → decision_of s x r ≡ d → step_on s x r b ≡ step_by x b d
   unfolding step_on
@@ -45,7 +49,7 @@ module _ (s : Session) (used : ℕ) (q : Request) (r : Report) (b : List ℕ) (r
   refusal : (reason ≡ 0 → ⊥) → decision_of s x r ≡ refused s reason (Reply.Error (error_of reason (names_of q) r))
   unfolding decision_of refused_reply
   refusal some =
-      rw (ne_eqb reason 0 some, lt-leb reason Reason.no_room (late some)) (ap (refused s reason) (error-is reason))
+      rw (ne_eqb reason 0 some, lt-leb reason Reasons.no_room (late some)) (ap (refused s reason) (error-is reason))
 
   step-refused : (reason ≡ 0 → ⊥) → step_on s x r b ≡ step_by x b
       (refused s reason (Reply.Error (error_of reason (names_of q) r)))
@@ -98,71 +102,81 @@ module _ (s : Session) (used : ℕ) (q : Request) (r : Report) (b : List ℕ) (r
         replied = g.stored ∙ ap (λ y. y.buffer) is;
       }
 
--- ---- in an open session, where the reason is known
+-- ---- what is decided
 
-pub record Decided (w : List ℕ) (q : Request) (b : List ℕ) (used : ℕ) (r : Report) (n : ℕ) : Type 0 where
-  pub ready : Ready w q b
-  pub reason : n ≡ step_reason (session_of w) (Good used q) r
+-- that a frame is longer decides nothing
+any_length : (s : Session) (used : ℕ) (q : Request) (r : Report) →
+    step_reason s (Good 0 q) r ≡ step_reason s (Good used q) r
+unfolding look_reason report_reason
+any_length s used q r = refl
 
-module _ {w b : List ℕ} {q : Request} {used : ℕ} {r : Report} {n : ℕ} (d : Decided w q b used r n) where
-  pub refuses : {names : Names} {a : Answer} {after : List ℕ} → (n ≡ 0 → ⊥) → names ≡ names_of q →
-      Answers (refusing used n) (Reply.Error (error_of n names r)) b a after →
-      Does (step_on (session_of w) (Good used q) r b) a (session_of w) after
-  refuses = refused-so (session_of w) used q r b d.ready.room d.ready.read d.reason
+module _ (s : Session) (used : ℕ) (q : Request) (r : Report) (b : List ℕ) (readable : Readable q b) where
+  pub refuses : {reason : Reason} {names : Names} {s' : Session} {a : Answer} {after : List ℕ} →
+      Refuses s q r reason s' → names ≡ names_of q →
+      Answers (refusing used (number_of reason)) (Reply.Error (error_of (number_of reason) names r)) b a after →
+      Does (step_on s (Good used q) r b) a s' after
+  refuses {reason} {names} {s'} {a} {after} d f h =
+      subst (λ x. Does (step_on s (Good used q) r b) a x after) (sym d.kept)
+      (refused-so s used q r b readable.room readable.read (d.fails ∙ any_length s used q r) (some_reason reason) f h)
 
-  pub accepts : {sends : Sends} {s' : Session} {a : Answer} {after : List ℕ} → n ≡ 0 →
-      sends ≡ sends_of (session_of w) q r → s' ≡ session_after (session_of w) q r →
-      Answers (accepting used sends) sends.reply b a after →
-      Does (step_on (session_of w) (Good used q) r b) a s' after
-  accepts = accepted-so (session_of w) used q r b d.ready.room d.ready.read d.reason
+  pub accepts : {sends : Sends} {s' : Session} {a : Answer} {after : List ℕ} → Accepts s q r sends s' →
+      Answers (accepting used sends) sends.reply b a after → Does (step_on s (Good used q) r b) a s' after
+  accepts d h =
+      accepted-so s used q r b readable.room readable.read (d.passes ∙ any_length s used q r) refl d.sent d.changed h
 
--- ---- the reason, in an open session and in a closed one
+-- ---- the reason, in a closed session and in an open one
 
-pub open_reason : (s : Session) (used : ℕ) (q : Request) (r : Report) → is_closed s ≡ false → {look report n : ℕ} →
-    look ≡ request_reason s q →
-    report ≡ first_of (report_tests q r) → n ≡ or_else look report → n ≡ step_reason s (Good used q) r
-unfolding look_reason report_reason request_reason
-open_reason s used q r e {look} {report} {n} a b c =
-    c ∙ ap (λ (k : ℕ). or_else k report) a ∙ ap (or_else (request_reason s q)) b ∙ sym (rw e)
-
--- a request that wants no work
-pub idle_reason : (s : Session) (used : ℕ) (q : Request) (r : Report) → is_closed s ≡ false →
-    first_of (report_tests q r) ≡ 0 → {n : ℕ} →
-    n ≡ request_reason s q → n ≡ step_reason s (Good used q) r
-idle_reason s used q r e idle {n} a = open_reason s used q r e a (sym idle) (same n)
-  where
-    same : (n : ℕ) → n ≡ or_else n 0
-    same n = go (eqb n 0) refl
-      where
-        go : (b : Bool) → eqb n 0 ≡ b → n ≡ cond b 0 n
-        go true f = eqb-true n 0 f
-        go false f = refl
-
-pub closed_reason : (s : Session) (used : ℕ) (q : Request) (r : Report) → is_closed s ≡ true →
-    Reason.closed ≡ step_reason s (Good used q) r
+pub closed_refuses : (s : Session) (q : Request) (r : Report) {reason : Reason} →
+    number_of reason ≡ closed_or (is_closed s) Reasons.accepted → Refuses s q r reason s
 unfolding look_reason
-closed_reason s used q r e = sym (rw e)
+closed_refuses s q r {reason} e = record { fails = go (is_closed s) refl e; kept = refl }
+  where
+    go : (b : Bool) → is_closed s ≡ b → number_of reason ≡ closed_or b Reasons.accepted →
+        number_of reason ≡ step_reason s (Good 0 q) r
+    go true h f = f ∙ sym (rw h)
+    go false h f = absurd (some_reason reason f)
 
--- a closed session names nothing
-module _ (s : Session) (used : ℕ) (q : Request) (r : Report) (b : List ℕ) (room : min_buffer ≤ length b)
-    (read : Read q) (closed : is_closed s ≡ true) where
-  nameless : Reply.Error (error_of Reason.closed no_names r) ≡ Reply.Error (error_of Reason.closed (names_of q) r)
-  unfolding number_of kind_named
-  nameless = refl
+pub unclosed : (s : Session) → Reasons.accepted ≡ closed_or (is_closed s) Reasons.accepted → is_closed s ≡ false
+unclosed s e = go (is_closed s) e
+  where
+    go : (b : Bool) → Reasons.accepted ≡ closed_or b Reasons.accepted → b ≡ false
+    go true f = absurd (omega arith)
+    go false f = refl
 
-  pub closed_refuses : {a : Answer} {after : List ℕ} →
-      Answers (refusing used Reason.closed) (Reply.Error (error_of Reason.closed no_names r)) b a after →
-      Does (step_on s (Good used q) r b) a s after
-  closed_refuses {a} {after} h =
-      refused-so s used q r b room read (closed_reason s used q r closed) (λ e. omega arith) refl
-      (subst (λ x. Answers (refusing used Reason.closed) x b a after) nameless h)
+module _ (s : Session) (q : Request) (r : Report) (opened : is_closed s ≡ false) where
+  by-both : step_reason s (Good 0 q) r ≡ or_else (request_reason s q) (first_of (report_tests q r))
+  unfolding look_reason report_reason request_reason
+  by-both = rw opened
 
--- ---- by the request
+  -- what is looked up refuses, or the report does
+  pub look_refuses : {reason : Reason} → number_of reason ≡ request_reason s q → Refuses s q r reason s
+  look_refuses {reason} e =
+      record {
+        fails =
+            without (first_of (report_tests q r)) (number_of reason)
+            (ne_eqb (number_of reason) 0 (some_reason reason))
+            ∙ ap (λ (n : ℕ). or_else n (first_of (report_tests q r))) e
+            ∙ sym by-both;
+        kept = refl;
+      }
 
-pub ready : {w b : List ℕ} {q p : Request} → Readable q b → q ≡ p → is_closed (session_of w) ≡ false → Ready w p b
-ready {w} {b} {q} {p} h e f = record { room = h.room; read = subst Read e h.read; unclosed = f }
+  module _ (passes : Reasons.accepted ≡ request_reason s q) where
+    pub reported : first_of (report_tests q r) ≡ step_reason s (Good 0 q) r
+    reported = ap (λ (n : ℕ). or_else n (first_of (report_tests q r))) passes ∙ sym by-both
 
-pub does_as : (s : Session) (used : ℕ) (r : Report) (b : List ℕ) {q p : Request} {a : Answer} {s' : Session}
-    {after : List ℕ} → q ≡ p →
-    Does (step_on s (Good used p) r b) a s' after → Does (step_on s (Good used q) r b) a s' after
-does_as s used r b {q} {p} {a} {s'} {after} e h = subst (λ x. Does (step_on s (Good used x) r b) a s' after) (sym e) h
+    pub report_refuses : {reason : Reason} → number_of reason ≡ first_of (report_tests q r) → Refuses s q r reason s
+    report_refuses e = record { fails = e ∙ reported; kept = refl }
+
+    pub decides : {sends : Sends} {s' : Session} → Reasons.accepted ≡ first_of (report_tests q r) →
+        sends ≡ sends_of s q r → s' ≡ session_after s q r → Accepts s q r sends s'
+    decides e f g = record { passes = e ∙ reported; sent = f; changed = g }
+
+-- what a `?` hands on is what was refused
+pub decides_err : {s : Session} {q : Request} {r : Report} {result : Result Sends Reason} {reason : Reason} {s' : Session}
+    → result ≡ Err reason → Refuses s q r reason s' → Decides s q r result s'
+decides_err {s} {q} {r} {s' = s'} e h = subst (λ x. Decides s q r x s') (sym e) h
+
+-- of the request that was read
+pub decides_as : (s : Session) (r : Report) (result : Result Sends Reason) (s' : Session) {q p : Request} → q ≡ p →
+    Decides s p r result s' → Decides s q r result s'
+decides_as s r result s' e h = subst (λ x. Decides s x r result s') (sym e) h

@@ -1,15 +1,15 @@
 // The answer of a step, with its reply put at the front of the buffer.
 ghost use Rattle.std.specs.Prelude.{◌≡◌, false};
-ghost use Rattle.protocol.specs.Reason as Reason;
-ghost use Rattle.args.specs.Arguments.{no_arguments};
+ghost use Rattle.protocol.specs.Reason.{number_of};
 ghost use Rattle.reply.specs.declared.Reply.{Reply};
 ghost use Rattle.rules.specs.Decision.{wire_code};
-ghost use Rattle.keeper.specs.private.Does.{Answers, Replies, accepting, error_of, kind_named, names_by, number_of};
-ghost use Rattle.keeper.specs.private.Does.{refusing};
+ghost use Rattle.keeper.specs.private.Does.{Answers, Replies, accepting, error_of, kind_named, names_by};
+ghost use Rattle.keeper.specs.private.Does.{names_of, number_named, refusing};
 
 use args::arguments::Arguments;
-use encode::put::place_behind;
+use message::request::{Fetch, Request};
 use protocol::reason;
+use protocol::reason::Reason;
 use reply::{Refusal, Reply};
 use rules::{Answer, Report};
 
@@ -50,28 +50,37 @@ pub(crate) const JUST_OK: Sends = Sends {
     reply: Reply::Ok,
 };
 
-// The names of a message with arguments, and of one without.
-pub(crate) fn bound(stmt: u32, cursor: u32, args: Arguments) -> Names
-    ensures { result ≡ names_by stmt cursor args }
-{
-    Names {
-        stmt: stmt as u64,
-        cursor: cursor as u64,
-        index: args.index as u64,
-        count: args.count as u64,
-        kind: args.kind,
+impl Names {
+    pub fn of(request: &Request) -> Names
+        ensures { result ≡ names_of request.now }
+    {
+        match *request {
+            Request::Reset | Request::SessionClose => NO_NAMES,
+            Request::Prepare(p) => Names::bound(p.stmt, 0, p.args),
+            Request::Execute(x) => Names::bound(x.stmt, 0, x.args),
+            Request::Deallocate(stmt) => Names {
+                stmt: u64::from(stmt),
+                ..NO_NAMES
+            },
+            Request::Open(o) => Names::bound(o.execute.stmt, o.cursor, o.execute.args),
+            Request::Close(cursor) | Request::Fetch(Fetch { cursor, .. }) => Names {
+                cursor: u64::from(cursor),
+                ..NO_NAMES
+            },
+        }
     }
-}
 
-pub(crate) fn unbound(stmt: u32, cursor: u32) -> Names
-    ensures { result ≡ names_by stmt cursor (no_arguments 0 0) }
-{
-    Names {
-        stmt: stmt as u64,
-        cursor: cursor as u64,
-        index: 0,
-        count: 0,
-        kind: 0,
+    // Of a message with arguments.
+    fn bound(stmt: u32, cursor: u32, args: Arguments) -> Names
+        ensures { result ≡ names_by stmt cursor args }
+    {
+        Names {
+            stmt: u64::from(stmt),
+            cursor: u64::from(cursor),
+            index: args.index as u64,
+            count: args.count as u64,
+            kind: args.kind,
+        }
     }
 }
 
@@ -79,7 +88,7 @@ pub(crate) fn unbound(stmt: u32, cursor: u32) -> Names
 fn put_reply(buf: &mut [u8], what: Reply) -> usize
     ensures { Replies what buf.old result buf.new }
 {
-    place_behind(reply::write_reply(buf, what))
+    reply::write_reply(buf, what).unwrap_or(0)
 }
 
 // An accepted step.
@@ -100,11 +109,11 @@ pub(crate) fn accept(buf: &mut [u8], used: usize, sends: Sends) -> Answer
 }
 
 // A step that is refused for want of room or before anything is read of the frame: nothing is written or used.
-pub(crate) fn refuse_silently(reason: u64) -> Answer
-    ensures { result ≡ refusing 0 reason }
+pub(crate) fn refuse_silently(reason: Reason) -> Answer
+    ensures { result ≡ refusing 0 (number_of reason) }
 {
     Answer {
-        reason,
+        reason: u64::from(reason),
         used: 0,
         reply: 0,
         columns: false,
@@ -115,59 +124,58 @@ pub(crate) fn refuse_silently(reason: u64) -> Answer
 }
 
 // The wire code of a refusal: for a failure the engine's own.
-fn wire_code(report: Report, reason: u64) -> u64
-    ensures { result ≡ wire_code report reason }
+fn wire_code(report: Report, reason: Reason) -> u64
+    ensures { result ≡ wire_code report (number_of reason) }
 {
-    if reason == reason::ENGINE_FAILED {
-        return report.code;
+    match reason {
+        Reason::EngineFailed => report.code,
+        _ => reply::code_of(u64::from(reason)),
     }
-    reply::code_of(reason)
 }
 
 // The id, index or count that an Error's text names.
-fn number_of(reason: u64, names: Names) -> u64
-    ensures { result ≡ number_of reason names }
+fn number_named(reason: Reason, names: Names) -> u64
+    ensures { result ≡ number_named (number_of reason) names }
 {
     match reason {
-        reason::NO_STMT => names.stmt,
-        reason::NOT_SCALAR => names.index,
-        reason::FEW_ARGUMENTS => names.count,
-        reason::NO_CURSOR => names.cursor,
-        reason::ALL_SENT => names.cursor,
+        Reason::NoStmt => names.stmt,
+        Reason::NotScalar => names.index,
+        Reason::FewArguments => names.count,
+        Reason::NoCursor | Reason::AllSent => names.cursor,
         _ => 0,
     }
 }
 
 // The type of the argument that an Error's text names.
-fn kind_named(reason: u64, names: Names) -> u64
-    ensures { result ≡ kind_named reason names }
+fn kind_named(reason: Reason, names: Names) -> u64
+    ensures { result ≡ kind_named (number_of reason) names }
 {
-    if reason == reason::NOT_SCALAR {
-        return names.kind;
+    match reason {
+        Reason::NotScalar => names.kind,
+        _ => 0,
     }
-    0
 }
 
 // A step that is refused with an Error.
 pub(crate) fn refuse(
     buf: &mut [u8],
     used: usize,
-    reason: u64,
+    reason: Reason,
     names: Names,
     report: Report,
 ) -> Answer
-    ensures { Answers (refusing used reason) (Reply.Error (error_of reason names report)) buf.old result
-        buf.new }
+    ensures { Answers (refusing used (number_of reason)) (Reply.Error (error_of (number_of reason) names report))
+        buf.old result buf.new }
 {
     let refusal = Refusal {
-        reason,
+        reason: u64::from(reason),
         code: wire_code(report, reason),
-        number: number_of(reason, names),
+        number: number_named(reason, names),
         kind: kind_named(reason, names),
     };
     let n = put_reply(buf, Reply::Error(refusal));
     Answer {
-        reason,
+        reason: refusal.reason,
         used,
         reply: n,
         columns: false,

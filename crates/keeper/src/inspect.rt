@@ -1,23 +1,23 @@
 // A look at a frame that is read already, and what the frame touches in the tables, for a host that keeps something of
 // its own for each entry. A place serves both; the statement that arguments are bound to is looked up for each.
-ghost use Rattle.std.specs.Prelude.{◌≡◌, cond, eqb};
-ghost use Rattle.protocol.specs.Reason as Reason;
+ghost use Rattle.std.specs.Prelude.{◌≡◌, None};
+ghost use Rattle.protocol.specs.Reason.{number_of, outcome_number};
 ghost use Rattle.message.specs.declared.request.Frame.{Frame};
 ghost use Rattle.message.specs.declared.request.Request.{Request};
 ghost use Rattle.session.specs.Entry.{on_stmt};
 ghost use Rattle.session.specs.Lists.{mask_of};
 ghost use Rattle.session.specs.Session.{is_closed};
 ghost use Rattle.session.specs.Words.{session_of};
-ghost use Rattle.session.specs.declared.Place.{Place};
 ghost use Rattle.rules.specs.Decision.{look_of, look_refused};
 ghost use Rattle.rules.specs.Inspect.{touches, touches_in, touches_of};
-ghost use Rattle.keeper.specs.private.Reasons.{closed_or, look_rows, look_work};
+ghost use Rattle.rules.specs.Report.{work_number};
+ghost use Rattle.keeper.specs.private.Reasons.{closed_or, look_or, look_work};
 
-use crate::{look, refusal, rows};
-use message::request::{Fetch, Frame, Open, Optional, Request};
-use protocol::reason;
-use rules::{Look, Touches};
-use session::{Cursor, MAX_CURSORS, MAX_STMTS, Place, WORDS, Which, find, mask};
+use crate::{look, refusal};
+use message::request::{Fetch, Frame, Open, Request};
+use protocol::reason::Reason;
+use rules::{Look, Touches, Work};
+use session::{MAX_CURSORS, MAX_STMTS, WORDS, Which, find, mask};
 
 #[derive(Clone, Copy)]
 pub struct Inspected {
@@ -31,16 +31,12 @@ pub fn inspect(words: &[u32; WORDS], frame: Frame) -> Inspected
     ensures touches { result.touches ≡ touches_in (session_of words.now) frame }
 {
     match frame {
-        Frame::NotAllThere => refused(reason::NOT_ALL_THERE),
-        Frame::BadLength => refused(reason::BAD_LENGTH),
-        Frame::UnknownType { used: _ } => refused(refusal::closed_or(words, reason::UNKNOWN_TYPE)),
-        Frame::BadPayload { used: _, kind: _ } => {
-            refused(refusal::closed_or(words, reason::BAD_PAYLOAD))
-        }
-        Frame::BodyTwice { used: _, kind: _ } => {
-            refused(refusal::closed_or(words, reason::BODY_TWICE))
-        }
-        Frame::Good { used: _, request } => inspect_at(words, request),
+        Frame::NotAllThere => refused(Reason::NotAllThere),
+        Frame::BadLength => refused(Reason::BadLength),
+        Frame::UnknownType { .. } => refused(refusal::closed_or(words, Reason::UnknownType)),
+        Frame::BadPayload { .. } => refused(refusal::closed_or(words, Reason::BadPayload)),
+        Frame::BodyTwice { .. } => refused(refusal::closed_or(words, Reason::BodyTwice)),
+        Frame::Good { request, .. } => inspect_at(words, request),
     }
 }
 
@@ -50,44 +46,30 @@ fn inspect_at(words: &[u32; WORDS], request: Request) -> Inspected
     ensures touches { result.touches ≡ touches_of (session_of words.now) request }
 {
     match request {
-        Request::Reset => all_end(words),
-        Request::SessionClose => all_end(words),
+        Request::Reset | Request::SessionClose => all_end(words),
         Request::Prepare(p) => {
             let place = find::stmt_place(words, p.stmt);
-            let refusal = refusal::full(place, reason::STMTS_FULL);
-            told(
-                words,
-                refusal,
-                rules::PREPARE,
-                on_stmt(words, place, p.stmt),
-            )
+            let outcome = refusal::room(place, Reason::StmtsFull);
+            told(words, outcome, Work::Prepare, on_stmt(words, place, p.stmt))
         }
         Request::Execute(x) => {
             let place = find::find_stmt(words, x.stmt);
-            let refusal = refusal::execute(words, x);
-            told(
-                words,
-                refusal,
-                rules::EXECUTE,
-                on_stmt(words, place, x.stmt),
-            )
+            let outcome = refusal::execute(words, x);
+            told(words, outcome, Work::Execute, on_stmt(words, place, x.stmt))
         }
         Request::Deallocate(stmt) => {
             let place = find::find_stmt(words, stmt);
-            let refusal = refusal::dead_stmt(session::words::stmt_at(words, place));
-            told(words, refusal, rules::NO_WORK, on_stmt(words, place, stmt))
+            let entry = session::words::stmt_at(words, place);
+            let outcome = refusal::live(entry.live, Reason::NoStmt);
+            told(words, outcome, Work::Nothing, on_stmt(words, place, stmt))
         }
         Request::Open(o) => inspect_open(words, o),
         Request::Close(cursor) => {
             let place = find::find_cursor(words, cursor);
-            let refusal = refusal::dead_cursor(session::words::cursor_at(words, place));
+            let entry = session::words::cursor_at(words, place);
+            let outcome = refusal::live(entry.live, Reason::NoCursor);
             let ends = mask::passing(words, Which::Id(cursor));
-            told(
-                words,
-                refusal,
-                rules::NO_WORK,
-                touches(Place::Nothing, place, ends),
-            )
+            told(words, outcome, Work::Nothing, touches(None, place, ends))
         }
         Request::Fetch(f) => inspect_fetch(words, f),
     }
@@ -98,8 +80,8 @@ fn all_end(words: &[u32; WORDS]) -> Inspected
     ensures look { result.look ≡ look_of (session_of words.now) (Frame.Good 0 Request.Reset) }
     ensures touches { result.touches ≡ touches_of (session_of words.now) Request.Reset }
 {
-    let all = touches(Place::Nothing, Place::Nothing, mask::live(words));
-    told(words, reason::ACCEPTED, rules::NO_WORK, all)
+    let all = touches(None, None, mask::passing(words, Which::Live));
+    told(words, Ok(()), Work::Nothing, all)
 }
 
 fn inspect_open(words: &[u32; WORDS], o: Open) -> Inspected
@@ -109,9 +91,9 @@ fn inspect_open(words: &[u32; WORDS], o: Open) -> Inspected
     let x = o.execute;
     let stmt = find::find_stmt(words, x.stmt);
     let place = find::cursor_place(words, o.cursor);
-    let refusal = refusal::open(words, o, place);
+    let outcome = refusal::open(words, o, place);
     let ends = mask::passing(words, Which::Id(o.cursor));
-    told(words, refusal, rules::OPEN, touches(stmt, place, ends))
+    told(words, outcome, Work::Open, touches(stmt, place, ends))
 }
 
 // Of a Fetch also the rows to send. It ends nothing.
@@ -121,64 +103,53 @@ fn inspect_fetch(words: &[u32; WORDS], f: Fetch) -> Inspected
 {
     let place = find::find_cursor(words, f.cursor);
     let cursor = session::words::cursor_at(words, place);
-    let refusal = refusal::closed_or(words, refusal::fetch(cursor));
-    let asked = f.rows;
+    let outcome = refusal::unclosed(words).and(refusal::fetch(cursor));
     Inspected {
-        look: fetch_look(refusal, cursor, asked),
-        touches: touches(Place::Nothing, place, 0),
-    }
-}
-
-fn fetch_look(refusal: u64, cursor: Cursor, asked: Optional) -> Look
-    ensures { result ≡ cond (eqb refusal Reason.accepted) (look_rows cursor asked) (look_refused refusal) }
-{
-    if refusal != reason::ACCEPTED {
-        return look::refused(refusal);
-    }
-    Look {
-        reason: reason::ACCEPTED,
-        work: rules::FETCH,
-        first: cursor.sent as u64,
-        count: rows::fetch_count(cursor, asked),
-        padded: false,
+        look: look::found_rows(outcome, cursor, f.rows),
+        touches: touches(None, place, 0),
     }
 }
 
 // Refused, or this work is wanted; closed comes first.
-fn told(words: &[u32; WORDS], reason: u64, work: u64, touches: Touches) -> Inspected
-    ensures look { result.look ≡ cond (eqb (closed_or (is_closed (session_of words.now)) reason) Reason.accepted)
-        (look_work work) (look_refused (closed_or (is_closed (session_of words.now)) reason)) }
+fn told(
+    words: &[u32; WORDS],
+    outcome: Result<(), Reason>,
+    work: Work,
+    touches: Touches,
+) -> Inspected
+    ensures look { result.look ≡ look_or (closed_or (is_closed (session_of words.now)) (outcome_number outcome))
+        (look_work (work_number work)) }
     ensures touches { result.touches ≡ touches }
 {
     Inspected {
-        look: look::found(refusal::closed_or(words, reason), work),
+        look: look::found(refusal::unclosed(words).and(outcome), work),
         touches,
     }
 }
 
-fn refused(reason: u64) -> Inspected
-    ensures look { result.look ≡ look_refused reason }
-    ensures touches { result.touches ≡ touches Place.Nothing Place.Nothing 0 }
+fn refused(reason: Reason) -> Inspected
+    ensures look { result.look ≡ look_refused (number_of reason) }
+    ensures touches { result.touches ≡ touches None None 0 }
 {
     Inspected {
         look: look::refused(reason),
-        touches: touches(Place::Nothing, Place::Nothing, 0),
+        touches: touches(None, None, 0),
     }
 }
 
 // A statement at a place, whose cursor ends.
-fn on_stmt(words: &[u32; WORDS], place: Place, stmt: u32) -> Touches
-    ensures { result ≡ touches place Place.Nothing (mask_of (on_stmt stmt) (session_of words.now).cursors) }
+fn on_stmt(words: &[u32; WORDS], place: Option<usize>, stmt: u32) -> Touches
+    ensures { result ≡ touches place None (mask_of (on_stmt stmt) (session_of words.now).cursors) }
 {
-    touches(place, Place::Nothing, mask::passing(words, Which::On(stmt)))
+    touches(place, None, mask::passing(words, Which::On(stmt)))
 }
 
-fn touches(stmt: Place, cursor: Place, ends: u64) -> Touches
+fn touches(stmt: Option<usize>, cursor: Option<usize>, ends: u64) -> Touches
     ensures { result ≡ touches stmt cursor ends }
 {
     Touches {
-        stmt: session::words::index(stmt, MAX_STMTS),
-        cursor: session::words::index(cursor, MAX_CURSORS),
+        stmt: stmt.unwrap_or(MAX_STMTS),
+        cursor: cursor.unwrap_or(MAX_CURSORS),
         ends,
     }
 }

@@ -7,6 +7,7 @@ pub mod inspect;
 pub mod look;
 pub mod padded;
 mod refusal;
+mod report;
 mod rows;
 pub mod step;
 pub mod value;

@@ -1,89 +1,75 @@
-// Why a request or an engine report is refused, by the entries that were looked up. 0 is accepted.
-ghost use Rattle.std.specs.Prelude.{◌≡◌, not};
-ghost use Rattle.protocol.specs.Reason as Reason;
+// Why a request is refused, by the entries that were looked up.
+ghost use Rattle.std.specs.Prelude.{◌≡◌, not, is_none};
+ghost use Rattle.protocol.specs.Reason.{accepted, number_of, outcome_number};
 ghost use Rattle.message.specs.declared.request.Request.{Request};
-ghost use Rattle.session.specs.Entry.{is_live_stmt, is_live_cursor};
-ghost use Rattle.session.specs.Session.{is_closed};
+ghost use Rattle.session.specs.Session.{flag, is_closed};
 ghost use Rattle.session.specs.Tables.{cursor_place};
 ghost use Rattle.session.specs.Words.{session_of};
-ghost use Rattle.rules.specs.Refusal.{no_place};
-ghost use Rattle.rules.specs.Report.{fails, is_done, is_prepared, is_result};
-ghost use Rattle.keeper.specs.private.Reasons.{binding_reason, closed_or, consulted, cursor_reason, fetch_reason};
-ghost use Rattle.keeper.specs.private.Reasons.{or_else, request_reason, unless};
+ghost use Rattle.keeper.specs.private.Reasons.{binding_reason, closed_or, cursor_reason, fetch_reason};
+ghost use Rattle.keeper.specs.private.Reasons.{request_reason, unless};
 
 use args::arguments::Arguments;
 use message::request::{Execute, Open};
-use protocol::{anys, reason};
-use rules::Report;
-use session::{Cursor, Place, Stmt, WORDS};
+use protocol::anys;
+use protocol::reason::Reason;
+use session::{Cursor, Stmt, WORDS};
 
-// The first of two refusals.
-pub(crate) fn or_else(first: u64, next: u64) -> u64
-    ensures { result ≡ or_else first next }
-{
-    if first != reason::ACCEPTED {
-        return first;
-    }
-    next
-}
-
-// 4, or the refusal of a frame by itself.
-pub(crate) fn closed_or(words: &[u32; WORDS], other: u64) -> u64
-    ensures { result ≡ closed_or (is_closed (session_of words.now)) other }
+// A closed session refuses a frame before what is wrong with the frame itself.
+pub(crate) fn closed_or(words: &[u32; WORDS], other: Reason) -> Reason
+    ensures { number_of result ≡ closed_or (is_closed (session_of words.now)) (number_of other) }
 {
     if session::words::is_closed(words) {
-        return reason::CLOSED;
+        return Reason::Closed;
     }
     other
 }
 
-// A table without a place for a new entry.
-pub(crate) fn full(place: Place, refusal: u64) -> u64
-    ensures { result ≡ unless (not (no_place place)) refusal }
+// And before what the request is refused for.
+pub(crate) fn unclosed(words: &[u32; WORDS]) -> Result<(), Reason>
+    ensures { outcome_number result ≡ closed_or (is_closed (session_of words.now)) accepted }
+{
+    if session::words::is_closed(words) {
+        return Err(Reason::Closed);
+    }
+    Ok(())
+}
+
+// A table has a place for a new entry.
+pub(crate) fn room(place: Option<usize>, full: Reason) -> Result<(), Reason>
+    ensures { outcome_number result ≡ unless (not (is_none place)) (number_of full) }
 {
     match place {
-        Place::At(_) => reason::ACCEPTED,
-        Place::Nothing => refusal,
+        Some(_) => Ok(()),
+        None => Err(full),
     }
 }
 
-// A statement that is not live, a cursor that is not live.
-pub(crate) fn dead_stmt(stmt: Stmt) -> u64
-    ensures { result ≡ unless (is_live_stmt stmt) Reason.no_stmt }
+// An entry is live, by its flag.
+pub(crate) fn live(mark: u32, dead: Reason) -> Result<(), Reason>
+    ensures { outcome_number result ≡ unless (flag mark) (number_of dead) }
 {
-    if stmt.live == 0 {
-        return reason::NO_STMT;
+    if mark == 0 {
+        return Err(dead);
     }
-    reason::ACCEPTED
-}
-
-pub(crate) fn dead_cursor(cursor: Cursor) -> u64
-    ensures { result ≡ unless (is_live_cursor cursor) Reason.no_cursor }
-{
-    if cursor.live == 0 {
-        return reason::NO_CURSOR;
-    }
-    reason::ACCEPTED
+    Ok(())
 }
 
 // A statement that arguments are bound to.
-fn binding(stmt: Stmt, args: Arguments) -> u64
-    ensures { result ≡ binding_reason stmt args }
+fn binding(stmt: Stmt, args: Arguments) -> Result<(), Reason>
+    ensures { outcome_number result ≡ binding_reason stmt args }
 {
-    if stmt.live == 0 {
-        return reason::NO_STMT;
-    }
+    live(stmt.live, Reason::NoStmt)?;
     if args.kind != anys::NONE {
-        return reason::NOT_SCALAR;
+        return Err(Reason::NotScalar);
     }
     if args.count < stmt.placeholders as usize {
-        return reason::FEW_ARGUMENTS;
+        return Err(Reason::FewArguments);
     }
-    reason::ACCEPTED
+    Ok(())
 }
 
-pub(crate) fn execute(words: &[u32; WORDS], x: Execute) -> u64
-    ensures { result ≡ request_reason (session_of words.now) (Request.Execute x) }
+pub(crate) fn execute(words: &[u32; WORDS], x: Execute) -> Result<(), Reason>
+    ensures { outcome_number result ≡ request_reason (session_of words.now) (Request.Execute x) }
 {
     let place = session::find::find_stmt(words, x.stmt);
     let args = x.args;
@@ -91,101 +77,34 @@ pub(crate) fn execute(words: &[u32; WORDS], x: Execute) -> u64
 }
 
 // A cursor to open: the cursor that its statement carries, and the place that it takes.
-fn opening(id: u32, carried: Cursor, place: Place) -> u64
-    ensures { result ≡ cursor_reason id carried place }
+fn opening(id: u32, carried: Cursor, place: Option<usize>) -> Result<(), Reason>
+    ensures { outcome_number result ≡ cursor_reason id carried place }
 {
-    if carried.live != 0 {
-        if carried.id != id {
-            return reason::OTHER_CURSOR;
-        }
+    if carried.live != 0 && carried.id != id {
+        return Err(Reason::OtherCursor);
     }
-    full(place, reason::CURSORS_FULL)
+    room(place, Reason::CursorsFull)
 }
 
-pub(crate) fn open(words: &[u32; WORDS], o: Open, place: Place) -> u64
+pub(crate) fn open(words: &[u32; WORDS], o: Open, place: Option<usize>) -> Result<(), Reason>
     requires { place ≡ cursor_place (session_of words.now) o.cursor }
-    ensures { result ≡ request_reason (session_of words.now) (Request.Open o) }
+    ensures { outcome_number result ≡ request_reason (session_of words.now) (Request.Open o) }
 {
     let x = o.execute;
     let args = x.args;
     let at = session::find::find_stmt(words, x.stmt);
-    let bound = binding(session::words::stmt_at(words, at), args);
-    if bound != reason::ACCEPTED {
-        return bound;
-    }
+    binding(session::words::stmt_at(words, at), args)?;
     let on = session::find::find_on(words, x.stmt);
     opening(o.cursor, session::words::cursor_at(words, on), place)
 }
 
 // A cursor that is to send rows.
-pub(crate) fn fetch(cursor: Cursor) -> u64
-    ensures { result ≡ fetch_reason cursor }
+pub(crate) fn fetch(cursor: Cursor) -> Result<(), Reason>
+    ensures { outcome_number result ≡ fetch_reason cursor }
 {
-    if cursor.live == 0 {
-        return reason::NO_CURSOR;
-    }
+    live(cursor.live, Reason::NoCursor)?;
     if cursor.rows <= cursor.sent {
-        return reason::ALL_SENT;
+        return Err(Reason::AllSent);
     }
-    reason::ACCEPTED
-}
-
-// A failure of the engine, with a code of 32 bits that is not 0.
-fn has_failed(r: Report) -> bool
-    ensures { result ≡ fails r }
-{
-    if r.kind != rules::FAILED {
-        return false;
-    }
-    if r.code == 0 {
-        return false;
-    }
-    r.code <= rules::MAX_NUMBER
-}
-
-// A report that suits the work or not.
-pub(crate) fn report(suits: bool, r: Report) -> u64
-    ensures { result ≡ consulted suits (fails r) }
-{
-    if has_failed(r) {
-        return reason::ENGINE_FAILED;
-    }
-    if suits {
-        return reason::ACCEPTED;
-    }
-    reason::BAD_REPORT
-}
-
-// The reports within their limits.
-pub(crate) fn is_prepared(r: Report) -> bool
-    ensures { result ≡ is_prepared r }
-{
-    if r.kind != rules::PREPARED {
-        return false;
-    }
-    r.placeholders <= rules::MAX_PLACEHOLDERS
-}
-
-pub(crate) fn is_result(r: Report) -> bool
-    ensures { result ≡ is_result r }
-{
-    if r.kind != rules::RESULT {
-        return false;
-    }
-    if rules::MAX_COLUMNS < r.columns {
-        return false;
-    }
-    if rules::MAX_NUMBER < r.rows {
-        return false;
-    }
-    if r.columns != 0 {
-        return true;
-    }
-    r.rows == 0
-}
-
-pub(crate) fn is_done(r: Report) -> bool
-    ensures { result ≡ is_done r }
-{
-    r.kind == rules::DONE
+    Ok(())
 }

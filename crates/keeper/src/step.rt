@@ -1,16 +1,17 @@
 // A step on a frame, under an engine report: the session after it stands in the same words, the reply's bytes at the
 // front of the buffer.
-ghost use Rattle.std.specs.Prelude.{◌≡◌};
+ghost use Rattle.std.specs.Prelude.{◌≡◌, false};
 ghost use Rattle.message.specs.declared.request.Request.{Request};
+ghost use Rattle.session.specs.Session.{is_closed};
 ghost use Rattle.session.specs.Words.{session_of};
+ghost use Rattle.rules.specs.declared.Report.{Report};
 ghost use Rattle.rules.specs.Step.{step_of};
-ghost use Rattle.keeper.specs.private.Does.{Readable, Ready, Steps};
+ghost use Rattle.keeper.specs.private.Does.{Decides, Readable, Steps};
 
-use crate::answer::{Names, Sends};
-use crate::{answer, padded, refusal, rows};
+use crate::answer::{JUST_OK, NO_NAMES, Names, Sends};
+use crate::{answer, padded, refusal, report, rows};
 use message::request::{Execute, Fetch, Frame, Open, Prepare, Request};
-use protocol::reason;
-use reply::Reply;
+use protocol::reason::Reason;
 use rules::{Answer, Report};
 use session::{WORDS, Which};
 
@@ -22,23 +23,23 @@ pub fn step(words: &mut [u32; WORDS], frame: &[u8], report: Report, reply: &mut 
         ≡ (step_of (session_of words.old) frame.now report reply.old).buffer }
 {
     if reply.len() < rules::MIN_BUFFER {
-        return answer::refuse_silently(reason::NO_ROOM);
+        return answer::refuse_silently(Reason::NoRoom);
     }
     let mut padded = false;
     match message::frame::read_frame(frame, &mut padded) {
-        Frame::NotAllThere => answer::refuse_silently(reason::NOT_ALL_THERE),
-        Frame::BadLength => answer::refuse_silently(reason::BAD_LENGTH),
+        Frame::NotAllThere => answer::refuse_silently(Reason::NotAllThere),
+        Frame::BadLength => answer::refuse_silently(Reason::BadLength),
         Frame::UnknownType { used } => {
-            let refusal = refusal::closed_or(words, reason::UNKNOWN_TYPE);
-            answer::refuse(reply, used, refusal, answer::NO_NAMES, report)
+            let reason = refusal::closed_or(words, Reason::UnknownType);
+            answer::refuse(reply, used, reason, NO_NAMES, report)
         }
-        Frame::BadPayload { used, kind: _ } => {
-            let refusal = refusal::closed_or(words, reason::BAD_PAYLOAD);
-            answer::refuse(reply, used, refusal, answer::NO_NAMES, report)
+        Frame::BadPayload { used, .. } => {
+            let reason = refusal::closed_or(words, Reason::BadPayload);
+            answer::refuse(reply, used, reason, NO_NAMES, report)
         }
-        Frame::BodyTwice { used, kind: _ } => {
-            let refusal = refusal::closed_or(words, reason::BODY_TWICE);
-            let mut answer = answer::refuse(reply, used, refusal, answer::NO_NAMES, report);
+        Frame::BodyTwice { used, .. } => {
+            let reason = refusal::closed_or(words, Reason::BodyTwice);
+            let mut answer = answer::refuse(reply, used, reason, NO_NAMES, report);
             answer.padded = padded::said(answer.reason, padded);
             answer
         }
@@ -50,7 +51,7 @@ pub fn step(words: &mut [u32; WORDS], frame: &[u8], report: Report, reply: &mut 
     }
 }
 
-// The step on a request; nothing is said of padding yet. What a closed session refuses names nothing.
+// The step on a request; nothing is said of padding yet.
 fn step_on(
     words: &mut [u32; WORDS],
     used: usize,
@@ -62,157 +63,102 @@ fn step_on(
     ensures { Steps used request report result words.old buf.old words.new
         buf.new }
 {
-    if session::words::is_closed(words) {
-        return answer::refuse(buf, used, reason::CLOSED, answer::NO_NAMES, report);
+    match decide(words, &request, report) {
+        Ok(sends) => answer::accept(buf, used, sends),
+        Err(reason) => answer::refuse(buf, used, reason, Names::of(&request), report),
     }
-    match request {
-        Request::Fetch(f) => fetch(words, used, f, report, buf),
-        Request::Execute(x) => execute(words, used, x, report, buf),
-        Request::Prepare(p) => prepare(words, used, p, report, buf),
-        Request::Open(o) => open(words, used, o, report, buf),
-        Request::Close(cursor) => close(words, used, cursor, report, buf),
-        Request::Deallocate(stmt) => deallocate(words, used, stmt, report, buf),
+}
+
+// What an accepted request sends; it changes the session. One that is refused leaves it as it was.
+fn decide(words: &mut [u32; WORDS], request: &Request, report: Report) -> Result<Sends, Reason>
+    ensures { Decides (session_of words.old) request.now report result (session_of words.new) }
+{
+    refusal::unclosed(words)?;
+    match *request {
+        Request::Fetch(f) => fetch(words, f, report),
+        Request::Execute(x) => execute(words, x, report),
+        Request::Prepare(p) => prepare(words, p, report),
+        Request::Open(o) => open(words, o, report),
+        Request::Close(cursor) => close(words, cursor),
+        Request::Deallocate(stmt) => deallocate(words, stmt),
         Request::Reset => {
             session::words::clear(words);
-            answer::accept(buf, used, answer::JUST_OK)
+            Ok(JUST_OK)
         }
         Request::SessionClose => {
             session::words::close(words);
-            answer::accept(buf, used, answer::JUST_OK)
+            Ok(JUST_OK)
         }
     }
 }
 
-fn prepare(
-    words: &mut [u32; WORDS],
-    used: usize,
-    p: Prepare,
-    report: Report,
-    buf: &mut [u8],
-) -> Answer
-    requires { Ready words.old (Request.Prepare p) buf.old }
-    ensures { Steps used (Request.Prepare p) report result words.old buf.old words.new
-        buf.new }
+fn prepare(words: &mut [u32; WORDS], p: Prepare, report: Report) -> Result<Sends, Reason>
+    requires { is_closed (session_of words.old) ≡ false }
+    ensures { Decides (session_of words.old) (Request.Prepare p) report result (session_of words.new) }
 {
     let place = session::find::stmt_place(words, p.stmt);
-    let looked = refusal::full(place, reason::STMTS_FULL);
-    let suited = refusal::report(refusal::is_prepared(report), report);
-    let reason = refusal::or_else(looked, suited);
-    if reason != reason::ACCEPTED {
-        let args = p.args;
-        let names = answer::bound(p.stmt, 0, args);
-        return answer::refuse(buf, used, reason, names, report);
-    }
-    session::change::prepare(words, place, p.stmt, report.placeholders as u32);
-    answer::accept(buf, used, answer::JUST_OK)
+    refusal::room(place, Reason::StmtsFull)?;
+    let placeholders = report::prepared(report)?;
+    session::change::prepare(words, place, p.stmt, placeholders);
+    Ok(JUST_OK)
 }
 
-fn execute(
-    words: &mut [u32; WORDS],
-    used: usize,
-    x: Execute,
-    report: Report,
-    buf: &mut [u8],
-) -> Answer
-    requires { Ready words.old (Request.Execute x) buf.old }
-    ensures { Steps used (Request.Execute x) report result words.old buf.old words.new
-        buf.new }
+fn execute(words: &mut [u32; WORDS], x: Execute, report: Report) -> Result<Sends, Reason>
+    requires { is_closed (session_of words.old) ≡ false }
+    ensures { Decides (session_of words.old) (Request.Execute x) report result (session_of words.new) }
 {
-    let looked = refusal::execute(words, x);
-    let suited = refusal::report(refusal::is_result(report), report);
-    let reason = refusal::or_else(looked, suited);
-    if reason != reason::ACCEPTED {
-        let args = x.args;
-        let names = answer::bound(x.stmt, 0, args);
-        return answer::refuse(buf, used, reason, names, report);
-    }
+    refusal::execute(words, x)?;
+    let set = report::result_set(report)?;
     session::change::end(words, Which::On(x.stmt));
-    answer::accept(buf, used, rows::all(report))
+    Ok(rows::all(set))
 }
 
-fn open(words: &mut [u32; WORDS], used: usize, o: Open, report: Report, buf: &mut [u8]) -> Answer
-    requires { Ready words.old (Request.Open o) buf.old }
-    ensures { Steps used (Request.Open o) report result words.old buf.old words.new
-        buf.new }
+fn open(words: &mut [u32; WORDS], o: Open, report: Report) -> Result<Sends, Reason>
+    requires { is_closed (session_of words.old) ≡ false }
+    ensures { Decides (session_of words.old) (Request.Open o) report result (session_of words.new) }
 {
-    let x = o.execute;
     let place = session::find::cursor_place(words, o.cursor);
-    let looked = refusal::open(words, o, place);
-    let suited = refusal::report(refusal::is_result(report), report);
-    let reason = refusal::or_else(looked, suited);
-    if reason != reason::ACCEPTED {
-        let args = x.args;
-        let names = answer::bound(x.stmt, o.cursor, args);
-        return answer::refuse(buf, used, reason, names, report);
-    }
-    let asked = o.rows;
-    let count = rows::open_count(asked, report.rows);
-    session::change::open(
-        words,
-        place,
-        o.cursor,
-        x.stmt,
-        report.rows as u32,
-        count as u32,
-    );
-    answer::accept(buf, used, rows::opened(report, count))
+    refusal::open(words, o, place)?;
+    let set = report::result_set(report)?;
+    let count = rows::open_count(o.rows, set.rows);
+    session::change::open(words, place, o.cursor, o.execute.stmt, set.rows, count);
+    Ok(rows::opened(set, count))
 }
 
-fn fetch(words: &mut [u32; WORDS], used: usize, f: Fetch, report: Report, buf: &mut [u8]) -> Answer
-    requires { Ready words.old (Request.Fetch f) buf.old }
-    ensures { Steps used (Request.Fetch f) report result words.old buf.old words.new
-        buf.new }
+fn fetch(words: &mut [u32; WORDS], f: Fetch, report: Report) -> Result<Sends, Reason>
+    requires { is_closed (session_of words.old) ≡ false }
+    ensures { Decides (session_of words.old) (Request.Fetch f) report result (session_of words.new) }
 {
     let place = session::find::find_cursor(words, f.cursor);
     let cursor = session::words::cursor_at(words, place);
-    let looked = refusal::fetch(cursor);
-    let suited = refusal::report(refusal::is_done(report), report);
-    let reason = refusal::or_else(looked, suited);
-    if reason != reason::ACCEPTED {
-        return answer::refuse(buf, used, reason, answer::unbound(0, f.cursor), report);
-    }
-    let asked = f.rows;
-    let count = rows::fetch_count(cursor, asked);
-    session::words::put_sent(words, place, rows::sent_after(cursor, count));
-    answer::accept(buf, used, rows::fetched(cursor, count))
+    refusal::fetch(cursor)?;
+    report::done(report)?;
+    let count = rows::fetch_count(cursor, f.rows);
+    session::words::put_sent(words, place, cursor.sent + count);
+    Ok(rows::fetched(cursor, count))
 }
 
-fn deallocate(
-    words: &mut [u32; WORDS],
-    used: usize,
-    stmt: u32,
-    report: Report,
-    buf: &mut [u8],
-) -> Answer
-    requires { Ready words.old (Request.Deallocate stmt) buf.old }
-    ensures { Steps used (Request.Deallocate stmt) report result words.old buf.old words.new
-        buf.new }
+fn deallocate(words: &mut [u32; WORDS], stmt: u32) -> Result<Sends, Reason>
+    requires { is_closed (session_of words.old) ≡ false }
+    ensures { (report : Report) →
+        Decides (session_of words.old) (Request.Deallocate stmt) report result (session_of words.new) }
 {
     let place = session::find::find_stmt(words, stmt);
-    let reason = refusal::dead_stmt(session::words::stmt_at(words, place));
-    if reason != reason::ACCEPTED {
-        return answer::refuse(buf, used, reason, answer::unbound(stmt, 0), report);
-    }
+    refusal::live(session::words::stmt_at(words, place).live, Reason::NoStmt)?;
     session::change::free(words, place, stmt);
-    answer::accept(buf, used, answer::JUST_OK)
+    Ok(JUST_OK)
 }
 
-fn close(
-    words: &mut [u32; WORDS],
-    used: usize,
-    cursor: u32,
-    report: Report,
-    buf: &mut [u8],
-) -> Answer
-    requires { Ready words.old (Request.Close cursor) buf.old }
-    ensures { Steps used (Request.Close cursor) report result words.old buf.old words.new
-        buf.new }
+fn close(words: &mut [u32; WORDS], cursor: u32) -> Result<Sends, Reason>
+    requires { is_closed (session_of words.old) ≡ false }
+    ensures { (report : Report) →
+        Decides (session_of words.old) (Request.Close cursor) report result (session_of words.new) }
 {
     let place = session::find::find_cursor(words, cursor);
-    let reason = refusal::dead_cursor(session::words::cursor_at(words, place));
-    if reason != reason::ACCEPTED {
-        return answer::refuse(buf, used, reason, answer::unbound(0, cursor), report);
-    }
+    refusal::live(
+        session::words::cursor_at(words, place).live,
+        Reason::NoCursor,
+    )?;
     session::change::end(words, Which::Id(cursor));
-    answer::accept(buf, used, answer::JUST_OK)
+    Ok(JUST_OK)
 }

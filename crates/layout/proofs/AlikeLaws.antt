@@ -9,6 +9,7 @@ use Rattle.layout.proofs.FieldsLaws.{Towards, starts_onto, ends, no_field, advan
 use Rattle.layout.proofs.FieldsLaws.{checked_good, checked_bad}
 use Rattle.layout.proofs.KeptLaws.{zeros, same_or_not, Kept, none_kept, bad_kept, noted_kept}
 use Rattle.layout.proofs.UnreadLaws.{counted_repeated}
+use Rattle.std.specs.Prelude.{Option, Some, None}
 
 -- x is read in n bytes, and y in a byte string that holds them at the place d
 pub record Alike (rows : List (List ℕ)) (d n : ℕ) (x y : Slots) : Type 0 where
@@ -126,17 +127,17 @@ module _ (rows : List (List ℕ)) {s : List ℕ} {d : ℕ} {t : List ℕ} (k : T
     j : d + p < length s
     j = omega (arith, tail_length k)
 
-    by_field : (z : Field) → field_at t p ≡ z → Same
-    by_field Field.Bad e =
+    by_field : (z : Option Field) → field_at t p ≡ z → Same
+    by_field None e =
         alike_as rows d n (no_field f i e) (no_field g j (field_moved k p ∙ ap (moved_field d) e)) (bad_alike rows d n)
-    by_field (Field.Good number w v st ln next) e =
+    by_field (Some r) e =
         let e' = field_moved k p ∙ ap (moved_field d) e in
-        let u = use_of rows number w v in
-        on next (advances f i e) (noted u x number v st ln) (noted u y number v (d + st) ln)
-        (goes_on_lem f i e (use_of rows number w v) refl) (goes_on_lem g j e' (use_of rows number w v) refl)
-        (noted-alike rows d n a number w v st ln (within (field_past t p)) (use_of rows number w v) refl)
+        let u = use_of rows r.number r.wire r.value in
+        on r.next (advances f i e) (noted u x r.number r.value r.start r.len) (noted u y r.number r.value (d + r.start) r.len)
+        (goes_on_lem f i e (use_of rows r.number r.wire r.value) refl) (goes_on_lem g j e' (use_of rows r.number r.wire r.value) refl)
+        (noted-alike rows d n a r.number r.wire r.value r.start r.len (within (field_past t p)) (use_of rows r.number r.wire r.value) refl)
       where
-        within : PastField p (length t) (field_at t p) → st + ln ≤ n
+        within : PastField p (length t) (field_at t p) → r.start + r.len ≤ n
         within = rw e (λ h. omega arith)
 
   pub walks : (most p : ℕ) → length t ≤ p + most → {x y : Slots} → Towards rows t p x xs →

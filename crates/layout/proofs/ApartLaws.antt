@@ -6,6 +6,7 @@ use Rattle.layout.proofs.Names.{noted, on_field, fields_from, field_list, has_re
 use Rattle.layout.specs.FieldsRules.{KeptApart}
 use Rattle.layout.proofs.FieldsLaws.{kept_slot}
 use Rattle.layout.proofs.KeptLaws.{zeros, same_or_not}
+use Rattle.std.specs.Prelude.{Option, Some, None}
 
 -- no two fields overlap
 abbrev Clear : Slots → Type 0
@@ -95,12 +96,12 @@ noted_apart rows a number w v st ln next h l Use.Kept e =
 
 module _ (rows : List (List ℕ)) (s : List ℕ) where
   field-clear : (p : ℕ) (x : Slots) → Apart p x → (more : ℕ → Slots → Slots) →
-      ((q : ℕ) (y : Slots) → Apart q y → Clear (more q y)) → (z : Field) → PastField p (length s) z →
+      ((q : ℕ) (y : Slots) → Apart q y → Clear (more q y)) → (z : Option Field) → PastField p (length s) z →
       Clear (on_field rows x more z)
-  field-clear p x a more m (Field.Good number w v st ln next) h =
-      m next (noted (use_of rows number w v) x number v st ln)
-      (noted_apart rows a number w v st ln next h.0 h.1 (use_of rows number w v) refl)
-  field-clear p x a more m Field.Bad h = bad_clear
+  field-clear p x a more m (Some r) h =
+      m r.next (noted (use_of rows r.number r.wire r.value) x r.number r.value r.start r.len)
+      (noted_apart rows a r.number r.wire r.value r.start r.len r.next h.0 h.1 (use_of rows r.number r.wire r.value) refl)
+  field-clear p x a more m None h = bad_clear
 
   from-clear : (most p : ℕ) (x : Slots) → Apart p x → Clear (fields_from most rows s p x)
   unfolding fields_from

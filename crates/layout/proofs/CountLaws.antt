@@ -3,6 +3,7 @@ use Rattle.prelude.proofs.Basics.{ℕ, zero, suc, ◌+◌, ◌≤◌, ◌<◌, a
 use Rattle.prelude.proofs.Basics.{take, length-set, get_or-set_same, leb, ltb, leb-true, both}
 use Rattle.layout.proofs.Names.{field_at, Field, bad_slots, use_of, noted, on_field, fields_from, field_list}
 use Rattle.layout.proofs.Names.{has_required, fields_at, fields_to, Use, Slots}
+use Rattle.std.specs.Prelude.{Option, Some, None}
 
 -- one more at a place takes nothing away at any
 set_grows : (l : List ℕ) (i k : ℕ) → get_or l k 0 ≤ get_or (set l i (get_or l i 0 + 1)) k 0
@@ -32,12 +33,12 @@ module _ (rows : List (List ℕ)) (k : ℕ) where
   abbrev Above : Slots → Slots → Type 0
   Above x y = y.good ≡ true → get_or x.count k 0 ≤ get_or y.count k 0
 
-  field-grows : (x : Slots) (more : ℕ → Slots → Slots) → ((p : ℕ) (y : Slots) → Above y (more p y)) → (f : Field) →
+  field-grows : (x : Slots) (more : ℕ → Slots → Slots) → ((p : ℕ) (y : Slots) → Above y (more p y)) → (f : Option Field) →
       Above x (on_field rows x more f)
-  field-grows x more m (Field.Good number wire v start len next) g =
-      let u = use_of rows number wire v in
-      omega (arith, noted-grows x number v start len k u, m next (noted u x number v start len) g)
-  field-grows x more m Field.Bad g = absurd (let z : ◌≡◌ {A = ℕ} 0 1 = cc in omega arith)
+  field-grows x more m (Some r) g =
+      let u = use_of rows r.number r.wire r.value in
+      omega (arith, noted-grows x r.number r.value r.start r.len k u, m r.next (noted u x r.number r.value r.start r.len) g)
+  field-grows x more m None g = absurd (let z : ◌≡◌ {A = ℕ} 0 1 = cc in omega arith)
 
   pub from_grows : (most : ℕ) (s : List ℕ) (at : ℕ) (x : Slots) → Above x (fields_from most rows s at x)
   unfolding fields_from

@@ -1,18 +1,20 @@
--- The arrays of a message tell how many parts each of its fields with bytes has. Assumes nothing.
+-- What is found of a message tells how many parts each of its fields with bytes has. Assumes nothing.
 use Rattle.prelude.proofs.Basics.{ℕ, suc, arith, Bool, true, ◌≡◌, refl, sym, ap, ap₂, ◌∙◌, List, [], ◌∷◌}
-use Rattle.prelude.proofs.Basics.{length, get_or, ne_eqb}
+use Rattle.prelude.proofs.Basics.{length, ne_eqb}
 use Rattle.layout.proofs.Names.{len, row_for, wire_of, fields_at, parts_of, parts_in, Part, Slots}
 use Rattle.layout.specs.Part.{value_of, len_of}
 use Rattle.layout.specs.Merged.{one_part, merged}
 use Rattle.layout.specs.MergedRules.{holds_bytes, Keeps}
-use Rattle.layout.specs.private.Arrays.{up_to_two, Holds}
+use Rattle.layout.specs.private.Found.{up_to_two, slot_at, Holds}
+use Rattle.layout.specs.declared.found.Slot.{Slot}
+use Rattle.layout.specs.declared.found.Found.{Found}
 use Rattle.layout.specs.private.Counted.{Counted}
-use Rattle.layout.proofs.ArrayLaws.{held_value, held_start, held_times, bytes_long}
+use Rattle.layout.proofs.FoundLaws.{held_value, held_start, held_times, bytes_long}
 use Rattle.layout.proofs.KeepsLaws.{parts_kept, one_only}
 use Rattle.layout.proofs.MergedPlaceLaws.{merged_long}
 
-held_counted : {x : Slots} {g : Bool} {v w u : List ℕ} → Holds x g v w u → (k : ℕ) (ps : List Part) → Keeps x k ps →
-    len_of x k ≡ value_of x k → Counted ps (get_or v k 0) (get_or u k 0) (get_or w k 0)
+held_counted : {x : Slots} {g : Bool} {found : Found} → Holds x g found → (k : ℕ) (ps : List Part) → Keeps x k ps →
+    len_of x k ≡ value_of x k → Counted ps (slot_at found k)
 held_counted {x} h k ps keeps long =
     record {
       many = held_times h k ∙ ap up_to_two keeps.count;
@@ -22,15 +24,15 @@ held_counted {x} h k ps keeps long =
     }
 
 module _ (rows : List (List ℕ)) (k : ℕ) (holds : holds_bytes rows k ≡ true) (wire : wire_of (row_for rows k) ≡ len)
-    {g : Bool} {v w u : List ℕ} where
-  pub merged_counted : (s : List ℕ) (ps : List Part) → Holds (merged rows s ps) g v w u → g ≡ true →
-      Counted (parts_in k s ps) (get_or v k 0) (get_or u k 0) (get_or w k 0)
+    {g : Bool} {found : Found} where
+  pub merged_counted : (s : List ℕ) (ps : List Part) → Holds (merged rows s ps) g found → g ≡ true →
+      Counted (parts_in k s ps) (slot_at found k)
   merged_counted s ps h e =
       held_counted h k (parts_in k s ps) (parts_kept.inner rows k s ps holds (sym h.answer ∙ e))
       (merged_long rows k wire s ps)
 
-  pub fields_counted : (s : List ℕ) (from : ℕ) → Holds (fields_at rows s from) g v w u → g ≡ true →
-      Counted (parts_of k s from) (get_or v k 0) (get_or u k 0) (get_or w k 0)
+  pub fields_counted : (s : List ℕ) (from : ℕ) → Holds (fields_at rows s from) g found → g ≡ true →
+      Counted (parts_of k s from) (slot_at found k)
   fields_counted s from h e =
       held_counted h k (parts_of k s from) (parts_kept.whole rows k s from holds (sym h.answer ∙ e))
       (bytes_long rows k wire s from)
@@ -41,8 +43,8 @@ module _ (rows : List (List ℕ)) (k : ℕ) (holds : holds_bytes rows k ≡ true
 up_two : (m : ℕ) → up_to_two (suc (suc m)) ≡ 2
 up_two m = simp (ne_eqb (suc (suc m)) 0 (λ e. omega arith), ne_eqb (suc (suc m)) 1 (λ e. omega arith))
 
-module _ {ps : List Part} {times start n : ℕ} (c : Counted ps times start n) where
-  pub counted_none : times ≡ 0 → ps ≡ []
+module _ {ps : List Part} {slot : Slot} (c : Counted ps slot) where
+  pub counted_none : slot.times ≡ 0 → ps ≡ []
   counted_none e = go ps (sym c.many ∙ e)
     where
       go : (qs : List Part) → up_to_two (length qs) ≡ 0 → qs ≡ []
@@ -50,10 +52,11 @@ module _ {ps : List Part} {times start n : ℕ} (c : Counted ps times start n) w
       go (q ∷ []) h = absurd (omega (arith, h))
       go (q ∷ (r ∷ qs)) h = absurd (omega (arith, sym (up_two (length qs)) ∙ h))
 
-  pub counted_one : times ≡ 1 → ps ≡ one_part start n
+  pub counted_one : slot.times ≡ 1 → ps ≡ one_part slot.start slot.value
   counted_one e = go ps (sym c.many ∙ e) c.one
     where
-      go : (qs : List Part) → up_to_two (length qs) ≡ 1 → (length qs ≡ 1 → qs ≡ one_part start n) → qs ≡ one_part start n
+      go : (qs : List Part) → up_to_two (length qs) ≡ 1 → (length qs ≡ 1 → qs ≡ one_part slot.start slot.value) →
+          qs ≡ one_part slot.start slot.value
       go [] h f = absurd (omega (arith, h))
       go (q ∷ []) h f = f refl
       go (q ∷ (r ∷ qs)) h f = absurd (omega (arith, sym (up_two (length qs)) ∙ h))
@@ -65,8 +68,8 @@ pub record Several (ps : List Part) : Type 0 where
   pub rest : List Part
   pub are : ps ≡ first ∷ (second ∷ rest)
 
-pub counted_several : {ps : List Part} {times start n : ℕ} → Counted ps times start n → (times ≡ 0 → ⊥) →
-    (times ≡ 1 → ⊥) → Several ps
+pub counted_several : {ps : List Part} {slot : Slot} → Counted ps slot → (slot.times ≡ 0 → ⊥) →
+    (slot.times ≡ 1 → ⊥) → Several ps
 counted_several {ps} c none one = go ps refl
   where
     go : (qs : List Part) → ps ≡ qs → Several ps

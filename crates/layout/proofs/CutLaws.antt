@@ -3,6 +3,8 @@ use Rattle.prelude.proofs.Basics.{ℕ, ◌+◌, ◌≤◌, arith, ◌≡◌, ref
 use Rattle.prelude.proofs.Basics.{take, length-take, take-take}
 use Rattle.layout.proofs.Names.{end_of, parts_of, parts_in, no_slots, checked, Part}
 use Rattle.layout.specs.Merged.{one_part, merged}
+use Rattle.layout.specs.private.Parts.{left}
+use Rattle.layout.specs.declared.parts.Parts.{Parts}
 use Rattle.layout.proofs.MergeLaws.{AllWithin, parts_within, parts_cut}
 
 pub within_later : (d e : ℕ) → d ≤ e → (ps : List Part) → AllWithin d ps → AllWithin e ps
@@ -37,6 +39,17 @@ inner_within k s e (p ∷ ps) w =
     within_then e (parts_of k (take (end_of p) s) p.start) (parts_in k s ps)
     (within_later (end_of p) e w.0 (parts_of k (take (end_of p) s) p.start) (parts_by k s p.start (end_of p)))
     (inner_within k s e ps w.1)
+
+-- all that are left lie within the bytes
+pub left_within : (p : Parts) → AllWithin (length p.s.now) (left p)
+left_within p =
+    let s = p.s.now in
+    let here = parts_of p.number (take p.end s) p.at in
+    let outer = parts_of p.outer s p.next in
+    within_then (length s) here (parts_in p.number s outer)
+    (within_later (length (take p.end s)) (length s) (omega (arith, length-take p.end s)) here
+    (parts_inside p.number (take p.end s) p.at))
+    (inner_within p.number s (length s) outer (parts_inside p.outer s p.next))
 
 pub inner_cut : (k : ℕ) (s : List ℕ) (e : ℕ) (ps : List Part) → AllWithin e ps →
     parts_in k (take e s) ps ≡ parts_in k s ps

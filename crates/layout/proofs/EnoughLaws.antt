@@ -4,14 +4,15 @@ use Rattle.layout.proofs.Names.{field_at, PastField, Field, field_past, no_slots
 use Rattle.layout.proofs.Names.{fields_from, Slots}
 use Rattle.layout.specs.FieldsRules.{EnoughFields}
 use Rattle.layout.proofs.FieldsLaws.{from_end}
+use Rattle.std.specs.Prelude.{Option, Some, None}
 
 module _ (rows : List (List ℕ)) (s : List ℕ) where
   -- ways on that agree from here on
-  pub field_same : (at : ℕ) (x : Slots) (z : Field) → PastField at (length s) z → (f g : ℕ → Slots → Slots) →
+  pub field_same : (at : ℕ) (x : Slots) (z : Option Field) → PastField at (length s) z → (f g : ℕ → Slots → Slots) →
       ((q : ℕ) (y : Slots) → at < q → f q y ≡ g q y) → on_field rows x f z ≡ on_field rows x g z
-  field_same at x (Field.Good number wire v start len next) h f g e =
-      e next (noted (use_of rows number wire v) x number v start len) h.2
-  field_same at x Field.Bad h f g e = refl
+  field_same at x (Some r) h f g e =
+      e r.next (noted (use_of rows r.number r.wire r.value) x r.number r.value r.start r.len) h.2
+  field_same at x None h f g e = refl
 
   pub fields_same : (m n at : ℕ) (x : Slots) → length s ≤ at + m → length s ≤ at + n →
       fields_from m rows s at x ≡ fields_from n rows s at x

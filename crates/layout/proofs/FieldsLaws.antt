@@ -1,23 +1,36 @@
 -- Reading a field list, one turn of the loop at a time, and its required fields. Assumes nothing.
-use Rattle.prelude.proofs.Basics.{ℕ, zero, suc, ◌+◌, ◌-◌, ◌≤◌, ◌<◌, arith, add-one, Bool, true, false, not, cond, ◌≡◌}
+use Rattle.prelude.proofs.Basics.{ℕ, zero, suc, ◌+◌, ◌-◌, ◌≤◌, ◌<◌, arith, add-one, Bool, true, false, cond, ◌≡◌}
 use Rattle.prelude.proofs.Basics.{refl, sym, ap, subst, ◌∙◌, List, [], ◌∷◌, map, length, get_or, set, take, drop}
-use Rattle.prelude.proofs.Basics.{List·getD-eq-default, drop_of_length-le, drop-cons, eqb, ltb, eq-eqb, eqb-false}
+use Rattle.prelude.proofs.Basics.{drop_of_length-le, drop-cons, eqb, ltb, eq-eqb, eqb-false}
 use Rattle.prelude.proofs.Basics.{eqb-true, le-leb, le-ltb, lt-leb, lt-ltb, ltb-true, ne_eqb, before_suc}
+use Rattle.layout.specs.Row.{columns, columns_of}
+use Rattle.layout.specs.declared.row.Row.{Row}
+use Rattle.layout.proofs.RowLaws.{past_row}
 use Rattle.layout.proofs.Names.{field_at, PastField, Field, field_past, number_of, no_row, slot_count, takes}
 use Rattle.layout.proofs.Names.{no_slots, bad_slots, use_by, use_of, noted, on_field, fields_from, fields_onto}
 use Rattle.layout.proofs.Names.{field_list, has_required, checked, fields_at, fields_to, Use, Slots}
 use Rattle.layout.specs.Fields.{met}
-use Rattle.layout.specs.private.Arrays.{up_to_two, Noted, Listed, Holds}
+use Rattle.layout.specs.private.Found.{up_to_two, no_slot, slot_at, found_times, found_values, found_starts}
+use Rattle.layout.specs.private.Found.{Noted, Notes}
+use Rattle.layout.specs.private.Found.{Listed, Holds}
+use Rattle.layout.specs.declared.found.Slot.{Slot}
+use Rattle.layout.specs.declared.found.Found.{Found}
+use Rattle.std.proofs.Math.ListN.{get_or-map}
+use Rattle.std.proofs.lemmas.List.{map-set}
+use Rattle.std.proofs.Math.Seq.{map-set_same}
+use Rattle.std.specs.Prelude.{Option, None}
+use Rattle.wire.specs.Field.{some_field}
 
 module _ (row : List ℕ) (number wire value : ℕ) where
   pub use_unknown : takes row number wire value ≡ false → Use.Unknown ≡ use_by row number wire value
   use_unknown e = simp e
 
-  pub use_counted : takes row number wire value ≡ true → get_or row 4 0 ≡ 1 → Use.Counted ≡ use_by row number wire value
-  use_counted e h = simp (e, eq-eqb (get_or row 4 0) 1 h)
+module _ (row : Row) (number wire value : ℕ) (e : takes (columns row) number wire value ≡ true) where
+  pub use_counted : row.repeated ≡ true → Use.Counted ≡ use_by (columns row) number wire value
+  use_counted h = simp (e, h)
 
-  pub use_kept : takes row number wire value ≡ true → (get_or row 4 0 ≡ 1 → ⊥) → Use.Kept ≡ use_by row number wire value
-  use_kept e h = simp (e, ne_eqb (get_or row 4 0) 1 h)
+  pub use_kept : row.repeated ≡ false → Use.Kept ≡ use_by (columns row) number wire value
+  use_kept h = simp (e, h)
 
 -- the row that no number has takes no field
 pub use_none : (number wire value : ℕ) → 0 < number → Use.Unknown ≡ use_by no_row number wire value
@@ -81,17 +94,17 @@ unroll (suc m) rows s p x g h =
 
 module _ {rows : List (List ℕ)} {s : List ℕ} {p : ℕ} {x y : Slots} (l : Towards rows s p x y)
     (inside : p < length s) where
-  turn : (f : Field) → field_at s p ≡ f → on_field rows x (λ next z. fields_from (l.most - 1) rows s next z) f ≡ y
+  turn : (f : Option Field) → field_at s p ≡ f → on_field rows x (λ next z. fields_from (l.most - 1) rows s next z) f ≡ y
   turn f e =
       sym
       (unroll l.most rows s p x (omega (arith, l.enough)) inside
       ∙ ap (on_field rows x (λ next z. fields_from (l.most - 1) rows s next z)) e)
       ∙ l.whole
 
-  pub no_field : field_at s p ≡ Field.Bad → bad_slots ≡ y
-  no_field e = turn Field.Bad e
+  pub no_field : field_at s p ≡ None → bad_slots ≡ y
+  no_field e = turn None e
 
-  module _ {number wire value start len next : ℕ} (e : field_at s p ≡ Field.Good number wire value start len next) where
+  module _ {number wire value start len next : ℕ} (e : field_at s p ≡ some_field number wire value start len next) where
     pub advances : p < next
     advances = go (field_past s p)
       where
@@ -106,15 +119,10 @@ module _ {rows : List (List ℕ)} {s : List ℕ} {p : ℕ} {x y : Slots} (l : To
           enough = omega (arith, l.enough, advances);
           whole =
               ap (λ (w : Use). fields_from (l.most - 1) rows s next (noted w x number value start len)) v
-              ∙ turn (Field.Good number wire value start len next) e;
+              ∙ turn (some_field number wire value start len next) e;
         }
 
--- ---- the arrays
-
-map_set : (f : ℕ → ℕ) (l : List ℕ) (k v : ℕ) → map f (set l k v) ≡ set (map f l) k (f v)
-map_set f [] k v = refl
-map_set f (x ∷ l) zero v = refl
-map_set f (x ∷ l) (suc k) v = ap (λ (m : List ℕ). f x ∷ m) (map_set f l k v)
+-- ---- what is found
 
 -- a number up to two says whether it is none, and what one more comes to
 pub up_to_none : (n : ℕ) → eqb (up_to_two n) 0 ≡ eqb n 0
@@ -151,39 +159,84 @@ times_set : (l : List ℕ) (k : ℕ) {v : ℕ} → v ≡ up_to_two (get_or (map 
 times_set l k e =
     ap (set (map up_to_two l) k)
     (e ∙ ap (λ (n : ℕ). up_to_two (n + 1)) (get_d_times l k) ∙ once_more (get_or l k 0))
-    ∙ sym (map_set up_to_two l k (get_or l k 0 + 1))
+    ∙ sym (map-set up_to_two l k (get_or l k 0 + 1))
 
--- where the loop stands: the arrays hold slots from which what is left comes to y
-pub record Filling (rows : List (List ℕ)) (s : List ℕ) (y : Slots) (p : ℕ) (times values starts : List ℕ) : Type 0
+-- what is noted of a number, in each of the three lists
+module _ (found : Found) (k : ℕ) where
+  pub times_at : get_or (found_times found) k 0 ≡ (slot_at found k).times
+  times_at = get_or-map (λ (slot : Slot). slot.times) found.slots k no_slot
+
+  pub value_at : get_or (found_values found) k 0 ≡ (slot_at found k).value
+  value_at = get_or-map (λ (slot : Slot). slot.value) found.slots k no_slot
+
+  pub start_at : get_or (found_starts found) k 0 ≡ (slot_at found k).start
+  start_at = get_or-map (λ (slot : Slot). slot.start) found.slots k no_slot
+
+-- one more of the number k
+module _ {x : Slots} {found : Found} (h : Noted x found) (k : ℕ) {times : ℕ}
+    (more : times ≡ up_to_two ((slot_at found k).times + 1)) where
+  counts : set (found_times found) k times ≡ map up_to_two (set x.count k (get_or x.count k 0 + 1))
+  counts =
+      ap (λ (l : List ℕ). set l k times) h.times_are
+      ∙ times_set x.count k
+      (more
+      ∙ ap (λ (n : ℕ). up_to_two (n + 1)) (sym (times_at found k) ∙ ap (λ (l : List ℕ). get_or l k 0) h.times_are))
+
+  module _ (value start len : ℕ) where
+    pub notes_counted : Noted (noted Use.Counted x k value start len)
+        (record {
+          slots = set found.slots k
+              (record { times = times; value = (slot_at found k).value; start = (slot_at found k).start });
+        })
+    notes_counted =
+        record {
+          times_are = map-set (λ (slot : Slot). slot.times) found.slots k _ ∙ counts;
+          value_is = map-set_same (λ (slot : Slot). slot.value) found.slots k _ no_slot refl ∙ h.value_is;
+          start_is = map-set_same (λ (slot : Slot). slot.start) found.slots k _ no_slot refl ∙ h.start_is;
+        }
+
+    pub notes_kept : Noted (noted Use.Kept x k value start len)
+        (record { slots = set found.slots k (record { times = times; value = value; start = start }) })
+    notes_kept =
+        record {
+          times_are = map-set (λ (slot : Slot). slot.times) found.slots k _ ∙ counts;
+          value_is =
+              map-set (λ (slot : Slot). slot.value) found.slots k _ ∙ ap (λ (l : List ℕ). set l k value) h.value_is;
+          start_is =
+              map-set (λ (slot : Slot). slot.start) found.slots k _ ∙ ap (λ (l : List ℕ). set l k start) h.start_is;
+        }
+
+-- where the loop stands: what was found is slots from which what is left comes to y
+pub record Filling (rows : List (List ℕ)) (s : List ℕ) (y : Slots) (p : ℕ) (found : Found) : Type 0
   where
     pub slots : Slots
     pub sound : slots.good ≡ true
     pub towards : Towards rows s p slots y
-    pub held : Noted slots times values starts
+    pub held : Noted slots found
 
-pub filling : (rows : List (List ℕ)) (s : List ℕ) (from : ℕ) {times values starts : List ℕ} (x : Slots) →
-    x.good ≡ true → Noted x times values starts → Filling rows s (fields_onto rows s from x) from times values starts
+pub filling : (rows : List (List ℕ)) (s : List ℕ) (from : ℕ) {found : Found} (x : Slots) →
+    x.good ≡ true → Noted x found → Filling rows s (fields_onto rows s from x) from found
 filling rows s from x g h = record { slots = x; sound = g; towards = starts_onto rows s from x; held = h }
 
-module _ {rows : List (List ℕ)} {s : List ℕ} {y : Slots} {p : ℕ} {times values starts : List ℕ}
-    (l : Filling rows s y p times values starts) where
-  pub filled : length s ≤ p → Listed y true times values starts
+module _ {rows : List (List ℕ)} {s : List ℕ} {y : Slots} {p : ℕ} {found : Found}
+    (l : Filling rows s y p found) where
+  pub filled : length s ≤ p → Listed y true found
   filled h =
-      subst (λ (z : Slots). Listed z true times values starts) (ends l.towards h)
+      subst (λ (z : Slots). Listed z true found) (ends l.towards h)
       (record {
         answer = sym l.sound;
         held = λ _. l.held;
         bad = λ e. absurd (let z : ◌≡◌ {A = ℕ} 0 1 = cc l.sound in omega arith);
       })
 
-  pub spoiled : p < length s → field_at s p ≡ Field.Bad → Listed y false times values starts
+  pub spoiled : p < length s → field_at s p ≡ None → Listed y false found
   spoiled h e =
-      subst (λ (z : Slots). Listed z false times values starts) (no_field l.towards h e)
+      subst (λ (z : Slots). Listed z false found) (no_field l.towards h e)
       (record { answer = refl; held = λ t. absurd (let z : ◌≡◌ {A = ℕ} 0 1 = cc in omega arith); bad = λ _. refl })
 
   module _ (inside : p < length s) {number wire value start len next : ℕ}
-      (e : field_at s p ≡ Field.Good number wire value start len next) where
-    pub fills_unknown : Use.Unknown ≡ use_of rows number wire value → Filling rows s y next times values starts
+      (e : field_at s p ≡ some_field number wire value start len next) where
+    pub fills_unknown : Use.Unknown ≡ use_of rows number wire value → Filling rows s y next found
     fills_unknown u =
         record {
           slots = l.slots;
@@ -192,65 +245,44 @@ module _ {rows : List (List ℕ)} {s : List ℕ} {y : Slots} {p : ℕ} {times va
           held = l.held;
         }
 
-    module _ {v : ℕ} (more : v ≡ up_to_two (get_or times number 0 + 1)) where
-      counts : set times number v ≡ map up_to_two (set l.slots.count number (get_or l.slots.count number 0 + 1))
-      counts =
-          ap (λ (m : List ℕ). set m number v) l.held.times_are
-          ∙ times_set l.slots.count number
-          (more ∙ ap (λ (m : List ℕ). up_to_two (get_or m number 0 + 1)) l.held.times_are)
-
+    module _ {found' : Found} where
       pub fills_counted : Use.Counted ≡ use_of rows number wire value →
-          Filling rows s y next (set times number v) values starts
-      fills_counted u =
+          Notes Use.Counted number value start found found' → Filling rows s y next found'
+      fills_counted u n =
           record {
             slots = noted Use.Counted l.slots number value start len;
             sound = l.sound;
             towards = goes_on_lem l.towards inside e Use.Counted u;
-            held = record { times_are = counts; value_is = l.held.value_is; start_is = l.held.start_is };
+            held = n.onto l.slots len l.held;
           }
 
       pub fills_kept : Use.Kept ≡ use_of rows number wire value →
-          Filling rows s y next (set times number v) (set values number value) (set starts number start)
-      fills_kept u =
+          Notes Use.Kept number value start found found' → Filling rows s y next found'
+      fills_kept u n =
           record {
             slots = noted Use.Kept l.slots number value start len;
             sound = l.sound;
             towards = goes_on_lem l.towards inside e Use.Kept u;
-            held =
-                record {
-                  times_are = counts;
-                  value_is = ap (λ (m : List ℕ). set m number value) l.held.value_is;
-                  start_is = ap (λ (m : List ℕ). set m number start) l.held.start_is;
-                };
+            held = n.onto l.slots len l.held;
           }
 
 -- ---- required fields
 
-module _ (row times : List ℕ) where
-  pub met_optional : (get_or row 3 0 ≡ 1 → ⊥) → true ≡ met row times
-  met_optional h = simp (ne_eqb (get_or row 3 0) 1 h)
-
-  pub met_required : get_or row 3 0 ≡ 1 → not (eqb (get_or times (number_of row) 0) 0) ≡ met row times
-  met_required h = simp (eq-eqb (get_or row 3 0) 1 h)
-
-  -- past the slots nothing occurs
-  pub met_past : get_or row 3 0 ≡ 1 → length times ≤ number_of row → false ≡ met row times
-  met_past h g = ap (λ (n : ℕ). not (eqb n 0)) (sym (List·getD-eq-default times 0 g)) ∙ met_required h
-
 -- row by row
-module _ (rows : List (List ℕ)) (times : List ℕ) (i : ℕ) where
-  pub need_end : length rows ≤ i → true ≡ has_required (drop i rows) times
+module _ (rows : List Row) (times : List ℕ) (i : ℕ) where
+  pub need_end : length rows ≤ i → true ≡ has_required (columns_of (drop i rows)) times
   unfolding has_required
   need_end h = rw (drop_of_length-le rows h)
 
-  pub need_met : i < length rows → met (get_or rows i []) times ≡ true →
-      has_required (drop (i + 1) rows) times ≡ has_required (drop i rows) times
+  pub need_met : i < length rows → met (columns (get_or rows i past_row)) times ≡ true →
+      has_required (columns_of (drop (i + 1) rows)) times ≡ has_required (columns_of (drop i rows)) times
   unfolding has_required
-  need_met h e = rw (add-one, drop-cons rows i [] h) (simp e)
+  need_met h e = rw (add-one, drop-cons rows i past_row h) (simp e)
 
-  pub need_missing : i < length rows → met (get_or rows i []) times ≡ false → false ≡ has_required (drop i rows) times
+  pub need_missing : i < length rows → met (columns (get_or rows i past_row)) times ≡ false →
+      false ≡ has_required (columns_of (drop i rows)) times
   unfolding has_required
-  need_missing h e = rw (drop-cons rows i [] h) (simp e)
+  need_missing h e = rw (drop-cons rows i past_row h) (simp e)
 
 -- what is noted says as much as the counts
 times_required : (rows : List (List ℕ)) (count : List ℕ) → has_required rows (map up_to_two count) ≡ has_required rows count
@@ -265,38 +297,39 @@ checked_good rows x e = simp e
 pub checked_bad : (rows : List (List ℕ)) (x : Slots) → has_required rows x.count ≡ false → bad_slots ≡ checked rows x
 checked_bad rows x e = simp e
 
--- ---- the message in the arrays
+-- ---- the message that is found
 
 same_either : (b : Bool) (x : Slots) → x ≡ cond b x x
 same_either true x = refl
 same_either false x = refl
 
--- arrays that hold nothing hold an empty list
-pub holds_none : {times values starts : List ℕ} → Noted bad_slots times values starts → Noted no_slots times values starts
+-- nothing is an empty list
+pub holds_none : {found : Found} → Noted bad_slots found → Noted no_slots found
 holds_none h = record { times_are = h.times_are; value_is = h.value_is; start_is = h.start_is }
 
 -- a list whose required fields were asked for
-module _ (rows : List (List ℕ)) {x : Slots} {g : Bool} {v w u : List ℕ} (l : Listed x g v w u) where
+module _ (rows : List (List ℕ)) {x : Slots} {g : Bool} {found : Found} (l : Listed x g found) where
   module _ (good : g ≡ true) where
-    kept : Noted x v w u
+    kept : Noted x found
     kept = l.held (sym l.answer ∙ good)
 
-    required : {b : Bool} → has_required rows v ≡ b → has_required rows x.count ≡ b
+    required : {b : Bool} → has_required rows (found_times found) ≡ b → has_required rows x.count ≡ b
     required e = sym (ap (has_required rows) kept.times_are ∙ times_required rows x.count) ∙ e
 
-    pub lists_good : has_required rows v ≡ true → Holds (checked rows x) true v w u
+    pub lists_good : has_required rows (found_times found) ≡ true → Holds (checked rows x) true found
     lists_good e =
-        subst (λ (y : Slots). Holds y true v w u) (checked_good rows x (required e))
+        subst (λ (y : Slots). Holds y true found) (checked_good rows x (required e))
         (record { answer = sym good ∙ l.answer; held = kept })
 
-  module _ {times values starts : List ℕ} (n : Noted bad_slots times values starts) where
-    empty : bad_slots ≡ checked rows x → Holds (checked rows x) false times values starts
-    empty e = subst (λ (y : Slots). Holds y false times values starts) e (record { answer = refl; held = n })
+  module _ {found' : Found} (n : Noted bad_slots found') where
+    empty : bad_slots ≡ checked rows x → Holds (checked rows x) false found'
+    empty e = subst (λ (y : Slots). Holds y false found') e (record { answer = refl; held = n })
 
-    pub lists_missing : g ≡ true → has_required rows v ≡ false → Holds (checked rows x) false times values starts
+    pub lists_missing : g ≡ true → has_required rows (found_times found) ≡ false →
+        Holds (checked rows x) false found'
     lists_missing good e = empty (checked_bad rows x (required good e))
 
-    pub lists_bad : g ≡ false → Holds (checked rows x) false times values starts
+    pub lists_bad : g ≡ false → Holds (checked rows x) false found'
     lists_bad e =
         empty
         (same_either (has_required rows bad_slots.count) bad_slots
@@ -310,18 +343,18 @@ checked_from rows x = go (has_required rows x.count)
     go true e = e
     go false e = absurd (let z : ◌≡◌ {A = ℕ} 0 1 = cc in omega arith)
 
-pub settled_good : (rows : List (List ℕ)) {x : Slots} {g r : Bool} {v w u times values starts : List ℕ} →
-    Listed x g v w u → Holds (checked rows x) r times values starts → r ≡ true → g ≡ true
+pub settled_good : (rows : List (List ℕ)) {x : Slots} {g r : Bool} {before after : Found} → Listed x g before →
+    Holds (checked rows x) r after → r ≡ true → g ≡ true
 settled_good rows {x} l h e = l.answer ∙ checked_from rows x (sym h.answer ∙ e)
 
 -- a message that ends inside the bytes, or not
-module _ (rows : List (List ℕ)) (s : List ℕ) (from end : ℕ) {times values starts : List ℕ} where
-  pub holds_inside : {g : Bool} → end ≤ length s → Holds (fields_at rows (take end s) from) g times values starts →
-      Holds (fields_to rows s from end) g times values starts
-  holds_inside {g} h = subst (λ (y : Slots). Holds y g times values starts) (simp (le-leb end (length s) h))
+module _ (rows : List (List ℕ)) (s : List ℕ) (from end : ℕ) {found : Found} where
+  pub holds_inside : {g : Bool} → end ≤ length s → Holds (fields_at rows (take end s) from) g found →
+      Holds (fields_to rows s from end) g found
+  holds_inside {g} h = subst (λ (y : Slots). Holds y g found) (simp (le-leb end (length s) h))
 
-  pub holds_outside : length s < end → Noted bad_slots times values starts →
-      Holds (fields_to rows s from end) false times values starts
+  pub holds_outside : length s < end → Noted bad_slots found →
+      Holds (fields_to rows s from end) false found
   holds_outside h n =
-      subst (λ (y : Slots). Holds y false times values starts) (simp (lt-leb end (length s) h))
+      subst (λ (y : Slots). Holds y false found) (simp (lt-leb end (length s) h))
       (record { answer = refl; held = n })

@@ -12,6 +12,8 @@ use Rattle.layout.proofs.Names.{has_required, fields_at, embedded, end_of, all_g
 use Rattle.layout.proofs.FieldsLaws.{Towards, starts, no_field, goes_on_lem}
 use Rattle.layout.proofs.AlikeLaws.{none_alike, onto_alike}
 use Rattle.layout.proofs.PartLaws.{part_within}
+use Rattle.std.specs.Prelude.{Option, Some, None}
+use Rattle.wire.specs.Field.{some_field}
 
 -- slots are good or not
 pub not_both : {A : Type 0} {b : Bool} → b ≡ true → b ≡ false → A
@@ -21,14 +23,14 @@ not_both e f = absurd (let z : ◌≡◌ {A = ℕ} 0 1 = cc in omega arith)
 
 -- a field of these bytes, and where it stands
 pub record FieldIn (bs : List ℕ) (i number w v st ln next : ℕ) : Type 0 where
-  pub read : field_at bs i ≡ Field.Good number w v st ln next
+  pub read : field_at bs i ≡ some_field number w v st ln next
   pub inside : i < length bs
   pub bytes : st + ln ≤ length bs
   pub onward : i < next
   pub behind : next ≤ length bs
 
 field_in : (bs : List ℕ) (i : ℕ) {number w v st ln next : ℕ} → i < length bs →
-    field_at bs i ≡ Field.Good number w v st ln next → FieldIn bs i number w v st ln next
+    field_at bs i ≡ some_field number w v st ln next → FieldIn bs i number w v st ln next
 field_in bs i {number} {w} {v} {st} {ln} {next} h e = go (field_past bs i)
   where
     go : PastField i (length bs) (field_at bs i) → FieldIn bs i number w v st ln next
@@ -39,13 +41,13 @@ module _ (bs : List ℕ) (P : ℕ → Type 0) (last : P (length bs))
     (back : (i number w v st ln next : ℕ) → FieldIn bs i number w v st ln next → P next → P i) where
   module _ (i : ℕ) {x xs : Slots} (f : Towards [] bs i x xs) (good : xs.good ≡ true) (h : i < length bs)
       (on : (j : ℕ) → i < j → j ≤ length bs → (y : Slots) → Towards [] bs j y xs → P j) where
-    by_field : (z : Field) → field_at bs i ≡ z → P i
-    by_field Field.Bad e = not_both good (ap (λ (z : Slots). z.good) (sym (no_field f h e)))
-    by_field (Field.Good number w v st ln next) e =
+    by_field : (z : Option Field) → field_at bs i ≡ z → P i
+    by_field None e = not_both good (ap (λ (z : Slots). z.good) (sym (no_field f h e)))
+    by_field (Some r) e =
         let k = field_in bs i h e in
-        let u = use_of [] number w v in
-        back i number w v st ln next k
-        (on next k.onward k.behind (noted u x number v st ln) (goes_on_lem f h e (use_of [] number w v) refl))
+        let u = use_of [] r.number r.wire r.value in
+        back i r.number r.wire r.value r.start r.len r.next k
+        (on r.next k.onward k.behind (noted u x r.number r.value r.start r.len) (goes_on_lem f h e (use_of [] r.number r.wire r.value) refl))
 
   along-from : (most i : ℕ) → length bs ≤ i + most → i ≤ length bs → {x xs : Slots} → Towards [] bs i x xs →
       xs.good ≡ true → P i
@@ -73,8 +75,8 @@ pub record Joint (s : List ℕ) (p : Part) (t : List ℕ) (d : ℕ) (q : List �
 -- a field of the part, read in both
 pub record InBoth (s : List ℕ) (p : Part) (t : List ℕ) (d i number w v st ln next : ℕ) : Type 0 where
   pub inside : i < p.len
-  pub here : field_at (take (end_of p) s) (p.start + i) ≡ Field.Good number w v (p.start + st) ln (p.start + next)
-  pub there : field_at t (d + i) ≡ Field.Good number w v (d + st) ln (d + next)
+  pub here : field_at (take (end_of p) s) (p.start + i) ≡ some_field number w v (p.start + st) ln (p.start + next)
+  pub there : field_at t (d + i) ≡ some_field number w v (d + st) ln (d + next)
   pub bytes : take ln (drop (d + st) t) ≡ take ln (drop (p.start + st) s)
 
 -- bytes inside those that stand somewhere

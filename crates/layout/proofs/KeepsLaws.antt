@@ -11,6 +11,7 @@ use Rattle.layout.specs.Part.{count_of, len_of}
 use Rattle.layout.specs.MergedRules.{holds_bytes, RowsHold, last_start, last_len, Keeps, PartsKept}
 use Rattle.layout.proofs.JointLaws.{not_both, and_first, and_second}
 use Rattle.layout.proofs.KeptLaws.{zeros, same_or_not}
+use Rattle.std.specs.Prelude.{Option, Some, None}
 
 -- there is a place for each slot
 record Slotted (x : Slots) : Type 0 where
@@ -165,13 +166,13 @@ module _ (rows : List (List ℕ)) (k : ℕ) (h : holds_bytes rows k ≡ true) wh
   with-more false p a ps c = grows_then k [] ps a c
 
   field-grows : (s : List ℕ) {x : Slots} → Slotted x → (f : ℕ → Slots → Slots) (g : ℕ → List Part) →
-      ((q : ℕ) (y : Slots) → Slotted y → (f q y).good ≡ true → Grows y k (g q) (f q y)) → (z : Field) →
+      ((q : ℕ) (y : Slots) → Slotted y → (f q y).good ≡ true → Grows y k (g q) (f q y)) → (z : Option Field) →
       (on_field rows x f z).good ≡ true → Grows x k (part_by k g z) (on_field rows x f z)
-  field-grows s {x} a f g on (Field.Good number wire v st ln next) good =
-      let u = use_of rows number wire v in
-      with-more (is_part k number wire) (record { start = st; len = ln }) (by_number a v st ln number wire) (g next)
-      (on next (noted u x number v st ln) (noted_slotted (use_of rows number wire v) number v st ln a) good)
-  field-grows s a f g on Field.Bad good = not_both good refl
+  field-grows s {x} a f g on (Some r) good =
+      let u = use_of rows r.number r.wire r.value in
+      with-more (is_part k r.number r.wire) (record { start = r.start; len = r.len }) (by_number a r.value r.start r.len r.number r.wire) (g r.next)
+      (on r.next (noted u x r.number r.value r.start r.len) (noted_slotted (use_of rows r.number r.wire r.value) r.number r.value r.start r.len a) good)
+  field-grows s a f g on None good = not_both good refl
 
   from_grows : (s : List ℕ) (most at : ℕ) (x : Slots) → Slotted x → (fields_from most rows s at x).good ≡ true →
       Grows x k (parts_from most k s at) (fields_from most rows s at x)

@@ -6,6 +6,7 @@ use Rattle.layout.proofs.Names.{field_at, PastField, Field, field_past, slot_cou
 use Rattle.layout.proofs.Names.{noted, on_field, fields_from, field_list, has_required, Use, Slots}
 use Rattle.layout.specs.FieldsRules.{KeptWithin}
 use Rattle.layout.proofs.FieldsLaws.{kept_slot}
+use Rattle.std.specs.Prelude.{Option, Some, None}
 
 pub zeros : (n k : ℕ) → ◌≡◌ {A = ℕ} (get_or (replicate n 0) k 0) 0
 zeros zero k = refl
@@ -64,12 +65,12 @@ module _ (rows : List (List ℕ)) (n : ℕ) where
 
 module _ (rows : List (List ℕ)) (s : List ℕ) (n : ℕ) (few : length s ≤ n) where
   field_kept : (at : ℕ) {x : Slots} → Kept n x → (more : ℕ → Slots → Slots) →
-      ((q : ℕ) (y : Slots) → Kept n y → Kept n (more q y)) → (z : Field) → PastField at (length s) z →
+      ((q : ℕ) (y : Slots) → Kept n y → Kept n (more q y)) → (z : Option Field) → PastField at (length s) z →
       Kept n (on_field rows x more z)
-  field_kept at {x} a more m (Field.Good number wire v start len next) h =
-      m next (noted (use_of rows number wire v) x number v start len)
-      (noted_kept rows n a number wire v start len (omega arith) (use_of rows number wire v) refl)
-  field_kept at a more m Field.Bad h = bad_kept n
+  field_kept at {x} a more m (Some r) h =
+      m r.next (noted (use_of rows r.number r.wire r.value) x r.number r.value r.start r.len)
+      (noted_kept rows n a r.number r.wire r.value r.start r.len (omega arith) (use_of rows r.number r.wire r.value) refl)
+  field_kept at a more m None h = bad_kept n
 
   pub from_kept_by : (most at : ℕ) {x : Slots} → Kept n x → Kept n (fields_from most rows s at x)
   unfolding fields_from

@@ -1,7 +1,7 @@
 mod Names
 pub mod RowLaws
 pub mod FieldsLaws
-pub mod ArrayLaws
+pub mod FoundLaws
 pub mod CountLaws
 pub mod EnoughLaws
 pub mod TableLaws

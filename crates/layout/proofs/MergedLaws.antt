@@ -12,6 +12,7 @@ use Rattle.layout.proofs.EnoughLaws.{fields_same}
 use Rattle.layout.proofs.KeptLaws.{zeros, same_or_not}
 use Rattle.layout.proofs.JointLaws.{not_both, Joint, here_length, there_length, j_along, joint_rest, rest_good}
 use Rattle.layout.proofs.JointLaws.{first_joint}
+use Rattle.std.specs.Prelude.{Option, Some, None}
 
 -- ---- good or not
 
@@ -23,14 +24,14 @@ noted_good Use.Kept x number v start n = refl
 -- whether a list is good does not hang on the rows
 module _ (rows rows' : List (List ℕ)) (s : List ℕ) where
   field-good : (x y : Slots) → x.good ≡ y.good → (f g : ℕ → Slots → Slots) →
-      ((q : ℕ) (x' y' : Slots) → x'.good ≡ y'.good → (f q x').good ≡ (g q y').good) → (z : Field) →
+      ((q : ℕ) (x' y' : Slots) → x'.good ≡ y'.good → (f q x').good ≡ (g q y').good) → (z : Option Field) →
       (on_field rows x f z).good ≡ (on_field rows' y g z).good
-  field-good x y e f g on (Field.Good number wire v start n next) =
-      let u = use_of rows number wire v in
-      let w = use_of rows' number wire v in
-      on next (noted u x number v start n) (noted w y number v start n)
-      (noted_good u x number v start n ∙ e ∙ sym (noted_good w y number v start n))
-  field-good x y e f g on Field.Bad = refl
+  field-good x y e f g on (Some r) =
+      let u = use_of rows r.number r.wire r.value in
+      let w = use_of rows' r.number r.wire r.value in
+      on r.next (noted u x r.number r.value r.start r.len) (noted w y r.number r.value r.start r.len)
+      (noted_good u x r.number r.value r.start r.len ∙ e ∙ sym (noted_good w y r.number r.value r.start r.len))
+  field-good x y e f g on None = refl
 
   pub from_good : (most at : ℕ) (x y : Slots) → x.good ≡ y.good →
       (fields_from most rows s at x).good ≡ (fields_from most rows' s at y).good
@@ -51,11 +52,11 @@ Settled y = y.good ≡ false → y ≡ bad_slots
 
 module _ (rows : List (List ℕ)) (s : List ℕ) where
   field-settled : (x : Slots) → x.good ≡ true → (f : ℕ → Slots → Slots) →
-      ((q : ℕ) (y : Slots) → y.good ≡ true → Settled (f q y)) → (z : Field) → Settled (on_field rows x f z)
-  field-settled x g f on (Field.Good number wire v start n next) =
-      let u = use_of rows number wire v in
-      on next (noted u x number v start n) (noted_good u x number v start n ∙ g)
-  field-settled x g f on Field.Bad = λ _. refl
+      ((q : ℕ) (y : Slots) → y.good ≡ true → Settled (f q y)) → (z : Option Field) → Settled (on_field rows x f z)
+  field-settled x g f on (Some r) =
+      let u = use_of rows r.number r.wire r.value in
+      on r.next (noted u x r.number r.value r.start r.len) (noted_good u x r.number r.value r.start r.len ∙ g)
+  field-settled x g f on None = λ _. refl
 
   pub from_settled : (most at : ℕ) (x : Slots) → x.good ≡ true → Settled (fields_from most rows s at x)
   unfolding fields_from

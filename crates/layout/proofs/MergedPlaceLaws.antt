@@ -10,10 +10,11 @@ use Rattle.layout.proofs.Names.{parts_onto, Part, Slots}
 use Rattle.layout.specs.Merged.{merged}
 use Rattle.layout.specs.MergedRules.{MergedWithin}
 use Rattle.layout.proofs.AlikeLaws.{Alike, alike_as, none_alike, bad_alike, checked_alike, onto_alike}
-use Rattle.layout.proofs.ArrayLaws.{SameSize, none_sized, bad_sized, from_sized}
+use Rattle.layout.proofs.FoundLaws.{SameSize, none_sized, bad_sized, from_sized}
 use Rattle.layout.proofs.KeptLaws.{Kept, none_kept, bad_kept, from_kept_by}
 use Rattle.layout.proofs.MergeLaws.{AllWithin}
 use Rattle.layout.proofs.PartsLaws.{parts_same}
+use Rattle.std.specs.Prelude.{Option, Some, None}
 
 -- ---- what holds of every list that goes on holds of all parts
 
@@ -99,17 +100,17 @@ module _ (rows : List (List ℕ)) {s : List ℕ} {d : ℕ} {t q : List ℕ} (k :
 
 -- where the parts stand
 module _ (k : ℕ) {s : List ℕ} {d : ℕ} {t : List ℕ} (j : Tail s d t) where
-  by-moved : (f g : ℕ → List Part) → (z : Field) → ((q : ℕ) → f (d + q) ≡ moved_parts d (g q)) →
+  by-moved : (f g : ℕ → List Part) → (z : Option Field) → ((q : ℕ) → f (d + q) ≡ moved_parts d (g q)) →
       part_by k f (moved_field d z) ≡ moved_parts d (part_by k g z)
   unfolding moved_parts
-  by-moved f g (Field.Good number w v st n next) e = go (is_part k number w)
+  by-moved f g (Some r) e = go (is_part k r.number r.wire)
     where
       go : (b : Bool) →
-          cond b (record { start = d + st; len = n } ∷ f (d + next)) (f (d + next))
-          ≡ moved_parts d (cond b (record { start = st; len = n } ∷ g next) (g next))
-      go true = ap (λ (ps : List Part). record { start = d + st; len = n } ∷ ps) (e next)
-      go false = e next
-  by-moved f g Field.Bad e = refl
+          cond b (record { start = d + r.start; len = r.len } ∷ f (d + r.next)) (f (d + r.next))
+          ≡ moved_parts d (cond b (record { start = r.start; len = r.len } ∷ g r.next) (g r.next))
+      go true = ap (λ (ps : List Part). record { start = d + r.start; len = r.len } ∷ ps) (e r.next)
+      go false = e r.next
+  by-moved f g None e = refl
 
   from-moved : (most p : ℕ) → parts_from most k s (d + p) ≡ moved_parts d (parts_from most k t p)
   unfolding parts_from moved_parts

@@ -10,6 +10,7 @@ use Rattle.layout.specs.Padded.{part_padded, parts_padded}
 use Rattle.layout.proofs.MergeLaws.{AllWithin}
 use Rattle.layout.proofs.MergedPlaceLaws.{moved_parts}
 use Rattle.layout.proofs.PaddedLaws.{flag_end, flag_turn, field_ahead, padded_inside}
+use Rattle.std.specs.Prelude.{Option, Some, None}
 
 module _ {s : List ℕ} {d : ℕ} {t : List ℕ} (k : Tail s d t) where
   abbrev Same : ℕ → ℕ → ℕ → Type 0
@@ -27,11 +28,11 @@ module _ {s : List ℕ} {d : ℕ} {t : List ℕ} (k : Tail s d t) where
       ∙ ap₂ (λ (x y : Bool). x || (false || y)) (field_flag_moved k p) (go (field_at t p) refl)
       ∙ sym (flag_turn nothing_inside m t p a h (field_at t p) refl)
     where
-      go : (f : Field) → field_at t p ≡ f →
+      go : (f : Option Field) → field_at t p ≡ f →
           onward (λ next. padded_from nothing_inside (n - 1) s next) (moved_field d f)
           ≡ onward (λ next. padded_from nothing_inside (m - 1) t next) f
-      go (Field.Good number wire value start len next) e = on next (field_ahead t p e)
-      go Field.Bad e = refl
+      go (Some r) e = on r.next (field_ahead t p e)
+      go None e = refl
 
   walks : (most m n p : ℕ) → length t ≤ p + most → length t ≤ p + m → length t ≤ p + n → Same m n p
   walks zero m n p h a b = ended m n p (omega arith)

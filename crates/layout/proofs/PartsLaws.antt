@@ -7,6 +7,7 @@ use Rattle.layout.proofs.Names.{parts_from, parts_of, parts_in, all_good, joined
 use Rattle.layout.specs.MergedRules.{InnerAsGuide}
 use Rattle.layout.proofs.JointLaws.{Joint, here_length, there_length, j_along, joint_rest, rest_good}
 use Rattle.layout.proofs.JointLaws.{first_joint}
+use Rattle.std.specs.Prelude.{Option, Some, None}
 
 -- ---- fuel that is enough makes no difference
 
@@ -16,13 +17,13 @@ module _ (k : ℕ) (s : List ℕ) where
   parts_end zero p h = refl
   parts_end (suc m) p h = simp (le-ltb p (length s) h)
 
-  pub by_same : (at : ℕ) (z : Field) → PastField at (length s) z → (f g : ℕ → List Part) →
+  pub by_same : (at : ℕ) (z : Option Field) → PastField at (length s) z → (f g : ℕ → List Part) →
       ((q : ℕ) → at < q → f q ≡ g q) → part_by k f z ≡ part_by k g z
-  by_same at (Field.Good number wire v start n next) h f g e =
+  by_same at (Some r) h f g e =
       ap
-      (λ (ps : List Part). cond (eqb number k && eqb wire len) (record { start = start; len = n } ∷ ps) ps)
-      (e next h.2)
-  by_same at Field.Bad h f g e = refl
+      (λ (ps : List Part). cond (eqb r.number k && eqb r.wire len) (record { start = r.start; len = r.len } ∷ ps) ps)
+      (e r.next h.2)
+  by_same at None h f g e = refl
 
   pub parts_same : (m n at : ℕ) → length s ≤ at + m → length s ≤ at + n → parts_from m k s at ≡ parts_from n k s at
   unfolding parts_from
@@ -34,7 +35,7 @@ module _ (k : ℕ) (s : List ℕ) where
       (λ q j. parts_same m n q (omega arith) (omega arith)))
 
   -- one field, and the parts behind it
-  pub parts_on : (p : ℕ) → p < length s → (f : Field) → field_at s p ≡ f →
+  pub parts_on : (p : ℕ) → p < length s → (f : Option Field) → field_at s p ≡ f →
       parts_of k s p ≡ part_by k (λ next. parts_of k s next) f
   unfolding parts_from
   parts_on p h f e = parts_same (length s) (suc (length s)) p (omega arith) (omega arith) ∙ go

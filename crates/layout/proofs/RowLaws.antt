@@ -1,19 +1,26 @@
 -- Finding a row, and what it takes, case by case. Assumes nothing.
-use Rattle.prelude.proofs.Basics.{ℕ, ◌+◌, ◌/◌, ◌%◌, ◌^◌, ◌≤◌, ◌<◌, add-one, true, false, ◌≡◌, List, [], length, get_or}
+use Rattle.prelude.proofs.Basics.{ℕ, ◌+◌, ◌/◌, ◌%◌, ◌^◌, ◌≤◌, ◌<◌, add-one, true, false, ◌≡◌, List, length, get_or}
 use Rattle.prelude.proofs.Basics.{drop, drop_of_length-le, drop-cons, eqb, eq-eqb, le-ltb, lt-ltb, ne_eqb}
+use Rattle.layout.specs.Row.{columns, columns_of}
+use Rattle.layout.specs.declared.row.Row.{Row}
 use Rattle.layout.proofs.Names.{number_of, wire_of, listed_of, no_row, row_for, listed, slot_count, takes}
 
-module _ (rows : List (List ℕ)) (number i : ℕ) where
-  pub row_hit : i < length rows → number_of (get_or rows i []) ≡ number → get_or rows i [] ≡ row_for (drop i rows) number
-  unfolding row_for
-  row_hit h e = rw (drop-cons rows i [] h) (simp (eq-eqb (number_of (get_or rows i [])) number e))
+-- what stands past the last row
+abbrev pub past_row : Row
+past_row = record { message = 0; listed = 0; number = 0; wire = 0; required = false; repeated = false }
 
-  pub row_miss : i < length rows → (number_of (get_or rows i []) ≡ number → ⊥) →
-      row_for (drop (i + 1) rows) number ≡ row_for (drop i rows) number
+module _ (rows : List Row) (number i : ℕ) where
+  pub row_hit : i < length rows → (get_or rows i past_row).number ≡ number →
+      columns (get_or rows i past_row) ≡ row_for (columns_of (drop i rows)) number
   unfolding row_for
-  row_miss h e = rw (add-one, drop-cons rows i [] h) (simp (ne_eqb (number_of (get_or rows i [])) number e))
+  row_hit h e = rw (drop-cons rows i past_row h) (simp (eq-eqb (get_or rows i past_row).number number e))
 
-  pub row_end : length rows ≤ i → no_row ≡ row_for (drop i rows) number
+  pub row_miss : i < length rows → ((get_or rows i past_row).number ≡ number → ⊥) →
+      row_for (columns_of (drop (i + 1) rows)) number ≡ row_for (columns_of (drop i rows)) number
+  unfolding row_for
+  row_miss h e = rw (add-one, drop-cons rows i past_row h) (simp (ne_eqb (get_or rows i past_row).number number e))
+
+  pub row_end : length rows ≤ i → no_row ≡ row_for (columns_of (drop i rows)) number
   unfolding row_for
   row_end h = rw (drop_of_length-le rows h)
 

@@ -12,6 +12,8 @@ use Rattle.layout.specs.Reaches.{Reaches, stays, passes}
 use Rattle.layout.proofs.FieldsLaws.{kept_slot}
 use Rattle.layout.proofs.KeptLaws.{same_or_not, zeros, Kept, none_kept, noted_kept, from_kept}
 use Rattle.layout.proofs.EnoughLaws.{field_same}
+use Rattle.std.specs.Prelude.{Option, Some, None}
+use Rattle.wire.specs.Field.{some_field}
 
 -- ---- the same bytes from a place on are the same list from there
 
@@ -125,17 +127,17 @@ module _ (rows : List (List ℕ)) (k : ℕ) (bytes : wire_of (row_for rows k) �
 
   module _ (s : List ℕ) where
     field-later : (p : ℕ) (x : Slots) → Kept (length s) x → (more : ℕ → Slots → Slots) →
-        ((q : ℕ) (y : Slots) → Kept (length s) y → Later q y (more q y)) → (z : Field) → PastField p (length s) z →
+        ((q : ℕ) (y : Slots) → Kept (length s) y → Later q y (more q y)) → (z : Option Field) → PastField p (length s) z →
         Later p x (on_field rows x more z)
-    field-later p x a more m (Field.Good number w v st ln next) h g =
+    field-later p x a more m (Some r) h g =
         ⊎_elim
         (λ q.
         ⊎_elim (λ t. inl (quiet_then t q)) (λ t. inr (omega (arith, t.start, q.start, h.0)))
-        (noted-told (length s) a number w v st ln (use_of rows number w v) refl))
+        (noted-told (length s) a r.number r.wire r.value r.start r.len (use_of rows r.number r.wire r.value) refl))
         (λ l. inr (omega (arith, h.2)))
-        (m next (noted (use_of rows number w v) x number v st ln)
-        (noted_kept rows (length s) a number w v st ln (omega arith) (use_of rows number w v) refl) g)
-    field-later p x a more m Field.Bad h g = absurd (let z : ◌≡◌ {A = ℕ} 0 1 = cc in omega arith)
+        (m r.next (noted (use_of rows r.number r.wire r.value) x r.number r.value r.start r.len)
+        (noted_kept rows (length s) a r.number r.wire r.value r.start r.len (omega arith) (use_of rows r.number r.wire r.value) refl) g)
+    field-later p x a more m None h g = absurd (let z : ◌≡◌ {A = ℕ} 0 1 = cc in omega arith)
 
     from-later : (most p : ℕ) (x : Slots) → Kept (length s) x → Later p x (fields_from most rows s p x)
     unfolding fields_from
@@ -149,7 +151,7 @@ module _ (rows : List (List ℕ)) (k : ℕ) (bytes : wire_of (row_for rows k) �
 
 -- one turn of a walk
 step : (most : ℕ) (rows : List (List ℕ)) (t : List ℕ) (p : ℕ) (x : Slots) {number w v st ln next : ℕ} → p < length t →
-    field_at t p ≡ Field.Good number w v st ln next →
+    field_at t p ≡ some_field number w v st ln next →
     fields_from (suc most) rows t p x ≡ fields_from most rows t next (noted (use_of rows number w v) x number v st ln)
 unfolding fields_from
 step most rows t p x h e = rw (lt-ltb p (length t) h, e)
@@ -162,16 +164,16 @@ module _ (rows : List (List ℕ)) (k : ℕ) (bytes : wire_of (row_for rows k) �
       y.good ≡ true → p < start_of y k → end_in y k ≤ length s → SameBut s t (start_of y k) (end_in y k) →
       fields_from most rows t p x ≡ y
 
-  field-walk : (most p : ℕ) (x : Slots) → Kept (length s) x → start_of x k ≤ p → (z : Field) → field_at s p ≡ z →
+  field-walk : (most p : ℕ) (x : Slots) → Kept (length s) x → start_of x k ≤ p → (z : Option Field) → field_at s p ≡ z →
       PastField p (length s) z →
       ((q : ℕ) (y : Slots) → Kept (length s) y → start_of y k ≤ q → Walk most q y (fields_from most rows s q y)) →
       Walk (suc most) p x (on_field rows x (λ next y. fields_from most rows s next y) z)
-  field-walk most p x a low (Field.Good number w v st ln next) f h on g l n b =
-      let u = use_of rows number w v in
-      let y = noted u x number v st ln in
-      let end = fields_from most rows s next y in
-      let kept = noted_kept rows (length s) a number w v st ln (omega arith) u refl in
-      let told = noted-told rows k bytes once (length s) a number w v st ln u refl in
+  field-walk most p x a low (Some z) f h on g l n b =
+      let u = use_of rows z.number z.wire z.value in
+      let y = noted u x z.number z.value z.start z.len in
+      let end = fields_from most rows s z.next y in
+      let kept = noted_kept rows (length s) a z.number z.wire z.value z.start z.len (omega arith) u refl in
+      let told = noted-told rows k bytes once (length s) a z.number z.wire z.value z.start z.len u refl in
       let same : Agree s t p (start_of end k) =
       record {
         here = omega arith;
@@ -179,23 +181,23 @@ module _ (rows : List (List ℕ)) (k : ℕ) (bytes : wire_of (row_for rows k) �
         same = λ i _ j. b.same i (inl j);
       } in
       let there : p < length t = omega (arith, b.size, h.2, h.3) in
-      let turn : reach w st next ≤ start_of end k → fields_from (suc most) rows t p x ≡ fields_from most rows t next y =
+      let turn : reach z.wire z.start z.next ≤ start_of end k → fields_from (suc most) rows t p x ≡ fields_from most rows t z.next y =
       λ r. step most rows t p x there (field_kept s t (start_of end k) p same f r (omega (arith, b.size, h.3))) in
       ⊎_elim
       (λ q.
       ⊎_elim (λ d. absurd (omega (arith, d.start, q.start, low)))
       (λ d.
-      let two : reach w st next ≡ st = rw d.wire in
+      let two : reach z.wire z.start z.next ≡ z.start = rw d.wire in
       turn (omega (arith, two, q.start, d.start))
-      ∙ from_tail most rows s t next y
+      ∙ from_tail most rows s t z.next y
       (record { size = b.size; same = λ i j. b.same i (inr (omega (arith, q.end, d.end, h.1))) }))
       told)
       (λ j.
-      turn (omega (arith, reach_le w st next (omega arith)))
-      ∙ on next y kept
+      turn (omega (arith, reach_le z.wire z.start z.next (omega arith)))
+      ∙ on z.next y kept
       (⊎_elim (λ d. omega (arith, d.start, low, h.2)) (λ d. omega (arith, d.start, h.1)) told) g j n b)
-      (from-later rows k bytes once s most next y kept g)
-  field-walk most p x a low Field.Bad f h on g l n b = absurd (let z : ◌≡◌ {A = ℕ} 0 1 = cc in omega arith)
+      (from-later rows k bytes once s most z.next y kept g)
+  field-walk most p x a low None f h on g l n b = absurd (let z : ◌≡◌ {A = ℕ} 0 1 = cc in omega arith)
 
   walk : (most p : ℕ) (x : Slots) → Kept (length s) x → start_of x k ≤ p → Walk most p x (fields_from most rows s p x)
   unfolding fields_from
@@ -239,7 +241,7 @@ bytes_unread rows s t from k bytes once g some b =
 
 -- ---- a field on the way
 
-field_ahead : (s : List ℕ) (p : ℕ) {i w v st ln after : ℕ} → field_at s p ≡ Field.Good i w v st ln after → p < after
+field_ahead : (s : List ℕ) (p : ℕ) {i w v st ln after : ℕ} → field_at s p ≡ some_field i w v st ln after → p < after
 field_ahead s p {i} {w} {v} {st} {ln} {after} e = (subst (PastField p (length s)) e (field_past s p)).2
 
 none_left : (rows : List (List ℕ)) (s : List ℕ) (p : ℕ) (x : Slots) → fields_from 0 rows s p x ≡ x
@@ -252,8 +254,8 @@ reaches_later {s} {p} (passes e r) = omega (arith, reaches_later r, field_ahead 
 
 -- the bytes of the field at p are other ones: every field on the way to it, and its own tag and length, are the same
 module _ (s t : List ℕ) (p number value start n next : ℕ)
-    (e : field_at s p ≡ Field.Good number len value start n next) (b : SameBut s t start (start + n)) where
-  inside : PastField p (length s) (Field.Good number len value start n next)
+    (e : field_at s p ≡ some_field number len value start n next) (b : SameBut s t start (start + n)) where
+  inside : PastField p (length s) (some_field number len value start n next)
   inside = subst (PastField p (length s)) e (field_past s p)
 
   agrees : (q : ℕ) → Agree s t q start
@@ -264,11 +266,11 @@ module _ (s t : List ℕ) (p number value start n next : ℕ)
         same = λ i _ j. b.same i (inl j);
       }
 
-  pub field_itself : field_at t p ≡ Field.Good number len value start n next
+  pub field_itself : field_at t p ≡ some_field number len value start n next
   field_itself = field_kept s t start p (agrees p) e (omega arith) (omega (arith, inside.3, b.size))
 
-  pub field_on_way : (q : ℕ) {i w v st ln after : ℕ} → field_at s q ≡ Field.Good i w v st ln after → after ≤ p →
-      field_at t q ≡ Field.Good i w v st ln after
+  pub field_on_way : (q : ℕ) {i w v st ln after : ℕ} → field_at s q ≡ some_field i w v st ln after → after ≤ p →
+      field_at t q ≡ some_field i w v st ln after
   field_on_way q {i} {w} {v} {st} {ln} {after} f h =
       let k = subst (PastField q (length s)) f (field_past s q) in
       field_kept s t start q (agrees q) f (omega (arith, reach_le w st after (omega (arith, k.1)), inside.0))

@@ -15,6 +15,8 @@ use Rattle.layout.specs.Unchosen.{PartOf, InnerPart, Apart, Every, InnerUnread}
 use Rattle.layout.proofs.UnreadLaws.{from_tail, reaches_later, field_itself, field_on_way, tail_behind}
 use Rattle.layout.proofs.UnreadLaws.{from_reached}
 use Rattle.layout.proofs.PartsLaws.{by_same}
+use Rattle.std.specs.Prelude.{Option, Some, None}
+use Rattle.wire.specs.Field.{some_field}
 
 -- ---- lists of parts
 
@@ -31,43 +33,43 @@ every_as P Q f (p ∷ ps) w = (f p w.0, every_as P Q f ps w.1)
 -- ---- the parts of a message, one by one
 
 reaches_on : {s : List ℕ} {p q number wire value start n next : ℕ} → Reaches s p q →
-    field_at s q ≡ Field.Good number wire value start n next → Reaches s p next
+    field_at s q ≡ some_field number wire value start n next → Reaches s p next
 reaches_on stays e = passes e stays
 reaches_on (passes f r) e = passes f (reaches_on r e)
 
 module _ (k : ℕ) (s : List ℕ) (from : ℕ) (P : Part → Type 0)
     (each : (p : Part) → PartOf k s from p → P p) where
   every-by : (at : ℕ) → Reaches s from at → (more : ℕ → List Part) →
-      ((q : ℕ) → Reaches s from q → Every P (more q)) → (z : Field) → field_at s at ≡ z → Every P (part_by k more z)
+      ((q : ℕ) → Reaches s from q → Every P (more q)) → (z : Option Field) → field_at s at ≡ z → Every P (part_by k more z)
   unfolding Every
-  every-by at r more on (Field.Good number wire v st n next) e =
-      go (eqb number k) refl (eqb wire len) refl
+  every-by at r more on (Some z) e =
+      go (eqb z.number k) refl (eqb z.wire len) refl
     where
       p : Part
-      p = record { start = st; len = n }
+      p = record { start = z.start; len = z.len }
 
-      behind : Every P (more next)
-      behind = on next (reaches_on r e)
+      behind : Every P (more z.next)
+      behind = on z.next (reaches_on r e)
 
-      go : (a : Bool) → eqb number k ≡ a → (b : Bool) → eqb wire len ≡ b →
-          Every P (cond (a && b) (p ∷ more next) (more next))
+      go : (a : Bool) → eqb z.number k ≡ a → (b : Bool) → eqb z.wire len ≡ b →
+          Every P (cond (a && b) (p ∷ more z.next) (more z.next))
       go true f true g = (
         each p
             (record {
               place = at;
-              value = v;
-              next = next;
+              value = z.value;
+              next = z.next;
               reached = r;
               field =
                   e
-                  ∙ ap (λ (i : ℕ). Field.Good i wire v st n next) (eqb-true number k f)
-                  ∙ ap (λ (w : ℕ). Field.Good k w v st n next) (eqb-true wire len g);
+                  ∙ ap (λ (i : ℕ). some_field i z.wire z.value z.start z.len z.next) (eqb-true z.number k f)
+                  ∙ ap (λ (w : ℕ). some_field k w z.value z.start z.len z.next) (eqb-true z.wire len g);
             }),
         behind,
       )
       go true f false g = behind
       go false f b g = behind
-  every-by at r more on Field.Bad e = tt
+  every-by at r more on None e = tt
 
   every-from : (most at : ℕ) → Reaches s from at → Every P (parts_from most k s at)
   unfolding Every parts_from
@@ -81,17 +83,33 @@ module _ (k : ℕ) (s : List ℕ) (from : ℕ) (P : Part → Type 0)
 
 -- ---- two fields on the way
 
-past : (s : List ℕ) (p : ℕ) {i w v st n next : ℕ} → field_at s p ≡ Field.Good i w v st n next →
-    PastField p (length s) (Field.Good i w v st n next)
+past : (s : List ℕ) (p : ℕ) {i w v st n next : ℕ} → field_at s p ≡ some_field i w v st n next →
+    PastField p (length s) (some_field i w v st n next)
 past s p e = subst (PastField p (length s)) e (field_past s p)
+
+abbrev next_in : Option Field → ℕ
+next_in (Some f) = f.next
+next_in None = 0
+
+abbrev start_in : Option Field → ℕ
+start_in (Some f) = f.start
+start_in None = 0
+
+abbrev number_in : Option Field → ℕ
+number_in (Some f) = f.number
+number_in None = 0
+
+abbrev len_in : Option Field → ℕ
+len_in (Some f) = f.len
+len_in None = 0
 
 -- the same field is read at the same place
 next_of : (s : List ℕ) (p : ℕ) {i w v st n next i' w' v' st' n' next' : ℕ} →
-    field_at s p ≡ Field.Good i w v st n next → field_at s p ≡ Field.Good i' w' v' st' n' next' → next ≡ next'
-next_of s p e f = cc
+    field_at s p ≡ some_field i w v st n next → field_at s p ≡ some_field i' w' v' st' n' next' → next ≡ next'
+next_of s p e f = ap next_in (sym e ∙ f)
 
 order : {s : List ℕ} {from p q : ℕ} {i w v st n next : ℕ} → Reaches s from p → Reaches s from q → q < p →
-    field_at s q ≡ Field.Good i w v st n next → next ≤ p
+    field_at s q ≡ some_field i w v st n next → next ≤ p
 order stays r h e = absurd (omega (arith, reaches_later r))
 order {s} {from} (passes f r) stays h e = omega (arith, reaches_later r, next_of s from f e)
 order {s} {from} {p} {q} (passes f r) (passes g u) h e =
@@ -125,13 +143,13 @@ module _ {s : List ℕ} {from k j : ℕ} {q p : Part} (a : PartOf k s from q) (b
       (λ l.
       let e : a.place ≡ b.place = omega arith in
       let f = sym a.field ∙ ap (field_at s) e ∙ b.field in
-      same (one f, (let z : k ≡ j = cc in z))))
+      same (one f, ap number_in f)))
     where
-      one : Field.Good k len a.value q.start q.len a.next
-          ≡ Field.Good j len b.value p.start p.len b.next → q ≡ p
+      one : some_field k len a.value q.start q.len a.next
+          ≡ some_field j len b.value p.start p.len b.next → q ≡ p
       one f =
-          let z : q.start ≡ p.start = cc in
-          let y : q.len ≡ p.len = cc in
+          let z : q.start ≡ p.start = ap start_in f in
+          let y : q.len ≡ p.len = ap len_in f in
           ap₂ (λ (i n : ℕ). record { start = i; len = n }) z y
 
 -- a part lies within the message
@@ -154,7 +172,7 @@ parts_tail (suc most) k s t p a =
 
 -- ---- the bytes of one field are other ones
 
-parts_step : (most k : ℕ) (s : List ℕ) (p : ℕ) {f : Field} → p < length s → field_at s p ≡ f →
+parts_step : (most k : ℕ) (s : List ℕ) (p : ℕ) {f : Option Field} → p < length s → field_at s p ≡ f →
     parts_from (suc most) k s p ≡ part_by k (λ next. parts_from most k s next) f
 unfolding parts_from
 parts_step most k s p h e = simp (lt-ltb p (length s) h) (ap (part_by k (λ next. parts_from most k s next)) e)
@@ -164,7 +182,7 @@ unfolding parts_from
 parts_none k s p = refl
 
 module _ (s t : List ℕ) (p number value start n next : ℕ)
-    (e : field_at s p ≡ Field.Good number len value start n next) (b : SameBut s t start (start + n)) (k : ℕ) where
+    (e : field_at s p ≡ some_field number len value start n next) (b : SameBut s t start (start + n)) (k : ℕ) where
   by-more : {xs ys : List Part} (i w st ln : ℕ) → xs ≡ ys →
       cond (is_part k i w) (record { start = st; len = ln } ∷ xs) xs
       ≡ cond (is_part k i w) (record { start = st; len = ln } ∷ ys) ys

@@ -7,6 +7,7 @@ use Rattle.layout.specs.Row.{number_of, is_required, is_repeated, row_for, takes
 use Rattle.layout.specs.Slots.{no_slots, bad_slots}
 use Rattle.layout.specs.declared.slots.Slots.{Slots}
 use Rattle.layout.specs.declared.fields.Use.{Use}
+use Rattle.std.specs.Prelude.{Option, Some, None}
 
 -- a field that no row takes is unknown; a repeated one is counted, any other kept
 abbrev pub use_by : List ℕ → ℕ → ℕ → ℕ → Use
@@ -43,10 +44,10 @@ noted Use.Kept x k v start len =
     }
 
 -- one field, and `more` of the place behind it
-abbrev pub on_field : List (List ℕ) → Slots → (ℕ → Slots → Slots) → Field → Slots
-on_field rows x more (Field.Good number wire value start len next) =
-    more next (noted (use_of rows number wire value) x number value start len)
-on_field rows x more Field.Bad = bad_slots
+abbrev pub on_field : List (List ℕ) → Slots → (ℕ → Slots → Slots) → Option Field → Slots
+on_field rows x more (Some r) =
+    more r.next (noted (use_of rows r.number r.wire r.value) x r.number r.value r.start r.len)
+on_field rows x more None = bad_slots
 
 -- at most `most` fields from the place `at` on, up to the end of s
 unfoldable pub fields_from : ℕ → List (List ℕ) → List ℕ → ℕ → Slots → Slots

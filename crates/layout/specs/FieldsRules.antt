@@ -1,7 +1,6 @@
 -- What holds of every field list beside its definition.
 use Rattle.std.specs.Prelude.{ℕ, ◌+◌, ◌≤◌, true, false, ◌⊎◌, ◌≡◌, List, length, get_or}
 use Rattle.wire.specs.Field.{field_at}
-use Rattle.wire.specs.declared.field.Field.{Field}
 use Rattle.layout.specs.SameBut.{SameBut}
 use Rattle.layout.specs.Reaches.{Reaches}
 use Rattle.layout.specs.Row.{wire_of, is_repeated, row_for}
@@ -9,6 +8,7 @@ use Rattle.layout.specs.Table.{len}
 use Rattle.layout.specs.Slots.{no_slots}
 use Rattle.layout.specs.Fields.{fields_from, field_list, fields_at}
 use Rattle.layout.specs.Part.{start_of, end_in}
+use Rattle.wire.specs.Field.{some_field}
 
 -- the number of fields is no limit: any that is enough for the bytes left gives the same (W9)
 abbrev pub EnoughFields : Type 0
@@ -44,5 +44,5 @@ abbrev pub FieldUnread : Type 0
 FieldUnread =
     (rows : List (List ℕ)) (s t : List ℕ) (from p number value start n next : ℕ) →
     Reaches s from p →
-    field_at s p ≡ Field.Good number len value start n next →
+    field_at s p ≡ some_field number len value start n next →
     SameBut s t start (start + n) → fields_at rows t from ≡ fields_at rows s from

@@ -8,6 +8,7 @@ use Rattle.layout.specs.Table.{len}
 use Rattle.layout.specs.Fields.{fields_onto, checked}
 use Rattle.layout.specs.declared.part.Part.{Part}
 use Rattle.layout.specs.declared.slots.Slots.{Slots}
+use Rattle.std.specs.Prelude.{Option, Some, None}
 
 -- a message in one part
 abbrev pub one_part : ℕ → ℕ → List Part
@@ -24,10 +25,10 @@ abbrev pub is_part : ℕ → ℕ → ℕ → Bool
 is_part k number wire = eqb number k && eqb wire len
 
 -- one field, and `more` of the place behind it
-abbrev pub part_by : ℕ → (ℕ → List Part) → Field → List Part
-part_by k more (Field.Good number wire value start n next) =
-    cond (is_part k number wire) (record { start = start; len = n } ∷ more next) (more next)
-part_by k more Field.Bad = []
+abbrev pub part_by : ℕ → (ℕ → List Part) → Option Field → List Part
+part_by k more (Some r) =
+    cond (is_part k r.number r.wire) (record { start = r.start; len = r.len } ∷ more r.next) (more r.next)
+part_by k more None = []
 
 -- the parts in field k among at most `most` fields from the place `at` on
 unfoldable pub parts_from : ℕ → ℕ → List ℕ → ℕ → List Part

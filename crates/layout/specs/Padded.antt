@@ -5,25 +5,26 @@ use Rattle.wire.specs.Field.{field_at}
 use Rattle.wire.specs.Padded.{field_padded}
 use Rattle.wire.specs.declared.field.Field.{Field}
 use Rattle.layout.specs.declared.part.Part.{Part}
+use Rattle.std.specs.Prelude.{Option, Some, None}
 
 -- what is said of the fields behind a good one
-abbrev pub onward : (ℕ → Bool) → Field → Bool
-onward more (Field.Good number wire value start len next) = more next
-onward more Field.Bad = false
+abbrev pub onward : (ℕ → Bool) → Option Field → Bool
+onward more (Some r) = more r.next
+onward more None = false
 
 -- at most `most` fields from the place `at` on, up to the end of s or to a bad one
-unfoldable pub padded_from : (Field → Bool) → ℕ → List ℕ → ℕ → Bool
+unfoldable pub padded_from : (Option Field → Bool) → ℕ → List ℕ → ℕ → Bool
 padded_from inside zero s at = false
 padded_from inside (suc most) s at =
     let more = onward (λ next. padded_from inside most s next) (field_at s at) in
     cond (ltb at (length s)) (field_padded s at || (inside (field_at s at) || more)) false
 
 -- a field has a byte at least, so there are no more fields than bytes
-abbrev pub padded_list : (Field → Bool) → List ℕ → ℕ → Bool
+abbrev pub padded_list : (Option Field → Bool) → List ℕ → ℕ → Bool
 padded_list inside s from = padded_from inside (length s) s from
 
 -- a message's own fields, and nothing inside them
-abbrev pub nothing_inside : Field → Bool
+abbrev pub nothing_inside : Option Field → Bool
 nothing_inside field = false
 
 abbrev pub list_padded : List ℕ → ℕ → Bool

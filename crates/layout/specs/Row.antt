@@ -1,5 +1,6 @@
 -- A row of the layout table: its columns, and which fields it takes.
-use Rattle.std.specs.Prelude.{ℕ, ◌/◌, ◌%◌, ◌^◌, Bool, true, false, cond, List, [], ◌∷◌, get_or, ltb, eqb}
+use Rattle.std.specs.Prelude.{ℕ, ◌/◌, ◌%◌, ◌^◌, Bool, true, false, cond, List, [], ◌∷◌, map, get_or, ltb, eqb}
+use Rattle.layout.specs.declared.row.Row.{Row}
 
 abbrev pub message_of : List ℕ → ℕ
 message_of row = get_or row 0 0
@@ -18,6 +19,14 @@ is_repeated row = eqb (get_or row 4 0) 1
 
 abbrev pub listed_of : List ℕ → ℕ
 listed_of row = get_or row 5 0
+
+-- the columns of a row of the code, and of some
+abbrev pub columns : Row → List ℕ
+columns row =
+    row.message ∷ row.number ∷ row.wire ∷ cond row.required 1 0 ∷ cond row.repeated 1 0 ∷ row.listed ∷ []
+
+abbrev pub columns_of : List Row → List (List ℕ)
+columns_of rows = map columns rows
 
 -- the row that no field number has
 abbrev pub no_row : List ℕ

@@ -1,13 +1,13 @@
 -- A part inside a part: the rest of the message reads alike whatever its bytes are (L10).
 use Rattle.std.specs.Prelude.{ℕ, ◌≤◌, ◌≡◌, ◌⊎◌, List, [], ◌∷◌, take}
 use Rattle.wire.specs.Field.{field_at}
-use Rattle.wire.specs.declared.field.Field.{Field}
 use Rattle.layout.specs.SameBut.{SameBut}
 use Rattle.layout.specs.Reaches.{Reaches}
 use Rattle.layout.specs.Table.{len}
 use Rattle.layout.specs.Fields.{fields_at}
 use Rattle.layout.specs.Merged.{end_of, parts_of, parts_in, merged}
 use Rattle.layout.specs.declared.part.Part.{Part}
+use Rattle.wire.specs.Field.{some_field}
 
 -- p is a part in field k of the message that goes from the place `from` to the end of s: a field on the way through it
 pub record PartOf (k : ℕ) (s : List ℕ) (from : ℕ) (p : Part) : Type 0 where
@@ -15,7 +15,7 @@ pub record PartOf (k : ℕ) (s : List ℕ) (from : ℕ) (p : Part) : Type 0 wher
   pub value : ℕ
   pub next : ℕ
   pub reached : Reaches s from place
-  pub field : field_at s place ≡ Field.Good k len value p.start p.len next
+  pub field : field_at s place ≡ some_field k len value p.start p.len next
 
 -- q is a part in field k of such a part, in field f of the message
 pub record InnerPart (f k : ℕ) (s : List ℕ) (from : ℕ) (p q : Part) : Type 0 where

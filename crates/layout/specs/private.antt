@@ -1,3 +1,3 @@
-pub mod Arrays
-pub mod NextPart
+pub mod Found
+pub mod Parts
 pub mod Counted

@@ -1,12 +1,14 @@
 // The one field-list reader, driven by a message's rows.
 ghost use Rattle.std.specs.Prelude.{◌≡◌, ◌||◌, ◌+◌, ◌<◌};
-ghost use Rattle.layout.specs.Slots.{bad_slots};
+ghost use Rattle.layout.specs.Row.{columns, columns_of};
 ghost use Rattle.layout.specs.Fields.{fields_onto, fields_to, has_required, met, use_by, use_of};
 ghost use Rattle.layout.specs.Padded.{list_padded, padded_to};
-ghost use Rattle.layout.specs.private.Arrays.{Adds, Holds, Noted, Settles, up_to_two};
+ghost use Rattle.wire.specs.Field.{field_at};
+ghost use Rattle.wire.specs.Padded.{field_padded};
+ghost use Rattle.layout.specs.private.Found.{Adds, Holds, Settles, found_times};
 
-use crate::row::{COLUMNS, NUMBER, REPEATED, REQUIRED};
-use crate::slots::SLOTS;
+use crate::found::Found;
+use crate::row::Row;
 use wire::field::Field;
 
 // What a message makes of a field: it is skipped, only counted (a repeated field, whose occurrences are
@@ -19,208 +21,145 @@ pub enum Use {
 }
 
 // By the row of the field's number.
-fn use_by(row: [u16; COLUMNS], number: u64, wire: u64, value: u64) -> Use
-    ensures { result ≡ use_by row number wire value }
+fn use_by(row: Row, number: u64, wire: u64, value: u64) -> Use
+    ensures { result ≡ use_by (columns row) number wire value }
 {
-    if !crate::row::row_takes(row, number, wire, value) {
+    if !row.takes(number, wire, value) {
         return Use::Unknown;
     }
-    if row[REPEATED] == 1 {
+    if row.repeated {
         return Use::Counted;
     }
     Use::Kept
 }
 
 // By the message's rows; a number that no row has, and no field has the number 0, is unknown at once.
-fn use_of(rows: &[[u16; COLUMNS]], number: u64, wire: u64, value: u64) -> Use
+fn use_of(rows: &[Row], number: u64, wire: u64, value: u64) -> Use
     requires { 0 < number }
-    ensures { result ≡ use_of rows.now number wire value }
+    ensures { result ≡ use_of (columns_of rows.now) number wire value }
 {
-    let mut i = 0;
-    while i < rows.len() {
-        if crate::row::wide(rows[i][NUMBER]) == number {
-            return use_by(rows[i], number, wire, value);
+    for row in rows {
+        if u64::from(row.number) == number {
+            return use_by(*row, number, wire, value);
         }
-        i += 1;
     }
     Use::Unknown
 }
 
-// Arrays that hold nothing.
-pub fn clear(times: &mut [u8; SLOTS], values: &mut [u64; SLOTS], starts: &mut [usize; SLOTS])
-    ensures { Noted bad_slots times.new values.new starts.new }
-{
-    *times = [0; SLOTS];
-    *values = [0; SLOTS];
-    *starts = [0; SLOTS];
-}
-
-// Once more than this; 2 says twice or more.
-fn once_more(times: u8) -> u8
-    ensures { result ≡ up_to_two (times + 1) }
-{
-    if times == 0 { 1 } else { 2 }
-}
-
-// The fields of s from `from` on, noted in arrays behind what these hold; answers whether all are good.
-fn list_fields(
-    rows: &[[u16; COLUMNS]],
-    s: &[u8],
-    from: usize,
-    times: &mut [u8; SLOTS],
-    values: &mut [u64; SLOTS],
-    starts: &mut [usize; SLOTS],
-    padded: &mut bool,
-) -> bool
-    ensures listed { Adds (fields_onto rows.now s.now from) times.old values.old
-        starts.old result times.new values.new starts.new }
-    ensures told { padded.new ≡ (padded.old || list_padded s.now from) }
-{
-    let mut p = from;
-    while p < s.len() {
-        let Field::Good {
-            number,
-            wire,
-            value,
-            start,
-            len: _,
-            next,
-        } = wire::field::read_field(s, p, padded)
-        else {
-            return false;
-        };
-        let k = number as usize;
-        match use_of(rows, number, wire, value) {
-            Use::Unknown => {}
-            Use::Counted => {
-                times[k] = once_more(times[k]);
-            }
-            Use::Kept => {
-                times[k] = once_more(times[k]);
-                values[k] = value;
-                starts[k] = start;
-            }
-        }
-        p = next;
-    }
-    true
-}
-
-// The same for parts: with two callers list_fields would not be inlined, and reading a list a fifth slower.
-pub(crate) fn long_list(
-    rows: &[[u16; COLUMNS]],
-    s: &[u8],
-    from: usize,
-    times: &mut [u8; SLOTS],
-    values: &mut [u64; SLOTS],
-    starts: &mut [usize; SLOTS],
-    padded: &mut bool,
-) -> bool
-    ensures listed { Adds (fields_onto rows.now s.now from) times.old values.old
-        starts.old result times.new values.new starts.new }
-    ensures told { padded.new ≡ (padded.old || list_padded s.now from) }
-{
-    let mut p = from;
-    while p < s.len() {
-        let Field::Good {
-            number,
-            wire,
-            value,
-            start,
-            len: _,
-            next,
-        } = wire::field::long_field(s, p, padded)
-        else {
-            return false;
-        };
-        let k = number as usize;
-        match use_of(rows, number, wire, value) {
-            Use::Unknown => {}
-            Use::Counted => {
-                times[k] = once_more(times[k]);
-            }
-            Use::Kept => {
-                times[k] = once_more(times[k]);
-                values[k] = value;
-                starts[k] = start;
-            }
-        }
-        p = next;
-    }
-    true
-}
-
 // Whether a row's field occurs, if it is required.
-fn row_met(row: [u16; COLUMNS], times: &[u8]) -> bool
-    ensures { result ≡ met row times.now }
+fn row_met(row: Row, found: &Found) -> bool
+    ensures { result ≡ met (columns row) (found_times found.now) }
 {
-    if row[REQUIRED] != 1 {
+    if !row.required {
         return true;
     }
-    let k = crate::row::wide(row[NUMBER]) as usize;
-    if times.len() <= k {
-        return false;
+    match found.slots.get(usize::from(row.number)) {
+        Some(slot) => slot.times != 0,
+        None => false,
     }
-    times[k] != 0
 }
 
-// Whether each required field of the message occurs.
-fn has_required(rows: &[[u16; COLUMNS]], times: &[u8]) -> bool
-    ensures { result ≡ has_required rows.now times.now }
-{
-    let mut i = 0;
-    while i < rows.len() {
-        if !row_met(rows[i], times) {
+// How a list reads a field. For each way `list_fields` is compiled by itself, so that a message of one part, its only
+// caller that way, has it inlined: with two callers reading a list takes a fifth longer.
+pub(crate) trait FieldReader {
+    fn read(s: &[u8], at: usize, padded: &mut bool) -> Option<Field>
+        ensures answer { result ≡ field_at s.now at }
+        ensures told { padded.new ≡ (padded.old || field_padded s.now at) };
+}
+
+// With the short ways, for messages of one part.
+pub(crate) struct InPlace;
+
+impl FieldReader for InPlace {
+    fn read(s: &[u8], at: usize, padded: &mut bool) -> Option<Field> {
+        wire::field::read_field(s, at, padded)
+    }
+}
+
+// The long way, for parts.
+pub(crate) struct ByCall;
+
+impl FieldReader for ByCall {
+    fn read(s: &[u8], at: usize, padded: &mut bool) -> Option<Field> {
+        wire::field::long_field(s, at, padded)
+    }
+}
+
+impl Found {
+    // The fields of s from `from` on, noted behind what was found; answers whether all are good.
+    pub(crate) fn list_fields<R: FieldReader>(
+        &mut self,
+        rows: &[Row],
+        s: &[u8],
+        from: usize,
+        padded: &mut bool,
+    ) -> bool
+        ensures listed { Adds (fields_onto (columns_of rows.now) s.now from) self.old result self.new }
+        ensures told { padded.new ≡ (padded.old || list_padded s.now from) }
+    {
+        // No index is counted: p goes on by what was read.
+        let mut p = from;
+        while p < s.len() {
+            let Some(field) = R::read(s, p, padded) else {
+                return false;
+            };
+            let k = field.number as usize;
+            match use_of(rows, field.number, field.wire, field.value) {
+                Use::Unknown => {}
+                Use::Counted => self.count(k),
+                Use::Kept => self.keep(k, field.value, field.start),
+            }
+            p = field.next;
+        }
+        true
+    }
+
+    // Whether each required field of the message occurs.
+    fn has_required(&self, rows: &[Row]) -> bool
+        ensures { result ≡ has_required (columns_of rows.now) (found_times self.now) }
+    {
+        for row in rows {
+            if !row_met(*row, self) {
+                return false;
+            }
+        }
+        true
+    }
+
+    // The list that was found as a message with these rows: it must be good and have each required field, and else
+    // nothing is found.
+    pub(crate) fn settle(&mut self, rows: &[Row], good: bool) -> bool
+        ensures { Settles (columns_of rows.now) good self.old result self.new }
+    {
+        if !good {
+            self.clear();
             return false;
         }
-        i += 1;
+        if !self.has_required(rows) {
+            self.clear();
+            return false;
+        }
+        true
     }
-    true
-}
 
-// The list that the arrays hold as a message with these rows: it must be good and have each required field, and else
-// the arrays are cleared.
-pub(crate) fn settle(
-    rows: &[[u16; COLUMNS]],
-    good: bool,
-    times: &mut [u8; SLOTS],
-    values: &mut [u64; SLOTS],
-    starts: &mut [usize; SLOTS],
-) -> bool
-    ensures { Settles rows.now good times.old values.old starts.old result
-        times.new values.new starts.new }
-{
-    if !good {
-        clear(times, values, starts);
-        return false;
+    // The message with these rows whose bytes go from `from` to `end`. Answers whether it is good; where it is not,
+    // nothing is found.
+    pub fn fill_fields(
+        &mut self,
+        rows: &[Row],
+        s: &[u8],
+        from: usize,
+        end: usize,
+        padded: &mut bool,
+    ) -> bool
+        ensures holds { Holds (fields_to (columns_of rows.now) s.now from end) result self.new }
+        ensures told { padded.new ≡ (padded.old || padded_to s.now from end) }
+    {
+        self.clear();
+        if s.len() < end {
+            return false;
+        }
+        let good = self.list_fields::<InPlace>(rows, &s[..end], from, padded);
+        self.settle(rows, good)
     }
-    if !has_required(rows, times) {
-        clear(times, values, starts);
-        return false;
-    }
-    true
-}
-
-// The message with these rows whose bytes go from `from` to `end`. Answers whether it is good; the
-// arrays then hold, by field number, whether it occurs never (0), once or more often (2), its value and its place.
-pub fn fill_fields(
-    rows: &[[u16; COLUMNS]],
-    s: &[u8],
-    from: usize,
-    end: usize,
-    times: &mut [u8; SLOTS],
-    values: &mut [u64; SLOTS],
-    starts: &mut [usize; SLOTS],
-    padded: &mut bool,
-) -> bool
-    ensures holds { Holds (fields_to rows.now s.now from end) result times.new values.new
-        starts.new }
-    ensures told { padded.new ≡ (padded.old || padded_to s.now from end) }
-{
-    clear(times, values, starts);
-    if s.len() < end {
-        return false;
-    }
-    let good = list_fields(rows, &s[..end], from, times, values, starts, padded);
-    settle(rows, good, times, values, starts)
 }

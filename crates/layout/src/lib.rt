@@ -2,8 +2,10 @@
 #![tactic(auto)]
 
 pub mod fields;
+pub mod found;
 pub mod merge;
 pub mod part;
+pub mod parts;
 pub mod row;
 pub mod rows;
 pub mod slots;

@@ -1,32 +1,24 @@
 // One row of the layout table, and whether it takes a field.
 ghost use Rattle.std.specs.Prelude.{◌≡◌};
-ghost use Rattle.layout.specs.Row.{listed, takes};
+ghost use Rattle.layout.specs.Row.{columns, listed, takes};
 
 use crate::slots::SLOTS;
 use protocol::uint32;
 
-// The columns of a row; the message stands first.
-pub const COLUMNS: usize = 6;
-
-pub(crate) const NUMBER: usize = 1;
-
-const WIRE: usize = 2;
-
-pub(crate) const REQUIRED: usize = 3;
-
-pub(crate) const REPEATED: usize = 4;
-
-const LISTED: usize = 5;
-
-// The values that the last column can list.
-const LISTED_BITS: u64 = 16;
-
-// A cast that asks nothing.
-pub fn wide(x: u16) -> u64
-    ensures { result ≡ x }
-{
-    x as u64
+// A known field of a message: its number and wire type, whether it must occur and whether it may occur more than once,
+// and the listed values v of an enum as the sum of 2^v (0: no enum).
+#[derive(Clone, Copy)]
+pub struct Row {
+    pub message: u16,
+    pub listed: u16,
+    pub number: u16,
+    pub wire: u16,
+    pub required: bool,
+    pub repeated: bool,
 }
+
+// The values that `listed` can list.
+const LISTED_BITS: u64 = 16;
 
 // Whether an enum's value is among the listed ones.
 pub fn is_listed(values: u16, value: u64) -> bool
@@ -39,20 +31,22 @@ pub fn is_listed(values: u16, value: u64) -> bool
     if LISTED_BITS <= v {
         return false;
     }
-    (wide(values) >> v) % 2 == 1
+    (u64::from(values) >> v) % 2 == 1
 }
 
-pub fn row_takes(row: [u16; COLUMNS], number: u64, wire: u64, value: u64) -> bool
-    ensures { result ≡ takes row number wire value }
-{
-    if SLOTS as u64 <= number {
-        return false;
+impl Row {
+    pub fn takes(self, number: u64, wire: u64, value: u64) -> bool
+        ensures { result ≡ takes (columns self) number wire value }
+    {
+        if SLOTS as u64 <= number {
+            return false;
+        }
+        if u64::from(self.number) != number {
+            return false;
+        }
+        if u64::from(self.wire) != wire {
+            return false;
+        }
+        is_listed(self.listed, value)
     }
-    if wide(row[NUMBER]) != number {
-        return false;
-    }
-    if wide(row[WIRE]) != wire {
-        return false;
-    }
-    is_listed(row[LISTED], value)
 }

@@ -1,5 +1,5 @@
-// What a message's field list holds, by field number. The definitions speak of it; the reader notes it
-// in arrays that its caller lends, and no function passes it.
+// What a message's field list holds, by field number. The definitions speak of it; the reader notes as much of it as
+// matters in a Found, and no function passes it.
 
 // The known field numbers of every message are below this.
 pub const SLOTS: usize = 10;

@@ -1,7 +1,5 @@
-// The layout table: a row for each message and field number, with its columns in this order:
-// message, field number, wire type, required, repeated, and the listed values v of an enum as the sum
-// of 2^v (0: no enum).
-use crate::row::COLUMNS;
+// The layout table: a row for each message and field number.
+use crate::row::Row;
 use protocol::{client, wire_type};
 
 // Messages: the client messages by their type, the embedded ones by numbers of our own that no
@@ -40,13 +38,13 @@ const LEN: u16 = wire_type::LEN as u16;
 const F32: u16 = wire_type::I32 as u16;
 
 // Required or optional; repeated or not.
-const MUST: u16 = 1;
+const MUST: bool = true;
 
-const MAY: u16 = 0;
+const MAY: bool = false;
 
-const MANY: u16 = 1;
+const MANY: bool = true;
 
-const ONCE: u16 = 0;
+const ONCE: bool = false;
 
 // Listed values of the enums: types of a prepared statement, of an Open's statement, of an Any and of a
 // Scalar.
@@ -58,67 +56,81 @@ const ANYS: u16 = 0b1110;
 
 const SCALARS: u16 = 0b1_1111_1110;
 
-pub const PREPARE_ROWS: [[u16; COLUMNS]; 2] = [
-    [PREPARE, 1, NUM, MUST, ONCE, 0],
-    [PREPARE, 2, LEN, MUST, ONCE, 0],
+// A row on a line.
+macro_rules! row {
+    [$message:expr, $number:expr, $wire:expr, $required:expr, $repeated:expr, $listed:expr] => {
+        Row {
+            message: $message,
+            listed: $listed,
+            number: $number,
+            wire: $wire,
+            required: $required,
+            repeated: $repeated,
+        }
+    };
+}
+
+pub const PREPARE_ROWS: [Row; 2] = [
+    row![PREPARE, 1, NUM, MUST, ONCE, 0],
+    row![PREPARE, 2, LEN, MUST, ONCE, 0],
 ];
 
-pub const PREPARE_STMT_ROWS: [[u16; COLUMNS]; 6] = [
-    [PREPARE_STMT, 1, NUM, MUST, ONCE, STMTS],
-    [PREPARE_STMT, 2, LEN, MAY, ONCE, 0],
-    [PREPARE_STMT, 3, LEN, MAY, ONCE, 0],
-    [PREPARE_STMT, 4, LEN, MAY, ONCE, 0],
-    [PREPARE_STMT, 5, LEN, MAY, ONCE, 0],
-    [PREPARE_STMT, 6, LEN, MAY, ONCE, 0],
+pub const PREPARE_STMT_ROWS: [Row; 6] = [
+    row![PREPARE_STMT, 1, NUM, MUST, ONCE, STMTS],
+    row![PREPARE_STMT, 2, LEN, MAY, ONCE, 0],
+    row![PREPARE_STMT, 3, LEN, MAY, ONCE, 0],
+    row![PREPARE_STMT, 4, LEN, MAY, ONCE, 0],
+    row![PREPARE_STMT, 5, LEN, MAY, ONCE, 0],
+    row![PREPARE_STMT, 6, LEN, MAY, ONCE, 0],
 ];
 
-pub const STMT_EXECUTE_ROWS: [[u16; COLUMNS]; 4] = [
-    [STMT_EXECUTE, 1, LEN, MUST, ONCE, 0],
-    [STMT_EXECUTE, 2, LEN, MAY, MANY, 0],
-    [STMT_EXECUTE, 3, LEN, MAY, ONCE, 0],
-    [STMT_EXECUTE, 4, NUM, MAY, ONCE, 0],
+pub const STMT_EXECUTE_ROWS: [Row; 4] = [
+    row![STMT_EXECUTE, 1, LEN, MUST, ONCE, 0],
+    row![STMT_EXECUTE, 2, LEN, MAY, MANY, 0],
+    row![STMT_EXECUTE, 3, LEN, MAY, ONCE, 0],
+    row![STMT_EXECUTE, 4, NUM, MAY, ONCE, 0],
 ];
 
-pub const EXECUTE_ROWS: [[u16; COLUMNS]; 3] = [
-    [EXECUTE, 1, NUM, MUST, ONCE, 0],
-    [EXECUTE, 2, LEN, MAY, MANY, 0],
-    [EXECUTE, 3, NUM, MAY, ONCE, 0],
+pub const EXECUTE_ROWS: [Row; 3] = [
+    row![EXECUTE, 1, NUM, MUST, ONCE, 0],
+    row![EXECUTE, 2, LEN, MAY, MANY, 0],
+    row![EXECUTE, 3, NUM, MAY, ONCE, 0],
 ];
 
-pub const DEALLOCATE_ROWS: [[u16; COLUMNS]; 1] = [[DEALLOCATE, 1, NUM, MUST, ONCE, 0]];
+pub const DEALLOCATE_ROWS: [Row; 1] = [row![DEALLOCATE, 1, NUM, MUST, ONCE, 0]];
 
-pub const OPEN_ROWS: [[u16; COLUMNS]; 3] = [
-    [OPEN, 1, NUM, MUST, ONCE, 0],
-    [OPEN, 4, LEN, MUST, ONCE, 0],
-    [OPEN, 5, NUM, MAY, ONCE, 0],
+pub const OPEN_ROWS: [Row; 3] = [
+    row![OPEN, 1, NUM, MUST, ONCE, 0],
+    row![OPEN, 4, LEN, MUST, ONCE, 0],
+    row![OPEN, 5, NUM, MAY, ONCE, 0],
 ];
 
-pub const OPEN_STMT_ROWS: [[u16; COLUMNS]; 2] = [
-    [OPEN_STMT, 1, NUM, MUST, ONCE, ZERO],
-    [OPEN_STMT, 2, LEN, MAY, ONCE, 0],
+pub const OPEN_STMT_ROWS: [Row; 2] = [
+    row![OPEN_STMT, 1, NUM, MUST, ONCE, ZERO],
+    row![OPEN_STMT, 2, LEN, MAY, ONCE, 0],
 ];
 
-pub const FETCH_ROWS: [[u16; COLUMNS]; 2] = [
-    [FETCH, 1, NUM, MUST, ONCE, 0],
-    [FETCH, 2, NUM, MAY, ONCE, 0],
+pub const FETCH_ROWS: [Row; 2] = [
+    row![FETCH, 1, NUM, MUST, ONCE, 0],
+    row![FETCH, 2, NUM, MAY, ONCE, 0],
 ];
 
-pub const CLOSE_ROWS: [[u16; COLUMNS]; 1] = [[CLOSE, 1, NUM, MUST, ONCE, 0]];
+pub const CLOSE_ROWS: [Row; 1] = [row![CLOSE, 1, NUM, MUST, ONCE, 0]];
 
-pub const ANY_ROWS: [[u16; COLUMNS]; 2] = [
-    [ANY, 1, NUM, MUST, ONCE, ANYS],
-    [ANY, 2, LEN, MAY, ONCE, 0],
+pub const ANY_ROWS: [Row; 2] = [
+    row![ANY, 1, NUM, MUST, ONCE, ANYS],
+    row![ANY, 2, LEN, MAY, ONCE, 0],
 ];
 
-pub const SCALAR_ROWS: [[u16; COLUMNS]; 8] = [
-    [SCALAR, 1, NUM, MUST, ONCE, SCALARS],
-    [SCALAR, 2, NUM, MAY, ONCE, 0],
-    [SCALAR, 3, NUM, MAY, ONCE, 0],
-    [SCALAR, 5, LEN, MAY, ONCE, 0],
-    [SCALAR, 6, F64, MAY, ONCE, 0],
-    [SCALAR, 7, F32, MAY, ONCE, 0],
-    [SCALAR, 8, NUM, MAY, ONCE, 0],
-    [SCALAR, 9, LEN, MAY, ONCE, 0],
+pub const SCALAR_ROWS: [Row; 8] = [
+    row![SCALAR, 1, NUM, MUST, ONCE, SCALARS],
+    row![SCALAR, 2, NUM, MAY, ONCE, 0],
+    row![SCALAR, 3, NUM, MAY, ONCE, 0],
+    row![SCALAR, 5, LEN, MAY, ONCE, 0],
+    row![SCALAR, 6, F64, MAY, ONCE, 0],
+    row![SCALAR, 7, F32, MAY, ONCE, 0],
+    row![SCALAR, 8, NUM, MAY, ONCE, 0],
+    row![SCALAR, 9, LEN, MAY, ONCE, 0],
 ];
 
-pub const BYTES_ROWS: [[u16; COLUMNS]; 1] = [[BYTES, 1, LEN, MUST, ONCE, 0]];
+pub const BYTES_ROWS: [Row; 1] = [row![BYTES, 1, LEN, MUST, ONCE, 0]];

@@ -1,12 +1,13 @@
 -- Bytes behind a frame are not read. Assumes nothing.
 use Rattle.prelude.proofs.Basics.{ℕ, zero, suc, ◌+◌, ◌*◌, ◌≤◌, ◌<◌, arith, Bool, true, false, ◌≡◌, refl, sym, ap, ap₂}
 use Rattle.prelude.proofs.Basics.{◌∙◌, List, ◌++◌, length, get_or, take, drop, List·getD-append, length-append}
-use Rattle.prelude.proofs.Basics.{length-drop, drop-append-le, take-append-le, eqb, leb, ltb, eqb-false, le-leb, le-ltb}
-use Rattle.prelude.proofs.Basics.{leb-true, ltb-false}
+use Rattle.prelude.proofs.Basics.{length-drop, drop-append-le, take-append-le, eqb, leb, ltb, eqb-false, le-leb}
+use Rattle.prelude.proofs.Basics.{le-ltb, leb-true, ltb-false, Ok, Err}
 use Rattle.protocol.specs.Reason as Reason
+use Rattle.protocol.specs.declared.reason.Reason.TheVariants as Declared
 use Rattle.message.proofs.Names.{little, nth_argument, length_bytes, max_length, length_of, head_of, args_of, payload}
 use Rattle.message.proofs.Names.{frame_in, of_head, frame_of, reason_of, used_of, part_of, chosen_part, argument_in}
-use Rattle.message.proofs.Names.{PartsInside, Head, Frame}
+use Rattle.message.proofs.Names.{PartsInside, HeadResult, Frame}
 use Rattle.message.specs.Frame.{body_in}
 use Rattle.message.specs.UnreadRules.{BehindUnread}
 use Rattle.message.proofs.WithinLaws.{frame_within}
@@ -24,7 +25,7 @@ little_same (suc k) s t at h =
 -- no fewer bytes, the same up to the payload: the same head, if s has it
 pub head_same : (s t : List ℕ) → length s ≤ length t →
     ((i : ℕ) → i < payload → i < length s → get_or t i 0 ≡ get_or s i 0) →
-    (head_of s ≡ Head.Refused Reason.not_all_there → ⊥) → head_of t ≡ head_of s
+    (head_of s ≡ Err Declared.NotAllThere → ⊥) → head_of t ≡ head_of s
 head_same s t more same some = go (leb length_bytes (length s)) refl
   where
     known : length_bytes ≤ length s → length_of t ≡ length_of s
@@ -61,15 +62,15 @@ head_same s t more same some = go (leb length_bytes (length s)) refl
 -- ---- the frame
 
 frame_some : (s : List ℕ) → (reason_of (frame_of s) ≡ Reason.not_all_there → ⊥) →
-    head_of s ≡ Head.Refused Reason.not_all_there → ⊥
+    head_of s ≡ Err Declared.NotAllThere → ⊥
 unfolding frame_of
 frame_some s some e = some (rw e)
 
 module _ (s behind : List ℕ) where
-  head-behind : (h : Head) → head_of s ≡ h → of_head (s ++ behind) h ≡ of_head s h
-  head-behind (Head.Frame kind end) e =
-      ap (λ (l : List ℕ). frame_in l kind) (take-append-le end s behind (frame_within s (sym e)))
-  head-behind (Head.Refused reason) e = refl
+  head-behind : (h : HeadResult) → head_of s ≡ h → of_head (s ++ behind) h ≡ of_head s h
+  head-behind (Ok h) e =
+      ap (λ (l : List ℕ). frame_in l h.kind) (take-append-le h.end s behind (frame_within s (sym e)))
+  head-behind (Err reason) e = refl
 
   frame_behind : (reason_of (frame_of s) ≡ Reason.not_all_there → ⊥) → frame_of (s ++ behind) ≡ frame_of s
   unfolding frame_of

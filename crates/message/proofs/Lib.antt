@@ -2,7 +2,7 @@ mod Names
 pub mod HeadLaws
 pub mod MessageLaws
 pub mod WithinLaws
-pub mod ArrayLaws
+pub mod FoundLaws
 pub mod UsedLaws
 pub mod TwiceWhenLaws
 pub mod FirstLaws

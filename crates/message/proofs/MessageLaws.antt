@@ -1,11 +1,12 @@
 -- Frames, case by case. Assumes nothing.
-use Rattle.prelude.proofs.Basics.{ℕ, ◌+◌, ◌≤◌, ◌<◌, Bool, true, false, cond, ◌≡◌, ap, ◌∙◌, List, [], length, take}
-use Rattle.prelude.proofs.Basics.{eq-eqb, le-leb, lt-leb, ne_eqb, yes, no as without}
+use Rattle.prelude.proofs.Basics.{ℕ, ◌+◌, ◌≤◌, Bool, true, false, cond, ◌≡◌, ap, ◌∙◌, List, [], length, take, eq-eqb}
+use Rattle.prelude.proofs.Basics.{le-leb, ne_eqb, yes, no as without, arith, refl, Option, Some, None}
 use Rattle.protocol.specs.Client as Client
 use Rattle.message.proofs.Names.{stmt_execute, rows_of, embedded, value_of, low32, Slots, no_arguments, bad_arguments}
 use Rattle.message.proofs.Names.{arguments_in, Arguments, if_good, optional_of, truth_of, bad_execute}
-use Rattle.message.proofs.Names.{arguments_within, execute_of, body_in, frame_in, Execute, Frame, Optional, Request}
+use Rattle.message.proofs.Names.{arguments_within, execute_of, body_in, frame_in, Execute, Frame, Request}
 use Rattle.message.specs.Operation as Operation
+use Rattle.message.specs.Simple.{id_in}
 
 -- a payload that is good or not
 module _ (s : List ℕ) (kind : ℕ) (q : Request) {good : Bool} where
@@ -15,17 +16,28 @@ module _ (s : List ℕ) (kind : ℕ) (q : Request) {good : Bool} where
   pub payload_good : good ≡ true → Frame.Good (length s) q ≡ if_good s kind good q
   payload_good e = yes (Frame.Good (length s) q) (Frame.BadPayload (length s) kind) e
 
-pub truth_no : (o : Optional) → o.value ≡ 0 → o ≡ truth_of o
-truth_no o h = rw (eq-eqb o.value 0 h) (rw (← h))
+-- a message of an id alone, by what its reader finds
+module _ (s : List ℕ) (kind : ℕ) (q : ℕ → Request) (x : Slots) where
+  abbrev named : Frame
+  named = if_good s kind x.good (q (low32 (value_of x 1)))
 
-pub truth_yes : (o : Optional) → (o.value ≡ 0 → ⊥) → record { present = o.present; value = 1 } ≡ truth_of o
-truth_yes o h = rw (ne_eqb o.value 0 h)
+  pub id_good : {id : ℕ} → Some id ≡ id_in x → Frame.Good (length s) (q id) ≡ named
+  id_good {id} e = go x.good e
+    where
+      go : (b : Bool) → Some id ≡ cond b (Some (low32 (value_of x 1))) None →
+          Frame.Good (length s) (q id) ≡ if_good s kind b (q (low32 (value_of x 1)))
+      go true f = ap (λ (n : ℕ). Frame.Good (length s) (q n)) (cc)
+      go false f = absurd (let z : ◌≡◌ {A = ℕ} 0 1 = cc in omega arith)
+
+  pub id_bad : ◌≡◌ {A = Option ℕ} None (id_in x) → Frame.BadPayload (length s) kind ≡ named
+  id_bad e = go x.good e
+    where
+      go : (b : Bool) → ◌≡◌ {A = Option ℕ} None (cond b (Some (low32 (value_of x 1))) None) →
+          Frame.BadPayload (length s) kind ≡ if_good s kind b (q (low32 (value_of x 1)))
+      go true f = absurd (let z : ◌≡◌ {A = ℕ} 0 1 = cc in omega arith)
+      go false f = refl
 
 module _ (s : List ℕ) (at n : ℕ) where
-  pub within_past : length s < at + n → bad_arguments ≡ arguments_within s at n
-  unfolding arguments_within
-  within_past h = without (arguments_in (take (at + n) s) at) bad_arguments (lt-leb (at + n) (length s) h)
-
   pub within_there : at + n ≤ length s → arguments_in (take (at + n) s) at ≡ arguments_within s at n
   unfolding arguments_within
   within_there h = yes (arguments_in (take (at + n) s) at) bad_arguments (le-leb (at + n) (length s) h)
@@ -43,38 +55,6 @@ module _ (x : Slots) (a : Arguments) where
 
   pub execute_good : x.good ≡ true → a.good ≡ true → running ≡ execute_of x a
   execute_good e f = yes running bad_execute f ∙ yes (cond a.good running bad_execute) bad_execute e
-
--- the field that a type chooses
-module _ (t : ℕ) where
-  pub chosen_find : t ≡ Operation.find → ◌≡◌ {A = ℕ} 2 (Operation.field_of t)
-  chosen_find h = simp (eq-eqb t Operation.find h)
-
-  module _ (a : t ≡ Operation.find → ⊥) where
-    pub chosen_insert : t ≡ Operation.insert → ◌≡◌ {A = ℕ} 3 (Operation.field_of t)
-    chosen_insert h = simp (ne_eqb t Operation.find a, eq-eqb t Operation.insert h)
-
-    module _ (b : t ≡ Operation.insert → ⊥) where
-      pub chosen_update : t ≡ Operation.update → ◌≡◌ {A = ℕ} 4 (Operation.field_of t)
-      chosen_update h = simp (ne_eqb t Operation.find a, ne_eqb t Operation.insert b, eq-eqb t Operation.update h)
-
-      module _ (d : t ≡ Operation.update → ⊥) where
-        pub chosen_delete : t ≡ Operation.delete → ◌≡◌ {A = ℕ} 5 (Operation.field_of t)
-        chosen_delete h =
-            simp (
-              ne_eqb t Operation.find a,
-              ne_eqb t Operation.insert b,
-              ne_eqb t Operation.update d,
-              eq-eqb t Operation.delete h,
-            )
-
-        pub chosen_last : (t ≡ Operation.delete → ⊥) → ◌≡◌ {A = ℕ} 6 (Operation.field_of t)
-        chosen_last h =
-            simp (
-              ne_eqb t Operation.find a,
-              ne_eqb t Operation.insert b,
-              ne_eqb t Operation.update d,
-              ne_eqb t Operation.delete h,
-            )
 
 -- a body by what was read of it
 module _ (s : List ℕ) (t at n : ℕ) (x : Slots) where

@@ -2,7 +2,7 @@
 -- Assumes nothing.
 pub use Rattle.varint.specs.Varint.{varint_at}
 unfoldable pub use Rattle.varint.specs.Padded.{padded_at}
-pub use Rattle.varint.specs.declared.Varint.{Varint}
+pub use Rattle.varint.specs.declared.Number.{Number}
 unfoldable pub use Rattle.scalar.specs.Fixed.{little}
 pub use Rattle.scalar.specs.declared.argument.Argument.{Argument}
 pub use Rattle.wire.specs.Value.{of_varint, as_length}
@@ -23,13 +23,13 @@ pub use Rattle.layout.specs.Part.{embedded, count_of, value_of, low32}
 pub use Rattle.layout.specs.Merged.{one_part, end_of, parts_of, merged}
 unfoldable pub use Rattle.layout.specs.Merged.{parts_in}
 unfoldable pub use Rattle.layout.specs.Padded.{parts_padded}
-pub use Rattle.layout.specs.private.Arrays.{Holds}
+pub use Rattle.layout.specs.private.Found.{Holds}
 pub use Rattle.layout.specs.private.Counted.{Counted}
 pub use Rattle.layout.specs.declared.fields.Use.{Use}
 pub use Rattle.layout.specs.declared.part.Part.{Part}
 pub use Rattle.layout.specs.declared.slots.Slots.{Slots}
 pub use Rattle.layout.proofs.FieldsLaws.{Listing, ends, goes_on_lem}
-pub use Rattle.layout.proofs.ArrayLaws.{held_good}
+pub use Rattle.layout.proofs.FoundLaws.{held_good}
 pub use Rattle.layout.proofs.CountLaws.{good_list}
 pub use Rattle.layout.proofs.MergedLaws.{one_part_lem}
 pub use Rattle.args.specs.Arguments.{arguments_at, no_arguments, bad_arguments, arguments_in, nth_argument}
@@ -39,15 +39,15 @@ pub use Rattle.args.specs.UnreadRules.{type_in}
 pub use Rattle.args.specs.declared.arguments.Arguments.{Arguments}
 pub use Rattle.args.proofs.PairLaws.{pair_bytes, pair_parts}
 pub use Rattle.args.proofs.TextLaws.{told}
-pub use Rattle.args.proofs.ScalarLaws.{Held, named_fits}
+pub use Rattle.args.proofs.ScalarLaws.{Held}
 pub use Rattle.args.proofs.BoundLaws.{bound_found}
 pub use Rattle.args.proofs.UnreadLaws.{take_size}
-pub use Rattle.args.proofs.PaddedLaws.{held_short, pair_part}
+pub use Rattle.args.proofs.PaddedLaws.{pair_part}
 pub use Rattle.args.proofs.InsideLaws.{one_flag}
 pub use Rattle.args.proofs.PartedLaws.{held_one}
-pub use Rattle.message.specs.Head.{length_bytes, max_length, length_of, head_of}
+pub use Rattle.message.specs.Head.{HeadResult, framed, length_bytes, max_length, length_of, head_of}
 pub use Rattle.message.specs.Request.{args_of}
-pub use Rattle.message.specs.Payload.{payload, if_good, twice, optional_by, optional_of, truth_of}
+pub use Rattle.message.specs.Payload.{payload, if_good, twice, optional_of, truth_of}
 unfoldable pub use Rattle.message.specs.Simple.{reset_frame, session_close_frame, deallocate_frame, close_frame}
 unfoldable pub use Rattle.message.specs.Simple.{fetch_in, fetch_frame}
 unfoldable pub use Rattle.message.specs.Execute.{bad_execute, arguments_within, execute_of, execute_in, execute_from}
@@ -63,9 +63,7 @@ pub use Rattle.message.specs.WithinRules.{PartsInside}
 pub use Rattle.message.specs.UnreadRules.{stmt_in}
 pub use Rattle.message.specs.declared.execute.Inner.{Inner}
 pub use Rattle.message.specs.declared.first.First.{First}
-pub use Rattle.message.specs.declared.head.Head.{Head}
 pub use Rattle.message.specs.declared.prepare.Chosen.{Chosen}
 pub use Rattle.message.specs.declared.request.Execute.{Execute}
 pub use Rattle.message.specs.declared.request.Frame.{Frame}
-pub use Rattle.message.specs.declared.request.Optional.{Optional}
 pub use Rattle.message.specs.declared.request.Request.{Request}

@@ -1,7 +1,7 @@
 -- Bytes in which one argument reads alike mean the same message. Assumes nothing.
-use Rattle.prelude.proofs.Basics.{ℕ, ◌+◌, ◌-◌, ◌≤◌, ◌<◌, arith, Bool, true, false, cond, ◌≡◌, refl, sym, ap}
-use Rattle.prelude.proofs.Basics.{ap₂, subst, ◌∙◌, ◌⊎◌, inl, inr, ⊎_elim, List, [], ◌∷◌, length, take, length-take-le}
-use Rattle.prelude.proofs.Basics.{eqb, leb, leb-true, both}
+use Rattle.prelude.proofs.Basics.{ℕ, ◌+◌, ◌-◌, ◌≤◌, ◌<◌, arith, Bool, true, false, cond, ◌≡◌, refl, sym, ap, ap₂}
+use Rattle.prelude.proofs.Basics.{subst, ◌∙◌, ◌⊎◌, inl, inr, ⊎_elim, List, [], ◌∷◌, length, take, length-take-le, eqb}
+use Rattle.prelude.proofs.Basics.{leb, leb-true, both, Ok, Err}
 use Rattle.protocol.specs.Client as Client
 use Rattle.protocol.specs.Reason as Reason
 use Rattle.layout.specs.Unchosen.{InnerPart, Every, Unread}
@@ -15,7 +15,7 @@ use Rattle.message.proofs.Names.{bad_arguments, together, type_in, Arguments, ta
 use Rattle.message.proofs.Names.{twice, optional_of, reset_frame, session_close_frame, deallocate_frame, close_frame}
 use Rattle.message.proofs.Names.{fetch_frame, arguments_within, execute_in, execute_frame, executes_good, open_by}
 use Rattle.message.proofs.Names.{open_parts, execute_parts, open_frame, body_in, bodies_good, prepare_by, stmt_parts}
-use Rattle.message.proofs.Names.{prepare_frame, frame_in, of_head, frame_of, used_of, PartsInside, stmt_in, Head}
+use Rattle.message.proofs.Names.{prepare_frame, frame_in, of_head, frame_of, used_of, PartsInside, stmt_in, HeadResult}
 use Rattle.message.proofs.Names.{Execute, Frame, Request}
 use Rattle.message.specs.Operation as Operation
 use Rattle.message.specs.UnreadRules.{ArgumentUnread}
@@ -342,9 +342,11 @@ module _ (f g : List ℕ) where
       (either (eqb kind Client.fetch) fetch-one
       (λ used q e o. absurd (let z : ◌≡◌ {A = ℕ} 0 1 = cc in omega arith)))))))))
 
-head_one : (s t : List ℕ) (used : ℕ) (q : Request) (h : Head) → head_of s ≡ h → of_head s h ≡ Frame.Good used q →
+head_one : (s t : List ℕ) (used : ℕ) (q : Request) (h : HeadResult) → head_of s ≡ h → of_head s h ≡ Frame.Good used q →
     OneField s t (args_of q).start (args_of q).end → of_head t (head_of t) ≡ of_head s h
-head_one s t used q (Head.Frame kind end) e g o =
+head_one s t used q (Ok h) e g o =
+    let end = h.end in
+    let kind = h.kind in
     let within = frame_within s (sym e) in
     let w = every_frame (take end s) PartsInside (λ _. tt) (λ _. tt) tt (λ r i. i) kind in
     let i = subst PartsInside g w in
@@ -357,7 +359,7 @@ head_one s t used q (Head.Frame kind end) e g o =
     (λ z. let y = sym e ∙ z in let v : ◌≡◌ {A = ℕ} 0 1 = cc in omega arith)
     ∙ e)
     ∙ c.0
-head_one s t used q (Head.Refused reason) e g o = absurd (refused (eqb reason Reason.bad_length) g)
+head_one s t used q (Err reason) e g o = absurd (refused (eqb (Reason.number_of reason) Reason.bad_length) g)
   where
     refused : (b : Bool) → cond b Frame.BadLength Frame.NotAllThere ≡ Frame.Good used q → ⊥
     refused true z = let v : ◌≡◌ {A = ℕ} 0 1 = cc in omega arith

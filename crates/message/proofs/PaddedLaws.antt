@@ -1,17 +1,19 @@
 -- Whether a message is padded, by what its readers find. Assumes nothing.
 use Rattle.prelude.proofs.Basics.{ℕ, ◌+◌, ◌%◌, ◌≤◌, ◌<◌, arith, Bool, true, false, ◌||◌, cond, ◌≡◌, refl, sym, ap}
-use Rattle.prelude.proofs.Basics.{subst, ◌∙◌, List, length, get_or, take-length, eqb, eqb-true, both, or_false, or_same}
-use Rattle.prelude.proofs.Basics.{or_then}
+use Rattle.prelude.proofs.Basics.{subst, ◌∙◌, List, length, get_or, eqb, eqb-true, both, or_false, or_same, or_then}
+use Rattle.prelude.proofs.Basics.{Option, Some, None}
 use Rattle.protocol.specs.Reason as Reason
+use Rattle.protocol.specs.declared.reason.Reason as Declared
 use Rattle.wire.specs.Padded.{value_padded}
 use Rattle.wire.proofs.PaddedLaws.{quick_flag}
-use Rattle.layout.specs.Padded.{list_padded, padded_to, nothing_inside}
+use Rattle.layout.specs.Padded.{nothing_inside}
 use Rattle.layout.proofs.CountedLaws.{counted_one}
-use Rattle.layout.proofs.PaddedLaws.{Marking, marks, marks_on, marked, padded_inside}
+use Rattle.layout.specs.declared.found.Slot.{Slot}
+use Rattle.layout.proofs.PaddedLaws.{Marking, marks, marks_on, marked}
 use Rattle.args.specs.private.Pair.{pair_padded}
 use Rattle.args.proofs.PaddedLaws.{pair_absorbed}
-use Rattle.message.proofs.Names.{varint_at, padded_at, Varint, of_varint, as_length, field_at, field_padded, Field}
-use Rattle.message.proofs.Names.{Value, prepare_stmt, open_stmt, rows_of, one_part, parts_in, parts_padded, Counted}
+use Rattle.message.proofs.Names.{varint_at, padded_at, of_varint, as_length, field_at, field_padded}
+use Rattle.message.proofs.Names.{prepare_stmt, open_stmt, rows_of, one_part, parts_in, parts_padded, Counted}
 use Rattle.message.proofs.Names.{Part, Slots, one_part_lem, one_flag, execute_padded, head_of, payload, frame_in}
 use Rattle.message.proofs.Names.{frame_of}
 use Rattle.message.proofs.Names.{own_padded, executes_padded, open_stmt_padded, kind_padded, head_padded, padded_of}
@@ -20,9 +22,12 @@ use Rattle.message.specs.Frame.{refused_head}
 use Rattle.message.specs.Padded.{where_read}
 use Rattle.message.specs.private.First.{id_tag, Starts}
 use Rattle.message.specs.private.Marks.{Tells, Reads, TellsChosen, TellsInner}
-use Rattle.message.specs.private.Parts.{inner_by}
+use Rattle.message.specs.private.Parts.{inner_at, inner_by}
 use Rattle.message.proofs.OuterLaws.{rows_field}
 use Rattle.message.proofs.FirstLaws.{number_behind, bytes_behind}
+use Rattle.varint.specs.Number.{some_number}
+use Rattle.wire.specs.Field.{some_field}
+use Rattle.wire.specs.Value.{some_value}
 
 -- ---- a frame that holds a request
 
@@ -57,9 +62,9 @@ tells_twice r used kind good {flag} {p} e h = subst (λ (x : Frame). Tells x fla
     go true h = h refl
     go false h = tt
 
-pub refused_tells : (reason : ℕ) (flag p : Bool) → Tells (refused_head reason) flag p
+pub refused_tells : (reason : Declared.Reason) (flag p : Bool) → Tells (refused_head reason) flag p
 refused_tells reason flag p =
-    both (λ (r : Frame). Tells r flag p) (eqb reason Reason.bad_length) Frame.BadLength Frame.NotAllThere (λ _. tt)
+    both (λ (r : Frame). Tells r flag p) (eqb (Reason.number_of reason) Reason.bad_length) Frame.BadLength Frame.NotAllThere (λ _. tt)
     (λ _. tt)
 
 pub frame_tells : (s : List ℕ) (r : Frame) (flag : Bool) → r ≡ frame_of s → {p : Bool} → p ≡ head_padded s (head_of s) →
@@ -74,11 +79,6 @@ frame_tells s (Frame.BodyTwice used kind) flag f e t =
 frame_tells s (Frame.Good used q) flag f e t = t ∙ e ∙ ap (λ (x : Frame). where_read x (head_padded s (head_of s))) f
 
 -- ---- own fields
-
--- a payload goes up to the frame's end
-pub own_whole : (s : List ℕ) → padded_to s payload (length s) ≡ own_padded s
-own_whole s =
-    sym (padded_inside s payload (length s) (omega arith)) ∙ ap (λ (l : List ℕ). list_padded l payload) (take-length s)
 
 -- the id that stands first, and a field behind it whose tag has one byte
 module _ {s : List ℕ} {tag id next : ℕ} (b : Starts s tag id next) where
@@ -99,7 +99,7 @@ module _ {s : List ℕ} {tag id next : ℕ} (b : Starts s tag id next) where
 
     -- behind a second field that is a number or has bytes
     module _ (wire : ℕ) (e : tag % 8 ≡ wire) (w : wire < 6) (own : padded_at s next ≡ value_padded s wire next)
-        {number v start len end : ℕ} (f : field_at s b.end ≡ Field.Good number wire v start len end) where
+        {number v start len end : ℕ} (f : field_at s b.end ≡ some_field number wire v start len end) where
       pub behind_second : {before one two : Bool} → one ≡ (before || padded_at s (payload + 1)) →
           two ≡ (one || padded_at s next) → Marking nothing_inside s payload end before two
       behind_second {before} {one} {two} p q =
@@ -107,7 +107,7 @@ module _ {s : List ℕ} {tag id next : ℕ} (b : Starts s tag id next) where
 
 -- the short way of a Fetch
 pub fetch_flag : {s : List ℕ} {id next v end : ℕ} → length s ≤ end → Starts s 16 id next →
-    varint_at s next ≡ Varint.Number v end → {one two : Bool} → one ≡ (false || padded_at s (payload + 1)) →
+    varint_at s next ≡ some_number v end → {one two : Bool} → one ≡ (false || padded_at s (payload + 1)) →
     two ≡ (one || padded_at s next) → two ≡ own_padded s
 fetch_flag {next = next} past b f p q =
     marked {before = false}
@@ -117,7 +117,7 @@ fetch_flag {next = next} past b f p q =
 
 -- the short way of a Prepare: its statement stands in field 2
 pub prepare_flag : {s : List ℕ} {id next v start len end : ℕ} → length s ≤ end → (b : Starts s 18 id next) →
-    as_length s next ≡ Value.Good v start len end → {one two : Bool} → one ≡ (false || padded_at s (payload + 1)) →
+    as_length s next ≡ some_value v start len end → {one two : Bool} → one ≡ (false || padded_at s (payload + 1)) →
     two ≡ (one || padded_at s next) → two ≡ own_padded s
 prepare_flag past b f p q =
     marked {before = false}
@@ -152,40 +152,37 @@ module _ (s : List ℕ) (at n : ℕ) where
     good,
   )
 
-  pub chosen_again : (r : Chosen) (before mid flag : Bool) → mid ≡ (before || pair_padded s at n) →
+  pub chosen_again : (r : Option Chosen) (before mid flag : Bool) → mid ≡ (before || pair_padded s at n) →
       TellsChosen s (one_part at n) r mid flag → TellsChosen s (one_part at n) r before flag
-  chosen_again (Chosen.Body operation start len) before mid flag p q = again (rows_of prepare_stmt) before p q
-  chosen_again (Chosen.Twice operation) before mid flag p q = again (rows_of prepare_stmt) before p q
-  chosen_again Chosen.Bad before mid flag p q = tt
+  chosen_again (Some chosen) before mid flag p q = again (rows_of prepare_stmt) before p q
+  chosen_again None before mid flag p q = tt
 
-  pub inner_again : (r : Inner) (before mid flag : Bool) → mid ≡ (before || pair_padded s at n) →
+  pub inner_again : (r : Option Inner) (before mid flag : Bool) → mid ≡ (before || pair_padded s at n) →
       TellsInner s (one_part at n) r mid flag → TellsInner s (one_part at n) r before flag
-  inner_again (Inner.At start len) before mid flag p (q, one) = (again (rows_of open_stmt) before p q, one)
-  inner_again Inner.Twice before mid flag p q = again (rows_of open_stmt) before p q
-  inner_again Inner.Bad before mid flag p q = tt
+  inner_again (Some (Inner.Once body)) before mid flag p (q, one) = (again (rows_of open_stmt) before p q, one)
+  inner_again (Some Inner.Twice) before mid flag p q = again (rows_of open_stmt) before p q
+  inner_again None before mid flag p q = tt
 
--- the flag of what the arrays of a good statement choose
-pub chosen_tells : (s : List ℕ) (ps : List Part) (r : Chosen) (before flag : Bool) →
+-- the flag of what a good statement chooses
+pub chosen_tells : (s : List ℕ) (ps : List Part) (r : Option Chosen) (before flag : Bool) →
     Reads (rows_of prepare_stmt) s ps before flag → TellsChosen s ps r before flag
-chosen_tells s ps (Chosen.Body operation start len) before flag h = h
-chosen_tells s ps (Chosen.Twice operation) before flag h = h
-chosen_tells s ps Chosen.Bad before flag h = tt
+chosen_tells s ps (Some chosen) before flag h = h
+chosen_tells s ps None before flag h = tt
 
-pub inner_tells : (s : List ℕ) (ps : List Part) (times value start : ℕ) → Counted (parts_in 2 s ps) times start value →
-    (before flag : Bool) → Reads (rows_of open_stmt) s ps before flag →
-    TellsInner s ps (inner_by times value start) before flag
-inner_tells s ps times value start c before flag h = go (eqb times 0) (eqb times 1) refl
+pub inner_tells : (s : List ℕ) (ps : List Part) (slot : Slot) → Counted (parts_in 2 s ps) slot →
+    (before flag : Bool) → Reads (rows_of open_stmt) s ps before flag → TellsInner s ps (inner_by slot) before flag
+inner_tells s ps slot c before flag h = go (eqb slot.times 0) (eqb slot.times 1) refl
   where
-    go : (a b : Bool) → eqb times 1 ≡ b →
-        TellsInner s ps (cond a Inner.Bad (cond b (Inner.At start value) Inner.Twice)) before flag
+    go : (a b : Bool) → eqb slot.times 1 ≡ b →
+        TellsInner s ps (cond a None (Some (inner_at (cond b (Some (record { start = slot.start; len = slot.value })) None)))) before flag
     go true b e = tt
-    go false true e = (h, counted_one c (eqb-true times 1 e))
+    go false true e = (h, counted_one c (eqb-true slot.times 1 e))
     go false false e = h
 
 -- ---- an Open's own fields
 
 module _ {s : List ℕ} {id behind v start len next : ℕ} (b : Starts s 34 id behind)
-    (f : as_length s behind ≡ Value.Good v start len next) (before : Bool) {one two : Bool}
+    (f : as_length s behind ≡ some_value v start len next) (before : Bool) {one two : Bool}
     (p : one ≡ (before || padded_at s (payload + 1))) (q : two ≡ (one || padded_at s behind)) where
   behind-stmt : Marking nothing_inside s payload next before two
   behind-stmt =
@@ -196,7 +193,7 @@ module _ {s : List ℕ} {id behind v start len next : ℕ} (b : Starts s 34 id b
   outer_two past = marked behind-stmt past
 
   pub outer_three : next < length s → get_or s next 0 ≡ 40 → {rows end : ℕ} →
-      varint_at s (next + 1) ≡ Varint.Number rows end → length s ≤ end → {three : Bool} →
+      varint_at s (next + 1) ≡ some_number rows end → length s ≤ end → {three : Bool} →
       three ≡ (two || padded_at s (next + 1)) → three ≡ (before || own_padded s)
   outer_three more at g past {three} r =
       marked

@@ -1,4 +1,5 @@
 -- 17 is told exactly where what is chosen occurs more than once, unless the payload is bad. Assumes nothing.
+use Rattle.prelude.proofs.Basics.{Option}
 use Rattle.prelude.proofs.Basics.{ℕ, ◌-◌, arith, Bool, ◌≡◌, refl, inl, inr, List, [], ◌∷◌, length, take, eqb}
 use Rattle.prelude.proofs.Basics.{eqb-true, both}
 use Rattle.protocol.specs.Client as Client
@@ -12,7 +13,7 @@ use Rattle.message.proofs.Names.{arguments_within, payload, if_good, twice, opti
 use Rattle.message.proofs.Names.{deallocate_frame, close_frame, fetch_frame, execute_in, execute_frame, executes_good}
 use Rattle.message.proofs.Names.{open_by, open_parts, execute_parts, open_frame, body_in, bodies_good, prepare_by}
 use Rattle.message.proofs.Names.{stmt_parts, body_parts, prepare_frame, frame_in, frame_of, reason_of, Frame}
-use Rattle.message.proofs.Names.{Optional, Request, little, field_at, row_for, has_required}
+use Rattle.message.proofs.Names.{Request, little, field_at, row_for, has_required}
 use Rattle.message.specs.declared.request.Execute.{Execute}
 use Rattle.message.specs.TwiceRules.{Twice, TwiceWhen}
 use Rattle.message.specs.TwiceSamples.{TwiceShown, OpenShown}
@@ -53,7 +54,7 @@ module _ (s : List ℕ) where
       (λ _. both (Twice (body_parts s t)) y.good _ _ (λ _. prepare-by (value_of x 1) t (body_parts s t)) (λ _. bad))
       (λ _. bad)
 
-  open_by_lem : (id : ℕ) (rows : Optional) (es : List Part) → Twice es (open_by s id rows es)
+  open_by_lem : (id : ℕ) (rows : Option ℕ) (es : List Part) → Twice es (open_by s id rows es)
   open_by_lem id rows [] = bad-twice s Client.open' []
   open_by_lem id rows (e ∷ []) = once s Client.open' e (execute_in s e.start e.len).args.good _
   open_by_lem id rows (e ∷ (f ∷ es)) = several s Client.open' e f es (executes_good s (e ∷ (f ∷ es)))

@@ -1,15 +1,15 @@
 -- A whole frame is used to its last byte, and is not refused 1 or 2: every reader answers with the frame's length, be
 -- its type unknown, its payload bad or good. What the frame holds lies in these bytes. Assumes nothing.
-use Rattle.prelude.proofs.Basics.{ℕ, ◌+◌, ◌≤◌, arith, Bool, false, ◌||◌, true≢false, ◌≡◌, refl, sym, ap, ◌∙◌, List, []}
-use Rattle.prelude.proofs.Basics.{length, take, drop, length-drop, length-take, length-take-le, eqb, both}
+use Rattle.prelude.proofs.Basics.{ℕ, ◌+◌, ◌≤◌, arith, Bool, false, ◌||◌, ◌≡◌, refl, sym, ◌∙◌, List, [], Ok, Err}
+use Rattle.prelude.proofs.Basics.{length, take, length-take, length-take-le, eqb, both}
 use Rattle.protocol.specs.Reason as Reason
 use Rattle.scalar.specs.declared.argument.Argument.TheVariants as Va
 use Rattle.args.specs.WithinRules.{EndsBy}
 use Rattle.args.proofs.ArgumentsLaws.{nth_within}
 use Rattle.args.proofs.WithinLaws.{ends_later}
 use Rattle.message.proofs.Names.{Part, nth_argument, head_of, args_of, frame_in, of_head, frame_of, reason_of, used_of}
-use Rattle.message.proofs.Names.{part_of, chosen_part, argument_in, PartsInside, Head, Frame}
-use Rattle.message.specs.Frame.{body_in, body_of}
+use Rattle.message.proofs.Names.{part_of, chosen_part, argument_in, PartsInside, HeadResult, framed, Frame}
+use Rattle.message.specs.Frame.{body_in}
 use Rattle.message.specs.WithinRules.{LiesInFrame}
 use Rattle.message.specs.TwiceRules.{TwiceRefused}
 use Rattle.message.proofs.WithinLaws.{every_frame, frame_within}
@@ -34,22 +34,17 @@ pub uses_all : (s : List ℕ) (kind : ℕ) → used_of (frame_in s kind) ≡ len
 uses_all s kind = (kind_whole s kind).used
 
 -- the frame that a byte string begins with
-frame_whole : (s : List ℕ) {kind end : ℕ} → head_of s ≡ Head.Frame kind end → Whole (length (take end s)) (frame_of s)
+frame_whole : (s : List ℕ) {kind end : ℕ} → head_of s ≡ framed kind end → Whole (length (take end s)) (frame_of s)
 unfolding frame_of
 frame_whole s {kind} {end} e = rw e (kind_whole (take end s) kind)
 
-pub whole_used : (s : List ℕ) {kind end : ℕ} → head_of s ≡ Head.Frame kind end → end ≡ length s →
+pub whole_used : (s : List ℕ) {kind end : ℕ} → head_of s ≡ framed kind end → end ≡ length s →
     used_of (frame_of s) ≡ length s
 whole_used s {kind} {end} e h = omega (arith, (frame_whole s e).used, length-take end s)
 
-pub whole_read : (s : List ℕ) {kind end : ℕ} → head_of s ≡ Head.Frame kind end →
+pub whole_read : (s : List ℕ) {kind end : ℕ} → head_of s ≡ framed kind end →
     (eqb (reason_of (frame_of s)) Reason.not_all_there || eqb (reason_of (frame_of s)) Reason.bad_length) ≡ false
 whole_read s e = (frame_whole s e).read
-
-pub whole_reason : (s : List ℕ) {kind end : ℕ} → head_of s ≡ Head.Frame kind end →
-    (reason_of (frame_of s) ≡ Reason.not_all_there → ⊥) × (reason_of (frame_of s) ≡ Reason.bad_length → ⊥)
-whole_reason s e =
-    (λ h. true≢false (sym (ap unread h) ∙ whole_read s e), λ h. true≢false (sym (ap unread h) ∙ whole_read s e))
 
 -- ---- what lies in the frame
 
@@ -58,12 +53,12 @@ record Held (n : ℕ) (x : Frame) : Type 0 where
   there : used_of x ≤ n
   parts : PartsInside x
 
-head_held : (s : List ℕ) (h : Head) → Held (length s) (of_head s h)
-head_held s (Head.Frame kind end) =
-    let w = kind_whole (take end s) kind in
-    record { there = omega (arith, w.used, length-take end s); parts = w.parts }
-head_held s (Head.Refused reason) =
-    both (Held (length s)) (eqb reason Reason.bad_length) _ _ (λ _. record { there = omega arith; parts = tt })
+head_held : (s : List ℕ) (h : HeadResult) → Held (length s) (of_head s h)
+head_held s (Ok h) =
+    let w = kind_whole (take h.end s) h.kind in
+    record { there = omega (arith, w.used, length-take h.end s); parts = w.parts }
+head_held s (Err reason) =
+    both (Held (length s)) (eqb (Reason.number_of reason) Reason.bad_length) _ _ (λ _. record { there = omega arith; parts = tt })
     (λ _. record { there = omega arith; parts = tt })
 
 frame_held : (s : List ℕ) → Held (length s) (frame_of s)
@@ -85,12 +80,6 @@ pub chosen_within : (s : List ℕ) (p : Part) → p ≡ chosen_part s → p.star
 chosen_within s p e =
     let h = frame_held s in
     rw e (omega (arith, h.there, part_inside (frame_of s) h.parts))
-
--- so the chosen body is as long as its part says
-pub body_length : (s : List ℕ) → length (body_of s) ≡ (chosen_part s).len
-body_length s =
-    let p = chosen_part s in
-    omega (arith, chosen_within s p refl, length-take p.len (drop p.start s), length-drop p.start s)
 
 argument_inside : (s : List ℕ) (index : ℕ) (x : Frame) → PartsInside x → EndsBy (used_of x) (argument_in s index x)
 argument_inside s index Frame.NotAllThere w = tt

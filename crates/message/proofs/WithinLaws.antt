@@ -1,6 +1,7 @@
 -- The parts of a request lie within its frame, as a law for every frame. Assumes nothing.
-use Rattle.prelude.proofs.Basics.{ℕ, ◌+◌, ◌-◌, ◌≤◌, arith, Bool, true, false, ◌≡◌, refl, sym, subst, ◌∙◌}
-use Rattle.prelude.proofs.Basics.{List, [], ◌∷◌, length, take, length-take-le, eqb, leb, ltb, leb-true, ltb-false, both}
+use Rattle.prelude.proofs.Basics.{Option}
+use Rattle.prelude.proofs.Basics.{ℕ, ◌+◌, ◌-◌, ◌≤◌, arith, Bool, true, false, ◌≡◌, refl, sym, subst, ◌∙◌, List, []}
+use Rattle.prelude.proofs.Basics.{◌∷◌, length, take, length-take-le, eqb, leb, ltb, leb-true, ltb-false, both, Ok, Err}
 use Rattle.protocol.specs.Client as Client
 use Rattle.args.specs.Arguments.{any_type_of, with_type}
 use Rattle.message.proofs.Names.{Argument, prepare_stmt, stmt_execute, open_stmt, rows_of, fields_at, embedded}
@@ -10,7 +11,7 @@ use Rattle.message.proofs.Names.{length_of, head_of, payload, if_good, twice, op
 use Rattle.message.proofs.Names.{session_close_frame, deallocate_frame, close_frame, fetch_frame, bad_execute}
 use Rattle.message.proofs.Names.{arguments_within, execute_of, execute_in, execute_frame, executes_good, open_by}
 use Rattle.message.proofs.Names.{open_parts, execute_parts, open_frame, body_in, bodies_good, prepare_by, stmt_parts}
-use Rattle.message.proofs.Names.{body_parts, prepare_frame, frame_in, Head, Frame, Optional, Request}
+use Rattle.message.proofs.Names.{body_parts, prepare_frame, frame_in, HeadResult, framed, Frame, Request}
 use Rattle.message.specs.Operation as Operation
 use Rattle.message.specs.Request as Request
 use Rattle.message.specs.WithinRules.{Inside}
@@ -134,7 +135,7 @@ module _ (s : List ℕ) (P : Frame → Type 0) (bad : (kind : ℕ) → P (Frame.
       if-good Client.execute (execute_in s payload n).args.good _
       (λ g. let h = execute_inside s payload n g in record { body = omega arith; stretch = h.1.0; args = h.1.1 })
 
-  open_by_lem : (id : ℕ) (rows : Optional) (es : List Part) → P (open_by s id rows es)
+  open_by_lem : (id : ℕ) (rows : Option ℕ) (es : List Part) → P (open_by s id rows es)
   open_by_lem id rows [] = bad Client.open'
   open_by_lem id rows (e ∷ []) =
       if-good Client.open' (execute_in s e.start e.len).args.good _
@@ -191,9 +192,9 @@ module _ (s : List ℕ) (P : Frame → Type 0) (bad : (kind : ℕ) → P (Frame.
       (λ _. both P (eqb kind Client.fetch) _ _ (λ _. fetch-has) (λ _. unknown))))))))
 
 -- a whole frame lies within the bytes
-abbrev Ends : ℕ → Head → Type 0
-Ends n (Head.Frame kind end) = end ≤ n
-Ends n (Head.Refused reason) = Unit {0}
+abbrev Ends : ℕ → HeadResult → Type 0
+Ends n (Ok head) = head.end ≤ n
+Ends n (Err reason) = Unit {0}
 
 head_ends : (s : List ℕ) → Ends (length s) (head_of s)
 head_ends s =
@@ -207,7 +208,7 @@ head_ends s =
     (λ e. ltb-false (length s) (length_bytes + length_of s) e))))
     (λ _. tt)
 
-pub frame_within : (s : List ℕ) {kind end : ℕ} → Head.Frame kind end ≡ head_of s → end ≤ length s
+pub frame_within : (s : List ℕ) {kind end : ℕ} → framed kind end ≡ head_of s → end ≤ length s
 frame_within s {kind} {end} e = go (head_ends s)
   where
     go : Ends (length s) (head_of s) → end ≤ length s

@@ -1,5 +1,5 @@
 -- Execute, and Open with the Execute in it (L1, L6, L11, L12). An Open's statement may come in parts, its Execute not.
-use Rattle.std.specs.Prelude.{ℕ, ◌+◌, ◌-◌, Bool, true, cond, ◌&&◌, List, [], ◌∷◌, length, take, leb}
+use Rattle.std.specs.Prelude.{ℕ, ◌+◌, ◌-◌, Bool, true, cond, ◌&&◌, List, [], ◌∷◌, length, take, leb, Option}
 use Rattle.protocol.specs.Client as Client
 use Rattle.protocol.specs.Fields as Fields
 use Rattle.layout.specs.Table.{rows_of, open_stmt}
@@ -12,7 +12,6 @@ use Rattle.layout.specs.declared.part.Part.{Part}
 use Rattle.args.specs.declared.arguments.Arguments.{Arguments}
 use Rattle.message.specs.Request.{no_optional}
 use Rattle.message.specs.Payload.{payload, if_good, twice, optional_of, truth_of}
-use Rattle.message.specs.declared.request.Optional.{Optional}
 use Rattle.message.specs.declared.request.Execute.{Execute}
 use Rattle.message.specs.declared.request.Request.{Request}
 use Rattle.message.specs.declared.request.Frame.{Frame}
@@ -44,7 +43,7 @@ unfoldable pub execute_frame : List ℕ → Frame
 execute_frame s = execute_from s (execute_in s payload (length s - payload))
 
 -- an Open of a cursor with fetch_rows, and with the Execute that is its statement's body
-abbrev pub open_from : List ℕ → ℕ → Optional → Part → Execute → Frame
+abbrev pub open_from : List ℕ → ℕ → Option ℕ → Part → Execute → Frame
 open_from s id rows body x =
     if_good s Client.open' x.args.good
     (Request.Open (record { cursor = low32 id; rows = rows; body = body; execute = x }))
@@ -59,13 +58,13 @@ abbrev pub executes_good : List ℕ → List Part → Bool
 executes_good s es = (merged (rows_of Client.execute) s es).good && arguments_good s es
 
 -- its statement must be an Execute (type 0), which must be present, and once (L6, R17)
-abbrev pub open_by : List ℕ → ℕ → Optional → List Part → Frame
+abbrev pub open_by : List ℕ → ℕ → Option ℕ → List Part → Frame
 open_by s id rows [] = Frame.BadPayload (length s) Client.open'
 open_by s id rows (e ∷ []) = open_from s id rows e (execute_in s e.start e.len)
 open_by s id rows (e ∷ (f ∷ es)) = twice (length s) Client.open' (executes_good s (e ∷ (f ∷ es)))
 
 -- the statement stands in these parts
-abbrev pub open_inside : List ℕ → ℕ → Optional → List Part → Frame
+abbrev pub open_inside : List ℕ → ℕ → Option ℕ → List Part → Frame
 open_inside s id rows ps =
     cond (merged (rows_of open_stmt) s ps).good (open_by s id rows (parts_in Fields.open_execute s ps))
     (Frame.BadPayload (length s) Client.open')

@@ -1,19 +1,19 @@
 -- What a frame means by itself: the request it holds, or the refusal 1, 2, 5, 6 or 17 that it earns; its chosen body;
 -- its arguments.
-use Rattle.std.specs.Prelude.{ℕ, cond, List, length, take, drop, eqb}
+use Rattle.std.specs.Prelude.{ℕ, cond, List, length, take, drop, eqb, Ok, Err}
 use Rattle.protocol.specs.Client as Client
 use Rattle.protocol.specs.Reason as Reason
+use Rattle.protocol.specs.declared.reason.Reason as Declared
 use Rattle.scalar.specs.declared.argument.Argument.{Argument}
 use Rattle.scalar.specs.declared.argument.Argument.TheVariants as Va
 use Rattle.args.specs.Arguments.{nth_argument}
 use Rattle.layout.specs.declared.part.Part.{Part}
 use Rattle.args.specs.declared.arguments.Arguments.{Arguments}
-use Rattle.message.specs.Head.{head_of}
+use Rattle.message.specs.Head.{HeadResult, head_of}
 use Rattle.message.specs.Request as Request
 use Rattle.message.specs.Simple.{reset_frame, session_close_frame, deallocate_frame, close_frame, fetch_frame}
 use Rattle.message.specs.Execute.{execute_frame, open_frame}
 use Rattle.message.specs.Prepare.{prepare_frame}
-use Rattle.message.specs.declared.head.Head.{Head}
 use Rattle.message.specs.declared.request.Frame.{Frame}
 use Rattle.message.specs.declared.request.Frame.TheVariants.{NotAllThere, BadLength, UnknownType, BadPayload}
 use Rattle.message.specs.declared.request.Frame.TheVariants.{BodyTwice, Good}
@@ -33,13 +33,13 @@ frame_in s kind =
     (cond (eqb kind Client.fetch) (fetch_frame s) (UnknownType (length s)))))))))
 
 -- a head that is refused
-abbrev pub refused_head : ℕ → Frame
-refused_head reason = cond (eqb reason Reason.bad_length) BadLength NotAllThere
+abbrev pub refused_head : Declared.Reason → Frame
+refused_head reason = cond (eqb (Reason.number_of reason) Reason.bad_length) BadLength NotAllThere
 
 -- the frame that a byte string begins with; bytes past it are not read (F3)
-abbrev pub of_head : List ℕ → Head → Frame
-of_head s (Head.Frame kind end) = frame_in (take end s) kind
-of_head s (Head.Refused reason) = refused_head reason
+abbrev pub of_head : List ℕ → HeadResult → Frame
+of_head s (Ok head) = frame_in (take head.end s) head.kind
+of_head s (Err reason) = refused_head reason
 
 unfoldable pub frame_of : List ℕ → Frame
 frame_of s = of_head s (head_of s)

@@ -1,19 +1,18 @@
 -- Padded frames (W20): of each message the varints that are read of it. A Prepare's own fields and those of its
 -- statement count, and nothing of its body; an Open's own fields, those of its statement, its Execute and the
 -- arguments; of what comes in parts every part that is read.
-use Rattle.std.specs.Prelude.{ℕ, ◌-◌, Bool, false, cond, ◌||◌, List, [], ◌∷◌, length, take, eqb}
+use Rattle.std.specs.Prelude.{ℕ, ◌-◌, Bool, false, cond, ◌||◌, List, [], ◌∷◌, length, take, eqb, Ok, Err}
 use Rattle.protocol.specs.Client as Client
 use Rattle.protocol.specs.Fields as Fields
 use Rattle.layout.specs.Merged.{parts_in}
 use Rattle.layout.specs.Padded.{list_padded, parts_padded}
 use Rattle.layout.specs.declared.part.Part.{Part}
 use Rattle.args.specs.Padded.{execute_padded}
-use Rattle.message.specs.Head.{head_of}
+use Rattle.message.specs.Head.{HeadResult, head_of}
 use Rattle.message.specs.Payload.{payload}
 use Rattle.message.specs.Execute.{open_parts}
 use Rattle.message.specs.Prepare.{stmt_parts}
 use Rattle.message.specs.Frame.{frame_of}
-use Rattle.message.specs.declared.head.Head.{Head}
 use Rattle.message.specs.declared.request.Frame.{Frame}
 use Rattle.message.specs.declared.request.Frame.TheVariants.{NotAllThere, BadLength, UnknownType, BadPayload}
 use Rattle.message.specs.declared.request.Frame.TheVariants.{BodyTwice, Good}
@@ -53,9 +52,9 @@ where_read (BadPayload used kind) padded = false
 where_read (BodyTwice used kind) padded = padded
 where_read (Good used q) padded = padded
 
-abbrev pub head_padded : List ℕ → Head → Bool
-head_padded s (Head.Frame kind end) = kind_padded (take end s) kind
-head_padded s (Head.Refused reason) = false
+abbrev pub head_padded : List ℕ → HeadResult → Bool
+head_padded s (Ok head) = kind_padded (take head.end s) head.kind
+head_padded s (Err reason) = false
 
 -- the frame that a byte string begins with
 unfoldable pub padded_of : List ℕ → Bool

@@ -1,8 +1,7 @@
 -- What every payload comes to: a request, or a bad payload.
-use Rattle.std.specs.Prelude.{ℕ, Bool, not, cond, List, length, eqb}
+use Rattle.std.specs.Prelude.{ℕ, Bool, cond, List, length, eqb, Option, Some, None}
 use Rattle.layout.specs.declared.slots.Slots.{Slots}
 use Rattle.layout.specs.Part.{count_of, value_of}
-use Rattle.message.specs.declared.request.Optional.{Optional}
 use Rattle.message.specs.declared.request.Request.{Request}
 use Rattle.message.specs.declared.request.Frame.{Frame}
 
@@ -18,16 +17,14 @@ if_good s kind good q = cond good (Frame.Good (length s) q) (Frame.BadPayload (l
 abbrev pub twice : ℕ → ℕ → Bool → Frame
 twice used kind good = cond good (Frame.BodyTwice used kind) (Frame.BadPayload used kind)
 
--- an optional field
-abbrev pub optional_by : Bool → ℕ → Optional
-optional_by has value = record { present = has; value = value }
+-- an optional field: its value, if it occurs
+abbrev pub optional : ℕ → ℕ → Option ℕ
+optional count value = cond (eqb count 0) None (Some value)
 
-abbrev pub optional : ℕ → ℕ → Optional
-optional count value = optional_by (not (eqb count 0)) value
-
-abbrev pub optional_of : Slots → ℕ → Optional
+abbrev pub optional_of : Slots → ℕ → Option ℕ
 optional_of x k = optional (count_of x k) (value_of x k)
 
 -- a bool is true, 1 here, for any number but 0 (W4)
-abbrev pub truth_of : Optional → Optional
-truth_of o = record { present = o.present; value = cond (eqb o.value 0) 0 1 }
+abbrev pub truth_of : Option ℕ → Option ℕ
+truth_of (Some value) = Some (cond (eqb value 0) 0 1)
+truth_of None = None

@@ -1,17 +1,16 @@
 -- What each client message has: its type, ids, optional fields, body and arguments. What a message does not have is 0,
 -- absent or none.
-use Rattle.std.specs.Prelude.{ℕ, false}
+use Rattle.std.specs.Prelude.{ℕ, Option, None}
 use Rattle.protocol.specs.Client as Client
 use Rattle.args.specs.Arguments.{no_arguments}
 use Rattle.layout.specs.declared.part.Part.{Part}
 use Rattle.args.specs.declared.arguments.Arguments.{Arguments}
-use Rattle.message.specs.declared.request.Optional.{Optional}
 use Rattle.message.specs.declared.request.Request.{Request}
 use Rattle.message.specs.declared.request.Request.TheVariants.{Reset, SessionClose, Prepare, Execute}
 use Rattle.message.specs.declared.request.Request.TheVariants.{Deallocate, Open, Close, Fetch}
 
-abbrev pub no_optional : Optional
-no_optional = record { present = false; value = 0 }
+abbrev pub no_optional : Option ℕ
+no_optional = None
 
 abbrev pub no_part : Part
 no_part = record { start = 0; len = 0 }
@@ -50,7 +49,7 @@ cursor_of (Close cursor) = cursor
 cursor_of (Fetch f) = f.cursor
 
 -- fetch_rows
-abbrev pub rows_of : Request → Optional
+abbrev pub rows_of : Request → Option ℕ
 rows_of Reset = no_optional
 rows_of SessionClose = no_optional
 rows_of (Prepare p) = no_optional
@@ -61,7 +60,7 @@ rows_of (Close cursor) = no_optional
 rows_of (Fetch f) = f.rows
 
 -- compact_metadata
-abbrev pub compact_of : Request → Optional
+abbrev pub compact_of : Request → Option ℕ
 compact_of Reset = no_optional
 compact_of SessionClose = no_optional
 compact_of (Prepare p) = no_optional

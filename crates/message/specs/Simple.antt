@@ -1,5 +1,5 @@
 -- The messages with no message inside (L1).
-use Rattle.std.specs.Prelude.{ℕ, List, []}
+use Rattle.std.specs.Prelude.{ℕ, cond, List, [], Option, Some, None}
 use Rattle.protocol.specs.Client as Client
 use Rattle.protocol.specs.Fields as Fields
 use Rattle.layout.specs.Table.{rows_of}
@@ -19,6 +19,10 @@ reset_frame s = plain_in s Client.reset Request.Reset (fields_at [] s payload)
 
 unfoldable pub session_close_frame : List ℕ → Frame
 session_close_frame s = plain_in s Client.session_close Request.SessionClose (fields_at [] s payload)
+
+-- the id of a message that has no other field
+abbrev pub id_in : Slots → Option ℕ
+id_in x = cond x.good (Some (low32 (value_of x Fields.id))) None
 
 abbrev pub deallocate_in : List ℕ → Slots → Frame
 deallocate_in s x = if_good s Client.deallocate x.good (Request.Deallocate (low32 (value_of x Fields.id)))

@@ -6,12 +6,11 @@ use Rattle.protocol.specs.Reason as Reason
 use Rattle.scalar.specs.declared.argument.Argument.TheVariants as Va
 use Rattle.layout.specs.declared.part.Part.{Part}
 use Rattle.args.specs.UnreadRules.{type_in}
-use Rattle.message.specs.Head.{head_of}
+use Rattle.message.specs.Head.{framed, head_of}
 use Rattle.message.specs.Prepare.{body_parts}
 use Rattle.message.specs.Execute.{execute_parts}
 use Rattle.message.specs.Frame.{frame_of, reason_of, body_of, argument_of}
 use Rattle.message.specs.UnreadRules.{stmt_in}
-use Rattle.message.specs.declared.head.Head.{Head}
 use Rattle.message.specs.declared.request.Frame.{Frame}
 
 -- 17 is told of no frame but one where these occur more than once, and such a frame is told 17 or a bad payload
@@ -21,10 +20,10 @@ pub record Twice (ps : List Part) (x : Frame) : Type 0 where
 
 -- of a Prepare the bodies that the type of the whole statement chooses, of an Open the Executes, in all parts
 pub record TwiceTold (s : List ℕ) : Type 0 where
-  pub of_prepare : (end : ℕ) → head_of s ≡ Head.Frame Client.prepare end →
+  pub of_prepare : (end : ℕ) → head_of s ≡ framed Client.prepare end →
       Twice (body_parts (take end s) (type_in (stmt_in (take end s)))) (frame_of s)
-  pub of_open : (end : ℕ) → head_of s ≡ Head.Frame Client.open' end → Twice (execute_parts (take end s)) (frame_of s)
-  pub of_other : (kind end : ℕ) → head_of s ≡ Head.Frame kind end → (kind ≡ Client.prepare → ⊥) →
+  pub of_open : (end : ℕ) → head_of s ≡ framed Client.open' end → Twice (execute_parts (take end s)) (frame_of s)
+  pub of_other : (kind end : ℕ) → head_of s ≡ framed kind end → (kind ≡ Client.prepare → ⊥) →
       (kind ≡ Client.open' → ⊥) → reason_of (frame_of s) ≡ Reason.body_twice → ⊥
 
 abbrev pub TwiceWhen : Type 0

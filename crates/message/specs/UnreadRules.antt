@@ -11,13 +11,12 @@ use Rattle.layout.specs.Merged.{end_of, merged}
 use Rattle.layout.specs.declared.part.Part.{Part}
 use Rattle.layout.specs.declared.slots.Slots.{Slots}
 use Rattle.args.specs.UnreadRules.{type_in, OneField}
-use Rattle.message.specs.Head.{head_of}
+use Rattle.message.specs.Head.{framed, head_of}
 use Rattle.message.specs.Operation as Operation
 use Rattle.message.specs.Request.{args_of}
 use Rattle.message.specs.Payload.{payload}
 use Rattle.message.specs.Prepare.{stmt_parts}
 use Rattle.message.specs.Frame.{frame_of, reason_of, body_of, argument_of}
-use Rattle.message.specs.declared.head.Head.{Head}
 use Rattle.message.specs.declared.request.Request.{Request}
 use Rattle.message.specs.declared.request.Frame.{Frame}
 
@@ -41,7 +40,7 @@ stmt_in s = merged (rows_of prepare_stmt) s (stmt_parts s)
 abbrev pub UnchosenUnread : Type 0
 UnchosenUnread =
     (s t : List ℕ) (end k : ℕ) (p q : Part) →
-    head_of s ≡ Head.Frame Client.prepare end →
+    head_of s ≡ framed Client.prepare end →
     (Operation.field_of (type_in (stmt_in (take end s))) ≡ k → ⊥) →
     InnerPart Fields.prepare_stmt k (take end s) payload p q →
     SameBut s t q.start (end_of q) → frame_of t ≡ frame_of s

@@ -2,10 +2,9 @@
 -- of each argument (A1, A4, W8).
 use Rattle.std.specs.Prelude.{ℕ, ◌+◌, ◌≤◌, ◌≡◌, List, length}
 use Rattle.args.specs.WithinRules.{EndsBy}
-use Rattle.message.specs.Head.{head_of}
+use Rattle.message.specs.Head.{framed, head_of}
 use Rattle.message.specs.Request.{body_of, args_of}
 use Rattle.message.specs.Frame.{frame_of, used_of, chosen_part, argument_of}
-use Rattle.message.specs.declared.head.Head.{Head}
 use Rattle.message.specs.declared.request.Request.{Request}
 use Rattle.message.specs.declared.request.Frame.{Frame}
 use Rattle.message.specs.declared.request.Frame.TheVariants.{NotAllThere, BadLength, UnknownType, BadPayload}
@@ -29,7 +28,7 @@ PartsInside (Good used q) = Inside used q
 pub record LiesIn (s : List ℕ) : Type 0 where
   -- the used bytes are the frame's, and they are there
   pub used : used_of (frame_of s) ≤ length s
-  pub whole : (kind end : ℕ) → head_of s ≡ Head.Frame kind end → used_of (frame_of s) ≡ end
+  pub whole : (kind end : ℕ) → head_of s ≡ framed kind end → used_of (frame_of s) ≡ end
   pub body : (chosen_part s).start + (chosen_part s).len ≤ used_of (frame_of s)
   pub parts : PartsInside (frame_of s)
   pub argument : (index : ℕ) → EndsBy (used_of (frame_of s)) (argument_of s index)

@@ -1,47 +1,36 @@
 // Execute, and Open with the Execute in it. Where an Open's parts stand is found first, as in a Prepare.
 ghost use Rattle.std.specs.Prelude.{◌≡◌, ◌||◌, false, true, ◌-◌, length};
 ghost use Rattle.protocol.specs.Fields as Fields;
-ghost use Rattle.layout.specs.Merged.{one_part};
 ghost use Rattle.args.specs.Padded.{execute_padded};
 ghost use Rattle.message.specs.Execute.{execute_frame, execute_from, execute_in, execute_parts, executes_good};
 ghost use Rattle.message.specs.Execute.{open_frame, open_from, open_inside, open_parts};
 ghost use Rattle.message.specs.Padded.{executes_padded, open_padded, open_stmt_padded};
-ghost use Rattle.message.specs.Payload.{optional_by, payload};
+ghost use Rattle.message.specs.Payload.{payload};
 ghost use Rattle.message.specs.private.Marks.{Tells, TellsInner, TellsOpening};
 ghost use Rattle.message.specs.private.Parts.{FindsOpening, Runs, Whole, execute_by, inner_of};
 
-use crate::outer::Outer;
-use crate::payload::{PAYLOAD, fill_payload, low, read_optional, read_truth};
+use crate::payload::{PAYLOAD, fill_payload, fill_stmt, low, once, optional, read_truth};
 use crate::request::{Execute, Frame, Open, Request};
 use crate::twice::{good_arguments, is_message};
-use args::bound::Bound;
+use args::bound::{Bound, Message};
 use args::pair::Pair;
-use layout::merge::merge_fields;
-use layout::part::{Part, fill_part};
-use layout::slots::SLOTS;
+use layout::found::Found;
+use layout::part::Part;
 use protocol::{client, fields, wire_type};
 
-// An Open's cursor id, whether its statement is whole, where it stands, and whether fetch_rows is there and what it is;
-// a statement that is not whole comes in parts. Or the message is bad.
+// An Open's cursor id, where its statement stands, if it is whole and does not come in parts, and fetch_rows.
 #[derive(Clone, Copy)]
-pub enum Opening {
-    Of {
-        id: u64,
-        whole: bool,
-        start: usize,
-        len: usize,
-        has: bool,
-        rows: u64,
-    },
-    Bad,
+pub struct Opening {
+    pub id: u64,
+    pub part: Option<Part>,
+    pub rows: Option<u64>,
 }
 
-// Where the Execute of an Open's statement stands, or that it stands there more than once; or the statement is bad.
+// Where the Execute of an Open's statement stands, or that it stands there more than once.
 #[derive(Clone, Copy)]
 pub enum Inner {
-    At { start: usize, len: usize },
+    Once(Part),
     Twice,
-    Bad,
 }
 
 pub fn read_execute(s: &[u8], padded: &mut bool) -> Frame
@@ -62,18 +51,17 @@ fn rest(s: &[u8]) -> usize
     s.len() - PAYLOAD
 }
 
-// An Execute in the `n` bytes of the payload. Field 1, stmt_id, tells whether it is good.
+// An Execute in the `n` bytes of the payload.
 fn execute_from(s: &[u8], n: usize, padded: &mut bool) -> Frame
     ensures answer { result ≡ execute_from s.now (execute_in s.now payload n) }
     ensures told { Tells result padded.new (padded.old || execute_padded s.now payload n) }
 {
-    let b = args::bound::read_bound(s, PAYLOAD, n, false, padded);
-    if !b.hasone {
+    let Some(b) = args::bound::read_bound(s, PAYLOAD, n, Message::Execute, padded) else {
         return Frame::BadPayload {
             used: s.len(),
             kind: client::EXECUTE,
         };
-    }
+    };
     let execute = execute_of(b, PAYLOAD, PAYLOAD + n);
     Frame::Good {
         used: s.len(),
@@ -87,7 +75,7 @@ fn execute_of(b: Bound, start: usize, end: usize) -> Execute
 {
     Execute {
         stmt: low(b.one),
-        compact: read_truth(read_optional(b.hasthree, b.three)),
+        compact: read_truth(b.three),
         args: b.arguments(start, end),
     }
 }
@@ -97,41 +85,27 @@ pub fn read_open(s: &[u8], padded: &mut bool) -> Frame
     ensures told { Tells result padded.new (open_padded s.now) }
 {
     match find_opening(s, padded) {
-        Opening::Of {
-            id,
-            whole,
-            start,
-            len,
-            has,
-            rows,
-        } => open_inside(s, id, has, rows, whole, start, len, padded),
-        Opening::Bad => Frame::BadPayload {
+        Some(opening) => open_inside(s, opening, padded),
+        None => Frame::BadPayload {
             used: s.len(),
             kind: client::OPEN,
         },
     }
 }
 
-// An Open with this cursor id and fetch_rows, and its statement: where it is whole, in `n` bytes of s from `at` on.
-fn open_inside(
-    s: &[u8],
-    id: u64,
-    has: bool,
-    asked: u64,
-    whole: bool,
-    at: usize,
-    n: usize,
-    padded: &mut bool,
-) -> Frame
-    requires { Whole Fields.open_stmt s.now whole at n }
-    ensures answer { result ≡ open_inside s.now id (optional_by has asked) (open_parts s.now) }
+// An Open with this cursor id and fetch_rows, and its statement.
+fn open_inside(s: &[u8], opening: Opening, padded: &mut bool) -> Frame
+    requires { Whole Fields.open_stmt s.now opening.part }
+    ensures answer { result ≡ open_inside s.now opening.id opening.rows (open_parts s.now) }
     ensures told { Tells result padded.new
         (padded.old || open_stmt_padded s.now (open_parts s.now)) }
 {
-    match find_execute(s, whole, at, n, padded) {
-        Inner::At { start, len } => open_from(s, id, has, asked, start, len, padded),
-        Inner::Twice => { crate::twice::refused(s.len(), client::OPEN, good_executes(s, padded)) }
-        Inner::Bad => Frame::BadPayload {
+    match find_execute(s, opening.part, padded) {
+        Some(Inner::Once(body)) => open_from(s, opening.id, opening.rows, body, padded),
+        Some(Inner::Twice) => {
+            crate::twice::refused(s.len(), client::OPEN, good_executes(s, padded))
+        }
+        None => Frame::BadPayload {
             used: s.len(),
             kind: client::OPEN,
         },
@@ -152,33 +126,24 @@ fn good_executes(s: &[u8], padded: &mut bool) -> bool
     good_arguments(s, STMT_NUMBER, EXECUTE_NUMBER, padded)
 }
 
-// An Open with this cursor id and fetch_rows, and its Execute in `len` bytes of s from `start` on.
-fn open_from(
-    s: &[u8],
-    id: u64,
-    has: bool,
-    asked: u64,
-    start: usize,
-    len: usize,
-    padded: &mut bool,
-) -> Frame
+// An Open with this cursor id and fetch_rows, and its Execute in this part of s.
+fn open_from(s: &[u8], id: u64, rows: Option<u64>, body: Part, padded: &mut bool) -> Frame
     ensures answer { result
-        ≡ open_from s.now id (optional_by has asked) (record { start = start; len = len })
-        (execute_in s.now start len) }
-    ensures told { Tells result padded.new (padded.old || execute_padded s.now start len) }
+        ≡ open_from s.now id rows body (execute_in s.now body.start body.len) }
+    ensures told { Tells result padded.new
+        (padded.old || execute_padded s.now body.start body.len) }
 {
-    let b = args::bound::read_bound(s, start, len, false, padded);
-    if !b.hasone {
+    let Some(b) = args::bound::read_bound(s, body.start, body.len, Message::Execute, padded) else {
         return Frame::BadPayload {
             used: s.len(),
             kind: client::OPEN,
         };
-    }
+    };
     let open = Open {
         cursor: low(id),
-        rows: read_optional(has, asked),
-        body: Part { start, len },
-        execute: execute_of(b, start, start + len),
+        rows,
+        body,
+        execute: execute_of(b, body.start, body.start + body.len),
     };
     Frame::Good {
         used: s.len(),
@@ -187,118 +152,67 @@ fn open_from(
 }
 
 // The long way, by the rows.
-fn long_opening(s: &[u8], padded: &mut bool) -> Opening
+fn long_opening(s: &[u8], padded: &mut bool) -> Option<Opening>
     requires { padded.old ≡ false }
     ensures answer { FindsOpening s.now result }
     ensures told { TellsOpening s.now result padded.new }
 {
     let rows = layout::rows::open_rows();
-    let mut times = [0; SLOTS];
-    let mut values = [0; SLOTS];
-    let mut starts = [0; SLOTS];
-    if !fill_payload(&rows, s, &mut times, &mut values, &mut starts, padded) {
-        return Opening::Bad;
+    let mut found = Found::new();
+    if !fill_payload(&rows, s, &mut found, padded) {
+        return None;
     }
-    Opening::Of {
-        id: values[fields::ID],
-        whole: times[fields::OPEN_STMT] == 1,
-        start: starts[fields::OPEN_STMT],
-        len: values[fields::OPEN_STMT] as usize,
-        has: times[fields::OPEN_ROWS] != 0,
-        rows: values[fields::OPEN_ROWS],
-    }
+    Some(Opening {
+        id: found.slots[fields::ID].value,
+        part: once(found.slots[fields::OPEN_STMT]),
+        rows: optional(found.slots[fields::OPEN_ROWS]),
+    })
 }
 
 // With the short way for its own fields.
-fn find_opening(s: &[u8], padded: &mut bool) -> Opening
+fn find_opening(s: &[u8], padded: &mut bool) -> Option<Opening>
     ensures answer { FindsOpening s.now result }
     ensures told { TellsOpening s.now result padded.new }
 {
     *padded = false;
     let n = s.len();
-    if let Outer::Fields {
-        id,
-        start,
-        len,
-        has,
-        rows,
-    } = crate::outer::read_outer(s, padded)
-    {
-        return Opening::Of {
-            id,
-            whole: true,
-            start,
-            len,
-            has,
-            rows,
-        };
+    if let Some(outer) = crate::outer::read_outer(s, padded) {
+        return Some(Opening {
+            id: outer.id,
+            part: Some(outer.part),
+            rows: outer.rows,
+        });
     }
     *padded = false;
     long_opening(&s[..n], padded)
 }
 
-// What the arrays of a good statement hold of its Execute.
-fn inner_of(times: &[u8; SLOTS], values: &[u64; SLOTS], starts: &[usize; SLOTS]) -> Inner
-    ensures { result ≡ inner_of times.now values.now starts.now }
+// The Execute of a good statement.
+fn inner_of(found: &Found) -> Option<Inner>
+    ensures { result ≡ inner_of found.now }
 {
-    if times[fields::OPEN_EXECUTE] == 0 {
-        return Inner::Bad;
+    let slot = found.slots[fields::OPEN_EXECUTE];
+    if slot.times == 0 {
+        return None;
     }
-    if times[fields::OPEN_EXECUTE] == 1 {
-        return Inner::At {
-            start: starts[fields::OPEN_EXECUTE],
-            len: values[fields::OPEN_EXECUTE] as usize,
-        };
+    match once(slot) {
+        Some(body) => Some(Inner::Once(body)),
+        None => Some(Inner::Twice),
     }
-    Inner::Twice
 }
 
 // The long way, by the rows.
-fn long_inner(s: &[u8], at: usize, n: usize, padded: &mut bool) -> Inner
-    ensures answer { Runs s.now (one_part at n) result }
-    ensures told { TellsInner s.now (one_part at n) result padded.old padded.new }
-{
-    let rows = layout::rows::open_stmt_rows();
-    let mut times = [0; SLOTS];
-    let mut values = [0; SLOTS];
-    let mut starts = [0; SLOTS];
-    if !fill_part(
-        &rows,
-        s,
-        at,
-        n,
-        &mut times,
-        &mut values,
-        &mut starts,
-        padded,
-    ) {
-        return Inner::Bad;
-    }
-    inner_of(&times, &values, &starts)
-}
-
-// A statement in parts.
-fn parted_inner(s: &[u8], padded: &mut bool) -> Inner
+fn long_inner(s: &[u8], part: Option<Part>, padded: &mut bool) -> Option<Inner>
+    requires { Whole Fields.open_stmt s.now part }
     ensures answer { Runs s.now (open_parts s.now) result }
     ensures told { TellsInner s.now (open_parts s.now) result padded.old padded.new }
 {
     let rows = layout::rows::open_stmt_rows();
-    let mut times = [0; SLOTS];
-    let mut values = [0; SLOTS];
-    let mut starts = [0; SLOTS];
-    if !merge_fields(
-        &rows,
-        s,
-        PAYLOAD,
-        STMT_NUMBER,
-        &mut times,
-        &mut values,
-        &mut starts,
-        padded,
-    ) {
-        return Inner::Bad;
+    let mut found = Found::new();
+    if !fill_stmt(&rows, s, STMT_NUMBER, part, &mut found, padded) {
+        return None;
     }
-    inner_of(&times, &values, &starts)
+    inner_of(&found)
 }
 
 // The numbers of the statement and of its Execute.
@@ -309,30 +223,29 @@ const EXECUTE_NUMBER: u64 = fields::OPEN_EXECUTE as u64;
 // The type and the tag of an Open's statement of two fields, in one number: type 0, and its Execute in field 2.
 const CHOSEN_EXECUTE: u64 = EXECUTE_NUMBER * 8 + wire_type::LEN;
 
-// The statement, where it is whole in `n` bytes of s from `at` on, with a short way for one of two fields, its type and
-// its Execute.
-fn find_execute(s: &[u8], whole: bool, at: usize, n: usize, padded: &mut bool) -> Inner
-    requires { Whole Fields.open_stmt s.now whole at n }
+// The Execute of the statement, with a short way for a whole one of two fields, its type and its Execute. None where
+// the statement is bad.
+fn find_execute(s: &[u8], part: Option<Part>, padded: &mut bool) -> Option<Inner>
+    requires { Whole Fields.open_stmt s.now part }
     ensures answer { Runs s.now (open_parts s.now) result }
     ensures told { TellsInner s.now (open_parts s.now) result padded.old padded.new }
 {
     let all = s.len();
-    if !whole {
-        return parted_inner(&s[..all], padded);
-    }
-    if let Pair::Two {
-        first,
-        tag,
-        value,
-        start,
-    } = args::pair::read_pair(s, at, n, padded)
-    {
-        if first * 256 + tag == CHOSEN_EXECUTE {
-            return Inner::At {
+    let Some(whole) = part else {
+        return long_inner(&s[..all], None, padded);
+    };
+    if let Some(Pair { key, value, start }) = args::pair::read_pair(
+        s,
+        whole.start,
+        whole.len,
+        padded,
+    ) {
+        if key == CHOSEN_EXECUTE {
+            return Some(Inner::Once(Part {
                 start,
                 len: value as usize,
-            };
+            }));
         }
     }
-    long_inner(&s[..all], at, n, padded)
+    long_inner(&s[..all], part, padded)
 }

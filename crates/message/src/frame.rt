@@ -4,14 +4,14 @@ ghost use Rattle.message.specs.Padded.{kind_padded, padded_of};
 ghost use Rattle.message.specs.private.Marks.{Tells};
 ghost use Rattle.message.specs.Frame.{argument_of, body_of, chosen_part, frame_in, frame_of, refused_head};
 
-use crate::head::Head;
 use crate::request::Frame;
 use layout::part::Part;
-use protocol::{client, reason};
+use protocol::client;
+use protocol::reason::{self, Reason};
 use scalar::argument::Argument;
-use varint::wide;
 
-// The frame s, whole and with nothing behind it, by its message type.
+// The frame s, whole and with nothing behind it, by its message type: the byte goes into this one match, out of which
+// comes a case of the enum Request.
 fn read_kind(s: &[u8], kind: u64, padded: &mut bool) -> Frame
     ensures answer { result ≡ frame_in s.now kind }
     ensures told { Tells result padded.new (kind_padded s.now kind) }
@@ -30,13 +30,13 @@ fn read_kind(s: &[u8], kind: u64, padded: &mut bool) -> Frame
 }
 
 // A head that is refused, as a frame.
-fn refused_head(reason: u64) -> Frame
+fn refused_head(reason: Reason) -> Frame
     ensures { result ≡ refused_head reason }
 {
-    if reason == reason::BAD_LENGTH {
-        return Frame::BadLength;
+    match reason {
+        Reason::BadLength => Frame::BadLength,
+        _ => Frame::NotAllThere,
     }
-    Frame::NotAllThere
 }
 
 // The frame that a byte string begins with; bytes past it are not read. Where it holds a request, or a body
@@ -47,8 +47,8 @@ pub fn read_frame(s: &[u8], padded: &mut bool) -> Frame
     ensures told { Tells result padded.new (padded_of s.now) }
 {
     match crate::head::read_head(s) {
-        Head::Frame { kind, end } => read_kind(&s[..end], wide(kind), padded),
-        Head::Refused(reason) => refused_head(reason),
+        Ok(head) => read_kind(&s[..head.end], u64::from(head.kind), padded),
+        Err(reason) => refused_head(reason),
     }
 }
 

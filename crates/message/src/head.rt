@@ -2,8 +2,7 @@
 ghost use Rattle.std.specs.Prelude.{◌≡◌};
 ghost use Rattle.message.specs.Head.{head_of};
 
-use protocol::reason;
-use scalar::fixed::Fixed;
+use protocol::reason::Reason;
 
 // The length's bytes, which it does not count.
 pub const LENGTH_BYTES: usize = 4;
@@ -11,31 +10,31 @@ pub const LENGTH_BYTES: usize = 4;
 // The largest length of a frame.
 pub const MAX_LENGTH: u64 = 65532;
 
-// A whole frame with its type and the place behind its last byte, or a refusal by its number.
+// A whole frame's type, and the place behind its last byte.
 #[derive(Clone, Copy)]
-pub enum Head {
-    Frame { kind: u8, end: usize },
-    Refused(u64),
+pub struct Head {
+    pub kind: u8,
+    pub end: usize,
 }
 
-pub fn read_head(s: &[u8]) -> Head
+pub fn read_head(s: &[u8]) -> Result<Head, Reason>
     ensures { result ≡ head_of s.now }
 {
-    let Fixed::Number { value, next: _ } = scalar::fixed::read_fixed32(s, 0) else {
-        return Head::Refused(reason::NOT_ALL_THERE);
+    let Some(length) = scalar::fixed::read_fixed32(s, 0) else {
+        return Err(Reason::NotAllThere);
     };
-    if value == 0 {
-        return Head::Refused(reason::BAD_LENGTH);
+    if length.value == 0 {
+        return Err(Reason::BadLength);
     }
-    if MAX_LENGTH < value {
-        return Head::Refused(reason::BAD_LENGTH);
+    if MAX_LENGTH < length.value {
+        return Err(Reason::BadLength);
     }
-    let end = LENGTH_BYTES + value as usize;
+    let end = LENGTH_BYTES + length.value as usize;
     if s.len() < end {
-        return Head::Refused(reason::NOT_ALL_THERE);
+        return Err(Reason::NotAllThere);
     }
-    Head::Frame {
+    Ok(Head {
         kind: s[LENGTH_BYTES],
         end,
-    }
+    })
 }

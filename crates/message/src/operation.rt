@@ -1,4 +1,4 @@
-// The types of a Prepare's statement.
+// The types of a Prepare's statement, as numbers: the rows of its table say which there are.
 ghost use Rattle.std.specs.Prelude.{◌≡◌, ◌<◌};
 ghost use Rattle.layout.specs.Row.{slot_count};
 ghost use Rattle.message.specs.Operation.{field_of};
@@ -28,17 +28,11 @@ pub(crate) const STMT_EXECUTE_FIELD: usize = 6;
 pub fn field_of(t: u64) -> usize
     ensures { (result ≡ field_of t) × (result < slot_count) }
 {
-    if t == FIND {
-        return FIND_FIELD;
+    match t {
+        FIND => FIND_FIELD,
+        INSERT => INSERT_FIELD,
+        UPDATE => UPDATE_FIELD,
+        DELETE => DELETE_FIELD,
+        _ => STMT_EXECUTE_FIELD,
     }
-    if t == INSERT {
-        return INSERT_FIELD;
-    }
-    if t == UPDATE {
-        return UPDATE_FIELD;
-    }
-    if t == DELETE {
-        return DELETE_FIELD;
-    }
-    STMT_EXECUTE_FIELD
 }

@@ -1,27 +1,18 @@
 // The short way for an Open's own fields in their order, as they mostly come: cursor_id, the statement, and fetch_rows
-// where it is there. Like args `Pair` it fills no arrays and looks up no rows.
+// where it is there. Like args `Pair` it notes no fields and looks up no rows.
 ghost use Rattle.std.specs.Prelude.{◌≡◌};
-ghost use Rattle.message.specs.declared.outer.Outer.TheVariants.{Fields};
 ghost use Rattle.message.specs.private.Marks.{TellsOuter};
 ghost use Rattle.message.specs.private.Outer.{Says};
 
-use crate::first::First;
+use layout::part::Part;
 use protocol::{fields, wire_type};
-use varint::Varint;
-use wire::value::Value;
 
-// The cursor id, where the statement stands, and whether fetch_rows is there and what it is. Other: the long way reads
-// the message.
+// The cursor id, where the statement stands, and fetch_rows.
 #[derive(Clone, Copy)]
-pub enum Outer {
-    Fields {
-        id: u64,
-        start: usize,
-        len: usize,
-        has: bool,
-        rows: u64,
-    },
-    Other,
+pub struct Outer {
+    pub id: u64,
+    pub part: Part,
+    pub rows: Option<u64>,
 }
 
 // The tags of the statement and of fetch_rows.
@@ -29,51 +20,35 @@ const STMT_TAG: u8 = (fields::OPEN_STMT as u64 * 8 + wire_type::LEN) as u8;
 
 const ROWS_TAG: u8 = (fields::OPEN_ROWS as u64 * 8 + wire_type::VARINT) as u8;
 
-// The fields that were found.
-fn fields(id: u64, start: usize, len: usize, has: bool, rows: u64) -> Outer
-    ensures { result ≡ Fields id start len has rows }
-{
-    Outer::Fields {
-        id,
-        start,
-        len,
-        has,
-        rows,
-    }
-}
-
-pub fn read_outer(s: &[u8], padded: &mut bool) -> Outer
+// None: the long way reads the message.
+pub fn read_outer(s: &[u8], padded: &mut bool) -> Option<Outer>
     ensures answer { Says s.now result }
     ensures told { TellsOuter s.now result padded.old padded.new }
 {
-    let First::At { id, next: behind } = crate::first::read_first(s, STMT_TAG, padded) else {
-        return Outer::Other;
+    let first = crate::first::read_first(s, STMT_TAG, padded)?;
+    let stmt = wire::value::length_value(s, first.next, padded)?;
+    let part = Part {
+        start: stmt.start,
+        len: stmt.len,
     };
-    let Value::Good {
-        number: _,
-        start,
-        len,
-        next,
-    } = wire::value::length_value(s, behind, padded)
-    else {
-        return Outer::Other;
-    };
-    if s.len() <= next {
-        return fields(id, start, len, false, 0);
+    if s.len() <= stmt.next {
+        return Some(Outer {
+            id: first.id,
+            part,
+            rows: None,
+        });
     }
-    if s[next] != ROWS_TAG {
-        return Outer::Other;
+    if s[stmt.next] != ROWS_TAG {
+        return None;
     }
     let n = s.len();
-    let Varint::Number {
-        value: rows,
-        next: end,
-    } = varint::read_varint(&s[..n], next + 1, padded)
-    else {
-        return Outer::Other;
-    };
-    if end != s.len() {
-        return Outer::Other;
+    let rows = varint::read_varint(&s[..n], stmt.next + 1, padded)?;
+    if rows.next != s.len() {
+        return None;
     }
-    fields(id, start, len, true, rows)
+    Some(Outer {
+        id: first.id,
+        part,
+        rows: Some(rows.value),
+    })
 }

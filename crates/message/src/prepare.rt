@@ -3,7 +3,6 @@
 // waits. Padded varints in the body do not count: there `unread` is a flag that nobody looks at.
 ghost use Rattle.std.specs.Prelude.{◌≡◌, ◌||◌, false};
 ghost use Rattle.protocol.specs.Fields as Fields;
-ghost use Rattle.layout.specs.Merged.{one_part};
 ghost use Rattle.layout.specs.Padded.{parts_padded};
 ghost use Rattle.message.specs.Padded.{prepare_padded};
 ghost use Rattle.message.specs.Prepare.{bodies_good, body_in, body_parts, prepare_frame, prepare_from};
@@ -11,45 +10,29 @@ ghost use Rattle.message.specs.Prepare.{prepare_inside, stmt_parts};
 ghost use Rattle.message.specs.private.Marks.{Tells, TellsChosen, TellsStmt};
 ghost use Rattle.message.specs.private.Parts.{Chooses, FindsStmt, Whole, chosen_of};
 
-use crate::first::First;
 use crate::operation;
-use crate::payload::{PAYLOAD, fill_payload, low};
+use crate::payload::{PAYLOAD, fill_payload, fill_stmt, low, once};
 use crate::request::{Frame, Prepare, Request};
 use crate::twice::{good_arguments, is_message};
 use args::arguments::Arguments;
-use args::pair::{Pair, Text};
-use layout::merge::merge_fields;
-use layout::part::{Part, fill_part};
-use layout::slots::SLOTS;
+use args::bound::Message;
+use args::pair::Pair;
+use layout::found::Found;
+use layout::part::Part;
 use protocol::{client, fields, uint32, wire_type};
-use wire::value::Value;
 
-// A Prepare's id, whether its statement is whole, and where it stands; one that is not comes in parts. Or the message
-// is bad.
+// A Prepare's id, and where its statement stands, if it is whole and does not come in parts.
 #[derive(Clone, Copy)]
-pub enum Stmt {
-    At {
-        id: u64,
-        whole: bool,
-        start: usize,
-        len: usize,
-    },
-    Bad,
+pub struct Stmt {
+    pub id: u64,
+    pub part: Option<Part>,
 }
 
-// A statement's type, and where the body that it chooses stands, or that it stands there more than once; or the
-// statement is bad.
+// A statement's type, and where the body that it chooses stands, or that it stands there more than once.
 #[derive(Clone, Copy)]
 pub enum Chosen {
-    Body {
-        operation: u64,
-        start: usize,
-        len: usize,
-    },
-    Twice {
-        operation: u64,
-    },
-    Bad,
+    Once { operation: u64, body: Part },
+    Twice { operation: u64 },
 }
 
 pub fn read_prepare(s: &[u8], padded: &mut bool) -> Frame
@@ -57,48 +40,38 @@ pub fn read_prepare(s: &[u8], padded: &mut bool) -> Frame
     ensures told { Tells result padded.new (prepare_padded s.now) }
 {
     match find_stmt(s, padded) {
-        Stmt::At {
-            id,
-            whole,
-            start,
-            len,
-        } => prepare_inside(s, id, whole, start, len, padded),
-        Stmt::Bad => Frame::BadPayload {
+        Some(stmt) => prepare_inside(s, stmt, padded),
+        None => Frame::BadPayload {
             used: s.len(),
             kind: client::PREPARE,
         },
     }
 }
 
-// A Prepare with this id, and its statement: where it is whole, in `n` bytes of s from `at` on.
-fn prepare_inside(s: &[u8], id: u64, whole: bool, at: usize, n: usize, padded: &mut bool) -> Frame
-    requires { Whole Fields.prepare_stmt s.now whole at n }
-    ensures answer { result ≡ prepare_inside s.now id (stmt_parts s.now) }
+// A Prepare with this id, and its statement.
+fn prepare_inside(s: &[u8], stmt: Stmt, padded: &mut bool) -> Frame
+    requires { Whole Fields.prepare_stmt s.now stmt.part }
+    ensures answer { result ≡ prepare_inside s.now stmt.id (stmt_parts s.now) }
     ensures told { Tells result padded.new (padded.old || parts_padded s.now (stmt_parts s.now)) }
 {
-    match find_body(s, whole, at, n, padded) {
-        Chosen::Body {
-            operation,
-            start,
-            len,
-        } => prepare_from(s, id, operation, start, len),
-        Chosen::Twice { operation } => {
+    match find_body(s, stmt.part, padded) {
+        Some(Chosen::Once { operation, body }) => prepare_from(s, stmt.id, operation, body),
+        Some(Chosen::Twice { operation }) => {
             crate::twice::refused(s.len(), client::PREPARE, good_bodies(s, operation))
         }
-        Chosen::Bad => Frame::BadPayload {
+        None => Frame::BadPayload {
             used: s.len(),
             kind: client::PREPARE,
         },
     }
 }
 
-// A Prepare with this id and type, and its body in `len` bytes of s from `start` on.
-fn prepare_from(s: &[u8], id: u64, operation: u64, start: usize, len: usize) -> Frame
+// A Prepare with this id and type, and its body in this part of s.
+fn prepare_from(s: &[u8], id: u64, operation: u64, body: Part) -> Frame
     ensures { result
-        ≡ prepare_from s.now id operation (record { start = start; len = len })
-        (body_in s.now operation start len) }
+        ≡ prepare_from s.now id operation body (body_in s.now operation body.start body.len) }
 {
-    let args = read_body(s, operation, start, len);
+    let args = read_body(s, operation, body.start, body.len);
     if !args.good {
         return Frame::BadPayload {
             used: s.len(),
@@ -108,7 +81,7 @@ fn prepare_from(s: &[u8], id: u64, operation: u64, start: usize, len: usize) -> 
     let prepare = Prepare {
         stmt: low(id),
         operation,
-        body: Part { start, len },
+        body,
         args: args.same(),
     };
     Frame::Good {
@@ -118,24 +91,20 @@ fn prepare_from(s: &[u8], id: u64, operation: u64, start: usize, len: usize) -> 
 }
 
 // The long way, by the rows.
-fn long_stmt(s: &[u8], padded: &mut bool) -> Stmt
+fn long_stmt(s: &[u8], padded: &mut bool) -> Option<Stmt>
     requires { padded.old ≡ false }
     ensures answer { FindsStmt s.now result }
     ensures told { TellsStmt s.now result padded.new }
 {
     let rows = layout::rows::prepare_rows();
-    let mut times = [0; SLOTS];
-    let mut values = [0; SLOTS];
-    let mut starts = [0; SLOTS];
-    if !fill_payload(&rows, s, &mut times, &mut values, &mut starts, padded) {
-        return Stmt::Bad;
+    let mut found = Found::new();
+    if !fill_payload(&rows, s, &mut found, padded) {
+        return None;
     }
-    Stmt::At {
-        id: values[fields::ID],
-        whole: times[fields::PREPARE_STMT] == 1,
-        start: starts[fields::PREPARE_STMT],
-        len: values[fields::PREPARE_STMT] as usize,
-    }
+    Some(Stmt {
+        id: found.slots[fields::ID].value,
+        part: once(found.slots[fields::PREPARE_STMT]),
+    })
 }
 
 // The number and the tag of the statement.
@@ -144,27 +113,23 @@ const STMT_NUMBER: u64 = fields::PREPARE_STMT as u64;
 const STMT_TAG: u8 = (fields::PREPARE_STMT as u64 * 8 + wire_type::LEN) as u8;
 
 // With a short way for a Prepare of its two fields alone, as most are.
-fn find_stmt(s: &[u8], padded: &mut bool) -> Stmt
+fn find_stmt(s: &[u8], padded: &mut bool) -> Option<Stmt>
     ensures answer { FindsStmt s.now result }
     ensures told { TellsStmt s.now result padded.new }
 {
     *padded = false;
     let n = s.len();
-    if let First::At { id, next } = crate::first::read_first(s, STMT_TAG, padded) {
-        if let Value::Good {
-            number: _,
-            start,
-            len,
-            next: end,
-        } = wire::value::length_value(s, next, padded)
-        {
-            if end == n {
-                return Stmt::At {
-                    id,
-                    whole: true,
-                    start,
-                    len,
+    if let Some(first) = crate::first::read_first(s, STMT_TAG, padded) {
+        if let Some(stmt) = wire::value::length_value(s, first.next, padded) {
+            if stmt.next == n {
+                let part = Part {
+                    start: stmt.start,
+                    len: stmt.len,
                 };
+                return Some(Stmt {
+                    id: first.id,
+                    part: Some(part),
+                });
             }
         }
     }
@@ -172,71 +137,33 @@ fn find_stmt(s: &[u8], padded: &mut bool) -> Stmt
     long_stmt(&s[..n], padded)
 }
 
-// What the arrays of a good statement choose.
-fn chosen_of(times: &[u8; SLOTS], values: &[u64; SLOTS], starts: &[usize; SLOTS]) -> Chosen
-    ensures { result ≡ chosen_of times.now values.now starts.now }
+// What a good statement chooses.
+fn chosen_of(found: &Found) -> Option<Chosen>
+    ensures { result ≡ chosen_of found.now }
 {
-    let operation = values[fields::TYPE] % uint32::COUNT;
-    let k = operation::field_of(operation);
-    if times[k] == 0 {
-        return Chosen::Bad;
+    let operation = found.slots[fields::TYPE].value % uint32::COUNT;
+    let slot = found.slots[operation::field_of(operation)];
+    if slot.times == 0 {
+        return None;
     }
-    if times[k] == 1 {
-        return Chosen::Body {
-            operation,
-            start: starts[k],
-            len: values[k] as usize,
-        };
+    match once(slot) {
+        Some(body) => Some(Chosen::Once { operation, body }),
+        None => Some(Chosen::Twice { operation }),
     }
-    Chosen::Twice { operation }
 }
 
 // The long way, by the rows.
-fn long_chosen(s: &[u8], at: usize, n: usize, padded: &mut bool) -> Chosen
-    ensures answer { Chooses s.now (one_part at n) result }
-    ensures told { TellsChosen s.now (one_part at n) result padded.old padded.new }
-{
-    let rows = layout::rows::prepare_stmt_rows();
-    let mut times = [0; SLOTS];
-    let mut values = [0; SLOTS];
-    let mut starts = [0; SLOTS];
-    if !fill_part(
-        &rows,
-        s,
-        at,
-        n,
-        &mut times,
-        &mut values,
-        &mut starts,
-        padded,
-    ) {
-        return Chosen::Bad;
-    }
-    chosen_of(&times, &values, &starts)
-}
-
-// A statement in parts.
-fn parted_chosen(s: &[u8], padded: &mut bool) -> Chosen
+fn long_chosen(s: &[u8], part: Option<Part>, padded: &mut bool) -> Option<Chosen>
+    requires { Whole Fields.prepare_stmt s.now part }
     ensures answer { Chooses s.now (stmt_parts s.now) result }
     ensures told { TellsChosen s.now (stmt_parts s.now) result padded.old padded.new }
 {
     let rows = layout::rows::prepare_stmt_rows();
-    let mut times = [0; SLOTS];
-    let mut values = [0; SLOTS];
-    let mut starts = [0; SLOTS];
-    if !merge_fields(
-        &rows,
-        s,
-        PAYLOAD,
-        STMT_NUMBER,
-        &mut times,
-        &mut values,
-        &mut starts,
-        padded,
-    ) {
-        return Chosen::Bad;
+    let mut found = Found::new();
+    if !fill_stmt(&rows, s, STMT_NUMBER, part, &mut found, padded) {
+        return None;
     }
-    chosen_of(&times, &values, &starts)
+    chosen_of(&found)
 }
 
 // A statement's type StmtExecute, and the tag of the body that it chooses (field 6, wire type 2), in one number.
@@ -244,33 +171,35 @@ const CHOSEN_EXECUTE: u64 = operation::STMT_EXECUTE * 256
     + operation::STMT_EXECUTE_FIELD as u64 * 8
     + wire_type::LEN;
 
-// The statement, where it is whole in `n` bytes of s from `at` on, with a short way for one of two fields, its type and
-// its body, a StmtExecute.
-fn find_body(s: &[u8], whole: bool, at: usize, n: usize, padded: &mut bool) -> Chosen
-    requires { Whole Fields.prepare_stmt s.now whole at n }
+// The body that the statement chooses, with a short way for a whole one of two fields, its type and its body, a
+// StmtExecute. None where the statement is bad. Its twin for an Open tells another answer by other rows: one function
+// for both would take the rows, the key and what to make of a part, and be longer than either.
+fn find_body(s: &[u8], part: Option<Part>, padded: &mut bool) -> Option<Chosen>
+    requires { Whole Fields.prepare_stmt s.now part }
     ensures answer { Chooses s.now (stmt_parts s.now) result }
     ensures told { TellsChosen s.now (stmt_parts s.now) result padded.old padded.new }
 {
     let all = s.len();
-    if !whole {
-        return parted_chosen(&s[..all], padded);
-    }
-    if let Pair::Two {
-        first,
-        tag,
-        value,
-        start,
-    } = args::pair::read_pair(s, at, n, padded)
-    {
-        if first * 256 + tag == CHOSEN_EXECUTE {
-            return Chosen::Body {
+    let Some(whole) = part else {
+        return long_chosen(&s[..all], None, padded);
+    };
+    if let Some(Pair { key, value, start }) = args::pair::read_pair(
+        s,
+        whole.start,
+        whole.len,
+        padded,
+    ) {
+        if key == CHOSEN_EXECUTE {
+            return Some(Chosen::Once {
                 operation: operation::STMT_EXECUTE,
-                start,
-                len: value as usize,
-            };
+                body: Part {
+                    start,
+                    len: value as usize,
+                },
+            });
         }
     }
-    long_chosen(&s[..all], at, n, padded)
+    long_chosen(&s[..all], part, padded)
 }
 
 // Whether a body of this type that occurs more than once is good in every part.
@@ -295,27 +224,14 @@ pub fn long_body(s: &[u8], operation: u64, at: usize, n: usize) -> Arguments
 {
     let mut unread = false;
     if operation == operation::STMT_EXECUTE {
-        // Field 1 is the text.
-        let b = args::bound::read_bound(s, at, n, true, &mut unread);
-        if !b.hasone {
+        let Some(b) = args::bound::read_bound(s, at, n, Message::StmtExecute, &mut unread) else {
             return Arguments::bad();
-        }
+        };
         return b.arguments(at, at + n);
     }
     let rows = layout::rows::stmt_execute_rows();
-    let mut times = [0; SLOTS];
-    let mut values = [0; SLOTS];
-    let mut starts = [0; SLOTS];
-    if !fill_part(
-        &rows[..0],
-        s,
-        at,
-        n,
-        &mut times,
-        &mut values,
-        &mut starts,
-        &mut unread,
-    ) {
+    let mut found = Found::new();
+    if !found.fill_part(&rows[..0], s, at, n, &mut unread) {
         return Arguments::bad();
     }
     Arguments::none(0, 0)
@@ -329,7 +245,7 @@ fn read_body(s: &[u8], operation: u64, at: usize, n: usize) -> Arguments
     let all = s.len();
     let mut unread = false;
     if operation == operation::STMT_EXECUTE {
-        if let Text::Alone { start: _, len: _ } = args::pair::read_text(s, at, n, &mut unread) {
+        if let Some(_) = args::pair::read_text(s, at, n, &mut unread) {
             return Arguments::none(at, at + n);
         }
     }

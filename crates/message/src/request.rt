@@ -5,26 +5,6 @@ ghost use Rattle.message.specs.Request.{args_of, body_of};
 use args::arguments::Arguments;
 use layout::part::Part;
 
-// An optional field: whether it is present, and its value (0 where it is not).
-#[repr(C)]
-#[derive(Clone, Copy)]
-pub struct Optional {
-    pub present: bool,
-    pub value: u64,
-}
-
-impl Optional {
-    // The same, as `Arguments::same` has it.
-    pub fn same(self) -> Optional
-        ensures { result ≡ self }
-    {
-        Optional {
-            present: self.present,
-            value: self.value,
-        }
-    }
-}
-
 // The fields of the messages below stand in such an order that a flag of one shares its bytes with flags of the others,
 // and hardly with their numbers: a number that is put together with a flag goes to memory in pieces.
 
@@ -42,7 +22,7 @@ pub struct Prepare {
 pub struct Execute {
     pub args: Arguments,
     pub stmt: u32,
-    pub compact: Optional,
+    pub compact: Option<u64>,
 }
 
 // A cursor to open on the statement that `execute` runs; `rows` is fetch_rows, `body` is where the Execute stands.
@@ -51,13 +31,13 @@ pub struct Open {
     pub execute: Execute,
     pub body: Part,
     pub cursor: u32,
-    pub rows: Optional,
+    pub rows: Option<u64>,
 }
 
 // Rows to send of a cursor; `rows` is fetch_rows.
 #[derive(Clone, Copy)]
 pub struct Fetch {
-    pub rows: Optional,
+    pub rows: Option<u64>,
     pub cursor: u32,
 }
 
@@ -73,13 +53,15 @@ pub enum Request {
     Fetch(Fetch),
 }
 
-// What the bytes of a frame hold. `used` is the frame's length.
+// What the bytes of a frame hold. `used` is the frame's length. Not a Result: most refusals tell that length too, as a
+// good frame does, and each caller answers every refusal in its own way, so that an Err would be taken apart there
+// again.
 #[derive(Clone, Copy)]
 pub enum Frame {
     NotAllThere,
     BadLength,
     UnknownType { used: usize },
-    // `kind` is the message type.
+    // `kind` is the message type, by its number: which messages there are says the enum above.
     BadPayload { used: usize, kind: u64 },
     // The chosen body, or an Open's Execute, occurs more than once.
     BodyTwice { used: usize, kind: u64 },

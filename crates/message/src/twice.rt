@@ -1,6 +1,7 @@
 // A chosen body that occurs more than once. Every part of it is read before it is refused: it must be a good message in
 // parts, with good arguments.
 ghost use Rattle.std.specs.Prelude.{◌≡◌, ◌||◌, true};
+ghost use Rattle.layout.specs.Row.{columns_of};
 ghost use Rattle.layout.specs.Merged.{merged, parts_in, parts_of};
 ghost use Rattle.message.specs.Execute.{arguments_good};
 ghost use Rattle.message.specs.Padded.{executes_padded};
@@ -9,55 +10,23 @@ ghost use Rattle.message.specs.Payload.{twice};
 
 use crate::payload::PAYLOAD;
 use crate::request::Frame;
-use layout::merge::{NextPart, next_part};
-use layout::row::COLUMNS;
-use layout::slots::SLOTS;
+use layout::found::Found;
+use layout::parts::Parts;
+use layout::row::Row;
 
 // Whether the message with these rows in field k of each part of the statement, field `stmt` of the payload, is good.
 // Its own varints are read again with its arguments, so that their flag is not looked at.
-pub(crate) fn is_message(rows: &[[u16; COLUMNS]], s: &[u8], stmt: u64, k: u64) -> bool
+pub(crate) fn is_message(rows: &[Row], s: &[u8], stmt: u64, k: u64) -> bool
     ensures { result
-        ≡ (merged rows.now s.now
+        ≡ (merged (columns_of rows.now) s.now
         (parts_in k s.now (parts_of stmt s.now payload))).good }
 {
     let mut unread = false;
-    let mut times = [0; SLOTS];
-    let mut values = [0; SLOTS];
-    let mut starts = [0; SLOTS];
-    layout::merge::merge_inner(
-        rows,
-        s,
-        PAYLOAD,
-        stmt,
-        k,
-        &mut times,
-        &mut values,
-        &mut starts,
-        &mut unread,
-    )
+    let mut found = Found::new();
+    found.merge(rows, Parts::of_parts(s, PAYLOAD, stmt, k), &mut unread)
 }
 
-// Whether the arguments in the parts in field k of a message, which goes from `from` to the end of s, are all good.
-fn good_parts(s: &[u8], from: usize, k: u64, padded: &mut bool) -> bool
-    ensures answer { result ≡ arguments_good s.now (parts_of k s.now from) }
-    ensures told { result ≡ true →
-        padded.new ≡ (padded.old || executes_padded s.now (parts_of k s.now from)) }
-{
-    let mut p = from;
-    while p < s.len() {
-        let NextPart::At { start, len, next } = next_part(s, p, k) else {
-            return true;
-        };
-        let end = start + len;
-        if !args::judge::judge_arguments(&s[..end], start, padded) {
-            return false;
-        }
-        p = next;
-    }
-    true
-}
-
-// The same of the parts in field k of each part of the statement, field `stmt` of the payload.
+// Whether the arguments in field k of each part of the statement, field `stmt` of the payload, are all good.
 pub(crate) fn good_arguments(s: &[u8], stmt: u64, k: u64, padded: &mut bool) -> bool
     ensures answer { result ≡ arguments_good s.now (parts_in k s.now (parts_of stmt s.now payload)) }
     ensures told { result ≡ true →
@@ -65,16 +34,11 @@ pub(crate) fn good_arguments(s: &[u8], stmt: u64, k: u64, padded: &mut bool) -> 
         ≡ (padded.old
         || executes_padded s.now (parts_in k s.now (parts_of stmt s.now payload))) }
 {
-    let mut p = PAYLOAD;
-    while p < s.len() {
-        let NextPart::At { start, len, next } = next_part(s, p, stmt) else {
-            return true;
-        };
-        let end = start + len;
-        if !good_parts(&s[..end], start, k, padded) {
+    for part in Parts::of_parts(s, PAYLOAD, stmt, k) {
+        let end = part.start + part.len;
+        if !args::judge::judge_arguments(&s[..end], part.start, padded) {
             return false;
         }
-        p = next;
     }
     true
 }

@@ -1,5 +1,6 @@
 -- Why something is refused, by number. 0 is accepted.
-use Rattle.std.specs.Prelude.{ℕ}
+use Rattle.std.specs.Prelude.{ℕ, Result, Ok, Err}
+use Rattle.protocol.specs.declared.reason.Reason.{Reason}
 
 abbrev pub accepted : ℕ
 accepted = 0
@@ -72,3 +73,29 @@ body_twice = 17
 -- an image of a session is not acceptable; no frame is refused so
 abbrev pub bad_image : ℕ
 bad_image = 18
+
+-- the number of each
+abbrev pub number_of : Reason → ℕ
+number_of Reason.NotAllThere = not_all_there
+number_of Reason.BadLength = bad_length
+number_of Reason.NoRoom = no_room
+number_of Reason.Closed = closed
+number_of Reason.UnknownType = unknown_type
+number_of Reason.BadPayload = bad_payload
+number_of Reason.NoStmt = no_stmt
+number_of Reason.NotScalar = not_scalar
+number_of Reason.FewArguments = few_arguments
+number_of Reason.NoCursor = no_cursor
+number_of Reason.AllSent = all_sent
+number_of Reason.OtherCursor = other_cursor
+number_of Reason.StmtsFull = stmts_full
+number_of Reason.CursorsFull = cursors_full
+number_of Reason.BadReport = bad_report
+number_of Reason.EngineFailed = engine_failed
+number_of Reason.BodyTwice = body_twice
+number_of Reason.BadImage = bad_image
+
+-- the number told of what is accepted, or refused for a reason
+abbrev pub outcome_number : {A : Type 0} → Result A Reason → ℕ
+outcome_number (Ok found) = accepted
+outcome_number (Err reason) = number_of reason

@@ -1,5 +1,58 @@
-// Why something is refused, by number.
+// Why something is refused, and the number that each reason has for hosts.
+ghost use Rattle.std.specs.Prelude.{◌≡◌};
+ghost use Rattle.protocol.specs.Reason.{number_of};
+
+// What is accepted has this number.
 pub const ACCEPTED: u64 = 0;
+
+#[derive(Clone, Copy, Debug, PartialEq, Eq)]
+pub enum Reason {
+    NotAllThere,
+    BadLength,
+    NoRoom,
+    Closed,
+    UnknownType,
+    BadPayload,
+    NoStmt,
+    NotScalar,
+    FewArguments,
+    NoCursor,
+    AllSent,
+    OtherCursor,
+    StmtsFull,
+    CursorsFull,
+    BadReport,
+    EngineFailed,
+    BodyTwice,
+    BadImage,
+}
+
+impl From<Reason> for u64 {
+    ghost from_gives = { λ reason n. n ≡ number_of reason };
+
+    fn from(reason: Reason) -> u64 {
+        match reason {
+            Reason::NotAllThere => NOT_ALL_THERE,
+            Reason::BadLength => BAD_LENGTH,
+            Reason::NoRoom => NO_ROOM,
+            Reason::Closed => CLOSED,
+            Reason::UnknownType => UNKNOWN_TYPE,
+            Reason::BadPayload => BAD_PAYLOAD,
+            Reason::NoStmt => NO_STMT,
+            Reason::NotScalar => NOT_SCALAR,
+            Reason::FewArguments => FEW_ARGUMENTS,
+            Reason::NoCursor => NO_CURSOR,
+            Reason::AllSent => ALL_SENT,
+            Reason::OtherCursor => OTHER_CURSOR,
+            Reason::StmtsFull => STMTS_FULL,
+            Reason::CursorsFull => CURSORS_FULL,
+            Reason::BadReport => BAD_REPORT,
+            Reason::EngineFailed => ENGINE_FAILED,
+            Reason::BodyTwice => BODY_TWICE,
+            Reason::BadImage => BAD_IMAGE,
+        }
+    }
+}
 
 pub const NOT_ALL_THERE: u64 = 1;
 

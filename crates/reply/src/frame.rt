@@ -7,7 +7,6 @@ ghost use Rattle.reply.specs.Frame.{error_frame, error_payload, stmt_execute_ok}
 use encode::field::{put_bytes, put_number};
 use encode::head::put_head;
 use encode::number::varint_len;
-use encode::put::Put;
 use protocol::server;
 
 // The length of a frame without payload.
@@ -30,25 +29,25 @@ const SQL_STATE: u32 = 4;
 const AROUND_MESSAGE: usize = 12;
 
 // A frame with no payload.
-pub(crate) fn write_empty(buf: &mut [u8], kind: u8) -> Put
+pub(crate) fn write_empty(buf: &mut [u8], kind: u8) -> Option<usize>
     ensures { PutsIfRoom buf.old 0 (frame kind []) result buf.new }
 {
     if buf.len() < EMPTY {
-        return Put::Full;
+        return None;
     }
-    Put::Next(put_head(buf, 0, TYPE_BYTE, kind))
+    Some(put_head(buf, 0, TYPE_BYTE, kind))
 }
 
 // The frame that ends a stretch of rows, and StmtExecuteOk in the part of the buffer behind it.
-pub(crate) fn write_end(buf: &mut [u8], kind: u8) -> Put
+pub(crate) fn write_end(buf: &mut [u8], kind: u8) -> Option<usize>
     ensures { PutsIfRoom buf.old 0 (frame kind [] ++ stmt_execute_ok) result buf.new }
 {
     if buf.len() < 2 * EMPTY {
-        return Put::Full;
+        return None;
     }
     let n = put_head(buf, 0, TYPE_BYTE, kind);
     let m = put_head(&mut buf[n..], 0, TYPE_BYTE, server::STMT_EXECUTE_OK);
-    Put::Next(n + m)
+    Some(n + m)
 }
 
 // The payload of an Error: severity 0, code, message and SQL state.
@@ -62,14 +61,14 @@ fn put_error(buf: &mut [u8], at: usize, code: u64, message: &[u8]) -> usize
 }
 
 // An Error frame. Its length is counted first.
-pub(crate) fn write_error(buf: &mut [u8], code: u64, message: &[u8]) -> Put
+pub(crate) fn write_error(buf: &mut [u8], code: u64, message: &[u8]) -> Option<usize>
     ensures { PutsIfRoom buf.old 0 (error_frame code message.now) result buf.new }
 {
     let n = message.len();
     let size = AROUND_MESSAGE + varint_len(code) + varint_len(n as u64) + n;
     if buf.len() < 4 + size {
-        return Put::Full;
+        return None;
     }
     let at = put_head(buf, 0, size as u64, server::ERROR);
-    Put::Next(put_error(buf, at, code, message))
+    Some(put_error(buf, at, code, message))
 }

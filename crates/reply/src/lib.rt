@@ -7,7 +7,6 @@ ghost use Rattle.reply.specs.Frame.{error_frame};
 ghost use Rattle.encode.specs.Puts.{PutsIfRoom};
 ghost use Rattle.reply.specs.Reply.{code_of, message_of, reply_bytes};
 
-use encode::put::Put;
 use protocol::{reason, server};
 
 pub mod decimal;
@@ -15,7 +14,7 @@ mod frame;
 mod text;
 
 // The refusal that an Error tells: its number, its wire code, and what its text names: an id, index or count and, for
-// an argument, the type of its Any.
+// an argument, the type of its Any. They are numbers since `write_reply` says what it writes of each, a reason or not.
 #[derive(Clone, Copy)]
 pub struct Refusal {
     pub reason: u64,
@@ -51,7 +50,7 @@ pub fn code_of(reason: u64) -> u64
 }
 
 // An Error. Its text is made in an array, since the text's length stands before it in the frame.
-fn write_refusal(buf: &mut [u8], refusal: Refusal) -> Put
+fn write_refusal(buf: &mut [u8], refusal: Refusal) -> Option<usize>
     ensures { PutsIfRoom buf.old 0 (error_frame refusal.code (message_of refusal)) result buf.new }
 {
     let mut text = [0u8; 128];
@@ -60,12 +59,12 @@ fn write_refusal(buf: &mut [u8], refusal: Refusal) -> Put
 }
 
 // The reply's bytes put at the front of the buffer, where they fit; else the buffer stays as it was.
-pub fn write_reply(buf: &mut [u8], reply: Reply) -> Put
+pub fn write_reply(buf: &mut [u8], reply: Reply) -> Option<usize>
     ensures { (result ≡ put_at buf.old 0 (reply_bytes reply))
         × (buf.new ≡ written buf.old 0 (reply_bytes reply)) }
 {
     match reply {
-        Reply::Nothing => Put::Next(0),
+        Reply::Nothing => Some(0),
         Reply::Ok => frame::write_empty(buf, server::OK),
         Reply::Suspended => frame::write_end(buf, server::FETCH_SUSPENDED),
         Reply::Done => frame::write_end(buf, server::FETCH_DONE),

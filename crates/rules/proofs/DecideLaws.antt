@@ -1,6 +1,7 @@
 -- The rules of specs/RefusalRules.antt hold: no reason occurs twice in the list of tests, so that each stands for one
 -- test.
 -- Assumes nothing.
+use Rattle.prelude.proofs.Basics.{Option, Some, None, is_none}
 use Rattle.prelude.proofs.Basics.{ℕ, ◌≤◌, arith, Bool, true, false, ◌&&◌, cond, false≢true, ◌≡◌, refl, sym, ap, subst}
 use Rattle.prelude.proofs.Basics.{◌∙◌, List, [], ◌∷◌, ◌++◌, length, eqb, leb, eqb-true, le-ltb, leb-true, both}
 use Rattle.protocol.specs.Reason as Reason
@@ -9,8 +10,8 @@ use Rattle.message.specs.declared.request.Frame.TheVariants.{BodyTwice, Good}
 use Rattle.session.specs.Tables.{max_stmts, max_cursors, stmt_count, cursor_count}
 use Rattle.session.proofs.TableLaws.{stmts_full_lem, full_stmts, full_cursors}
 use Rattle.rules.proofs.Names.{prepare, open', stmt_of, cursor_of, frame_of, Frame, how_many, Session, is_stmt}
-use Rattle.rules.proofs.Names.{is_cursor, stmt_place, cursor_place, Place, and_true, cursors_full_lem, min_buffer, is_a}
-use Rattle.rules.proofs.Names.{on_good, Test, first_of, no_place, look_reason, report_tests, report_reason, step_reason}
+use Rattle.rules.proofs.Names.{is_cursor, stmt_place, cursor_place, and_true, cursors_full_lem, min_buffer, is_a}
+use Rattle.rules.proofs.Names.{on_good, Test, first_of, look_reason, report_tests, report_reason, step_reason}
 use Rattle.rules.proofs.Names.{look_at, NoneHolds, Report}
 use Rattle.rules.specs.Refusal.{look_tests}
 use Rattle.rules.specs.RefusalRules.{Decides, LookDecides, step_tests, StepDecides, LookGives, StepGives, FullWhen}
@@ -144,15 +145,15 @@ step_gives s frame r buffer =
 
 -- ---- full tables
 
-no_place_lem : (x : Place) → no_place x ≡ true → x ≡ Place.Nothing
-no_place_lem (Place.At i) e = absurd (false≢true e)
-no_place_lem Place.Nothing e = refl
+no_place_lem : (x : Option ℕ) → is_none x ≡ true → x ≡ None
+no_place_lem (Some i) e = absurd (false≢true e)
+no_place_lem None e = refl
 
-full_when : (limit live own : ℕ) (a : Bool) (x : Place) → a ≡ true → (x ≡ Place.Nothing → (own ≡ 0) × (live ≡ limit)) →
-    (own ≡ 0 → live ≡ limit → x ≡ Place.Nothing) → FullWhen limit live own (a && no_place x)
+full_when : (limit live own : ℕ) (a : Bool) (x : Option ℕ) → a ≡ true → (x ≡ None → (own ≡ 0) × (live ≡ limit)) →
+    (own ≡ 0 → live ≡ limit → x ≡ None) → FullWhen limit live own (a && is_none x)
 full_when limit live own a x is there back =
     record {
-      given = λ e. let l = there (no_place_lem x (and_true a (no_place x) e).1) in (l.1, l.0);
+      given = λ e. let l = there (no_place_lem x (and_true a (is_none x) e).1) in (l.1, l.0);
       holds = λ full none. rw (is, back none full);
     }
 

@@ -1,6 +1,6 @@
 -- The tables go by the list of endings. Assumes nothing.
 use Rattle.prelude.proofs.Basics.{ℕ, Bool, true, false, ◌&&◌, ◌||◌, cond, and-false, ◌≡◌, refl, sym, ap, ◌∙◌, List, []}
-use Rattle.prelude.proofs.Basics.{◌∷◌, set, eqb}
+use Rattle.prelude.proofs.Basics.{◌∷◌, set, eqb, Option, Some, None}
 use mathlib.Core.Bool.{and-true, or-false}
 use mathlib.Core.Path.{fun_ext}
 use Rattle.message.specs.declared.request.Request.TheVariants.{Reset, SessionClose, Prepare, Execute, Deallocate, Open}
@@ -13,7 +13,7 @@ use Rattle.session.proofs.SumLaws.{sum_none}
 use Rattle.session.proofs.OnceLaws.{none_changed, put_changed}
 use Rattle.session.proofs.TableLaws.{fetched_as}
 use Rattle.rules.proofs.Names.{put, Session, no_cursor, new_cursor, is_live_cursor, is_cursor, free_cursor, raise}
-use Rattle.rules.proofs.Names.{cursor_place, Sound, Cursor, Place, Taken, taken, one, cursors_full_lem, new, own}
+use Rattle.rules.proofs.Names.{cursor_place, Sound, Cursor, Taken, taken, one, cursors_full_lem, new, own}
 use Rattle.rules.proofs.Names.{row_count, ends_it, session_after, Report}
 use Rattle.rules.specs.StepRules.{EndsAsListed}
 
@@ -47,15 +47,15 @@ module _ (s : Session) (r : Report) (sound : Sound s) where
       none_changed (λ c. is_live_cursor c && false) (λ c. no_cursor) s.cursors
       (sum_none (λ c. one (is_live_cursor c && false)) (λ c. ap one (and-false (is_live_cursor c))) s.cursors)
 
-  opened-listed : (id : ℕ) (at : Place) → cursor_place s id ≡ at → (c : Cursor) →
+  opened-listed : (id : ℕ) (at : Option ℕ) → cursor_place s id ≡ at → (c : Cursor) →
       put s.cursors at c ≡ put (ends (is_cursor id) s.cursors) at c
-  opened-listed id (Place.At i) e c = go (taken (is_cursor id) free_cursor no_cursor s.cursors i e)
+  opened-listed id (Some i) e c = go (taken (is_cursor id) free_cursor no_cursor s.cursors i e)
     where
       go : Taken (is_cursor id) free_cursor no_cursor s.cursors i →
           set s.cursors i c ≡ set (ends (is_cursor id) s.cursors) i c
       go (own l) = sym (put_changed (is_cursor id) (λ c. no_cursor) no_cursor c s.cursors i (sound.cursor_once id) l)
       go (new l none) = ap (λ cs. set cs i c) (sym (none_changed (is_cursor id) (λ c. no_cursor) s.cursors none))
-  opened-listed id Place.Nothing e c =
+  opened-listed id None e c =
       sym (none_changed (is_cursor id) (λ c. no_cursor) s.cursors (cursors_full_lem s id e).0)
 
   all_listed : ends always s.cursors ≡ ends (λ c. is_live_cursor c && true) s.cursors

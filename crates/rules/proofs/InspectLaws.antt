@@ -1,5 +1,6 @@
 -- The rules of specs/InspectRules.antt hold: bits by the list of cursors, places by what a search found, and endings by
 -- the list that the tables go by. Assumes nothing.
+use Rattle.prelude.proofs.Basics.{Option, Some, None, option_or, unwrap_or, is_none}
 use Rattle.prelude.proofs.Basics.{ℕ, zero, suc, ◌+◌, ◌*◌, ◌/◌, ◌%◌, ◌≤◌, ◌<◌, arith, Bool, true, false, not, ◌&&◌, cond}
 use Rattle.prelude.proofs.Basics.{true≢false, false≢true, and-false, ◌≡◌, refl, sym, ap, subst, ◌∙◌, List, [], ◌∷◌, map}
 use Rattle.prelude.proofs.Basics.{length, get_or, set, eqb, eq-eqb, ne_eqb, not-false}
@@ -9,14 +10,14 @@ use Rattle.message.specs.declared.request.Open.{Open as Opening}
 use Rattle.message.specs.declared.request.Fetch.{Fetch as Fetching}
 use Rattle.message.specs.declared.request.Request.TheVariants.{Reset, SessionClose, Prepare, Execute, Deallocate, Open}
 use Rattle.message.specs.declared.request.Request.TheVariants.{Close, Fetch}
-use Rattle.session.specs.Lists.{change, sum_by, index_of, mask_of}
+use Rattle.session.specs.Lists.{change, sum_by, mask_of}
 use Rattle.session.specs.Entry.{new_stmt}
 use Rattle.session.proofs.PlaceLaws.{Passes}
 use Rattle.session.proofs.SumLaws.{counted}
-use Rattle.rules.proofs.Names.{open', fetch, frame_of, Request, or_place, put, entry_at, how_many, first, Session}
+use Rattle.rules.proofs.Names.{open', fetch, frame_of, Request, put, entry_at, how_many, first, Session}
 use Rattle.rules.proofs.Names.{no_stmt, no_cursor, new_cursor, is_live_stmt, is_live_cursor, is_stmt, free_stmt, is_cursor}
-use Rattle.rules.proofs.Names.{free_cursor, raise, stmt_at, cursor_at, cursor_place, Sound, Cursor, Place, found}
-use Rattle.rules.proofs.Names.{Taken, taken, one, new, own, is_a, no_place, row_count, ends_it, session_after, Report}
+use Rattle.rules.proofs.Names.{free_cursor, raise, stmt_at, cursor_at, cursor_place, Sound, Cursor, found}
+use Rattle.rules.proofs.Names.{Taken, taken, one, new, own, is_a, row_count, ends_it, session_after, Report}
 use Rattle.rules.specs.Ending.{ends_cursor, cursors_left}
 use Rattle.rules.specs.Inspect.{own_stmt, own_cursor, no_stmt_place, no_cursor_place, ends_at}
 use Rattle.rules.specs.InspectRules.{bit, stmt_there, cursor_there, BitsTold, SameOpening, EndsAndKeeps, EndsTold}
@@ -48,10 +49,10 @@ module _ {A : Type 0} (d : A) where
   set-has P (y ∷ xs) (suc i) zero x f h = h
   set-has P (y ∷ xs) (suc i) (suc j) x f h = set-has P xs i j x (λ e. f (ap suc e)) h
 
-  put_has : (P : A → Type 0) (xs : List A) (i : ℕ) (at : Place) (x : A) → (at ≡ Place.At i → P x) → P (get_or xs i d) →
+  put_has : (P : A → Type 0) (xs : List A) (i : ℕ) (at : Option ℕ) (x : A) → (at ≡ Some i → P x) → P (get_or xs i d) →
       P (get_or (put xs at x) i d)
-  put_has P xs i (Place.At j) x f h = set-has P xs i j x (λ e. f (ap Place.At e)) h
-  put_has P xs i Place.Nothing x f h = h
+  put_has P xs i (Some j) x f h = set-has P xs i j x (λ e. f (ap Some e)) h
+  put_has P xs i None x f h = h
 
   module _ (p : A → Bool) (empty : p d ≡ false) where
     -- an entry that passes stands inside
@@ -61,66 +62,66 @@ module _ {A : Type 0} (d : A) where
     inside (x ∷ xs) (suc i) e = omega (arith, inside xs i e)
 
     -- the only one that passes is found
-    only-from : (xs : List A) (i k : ℕ) → how_many p xs ≤ 1 → p (get_or xs i d) ≡ true → first p xs k ≡ Place.At (k + i)
+    only-from : (xs : List A) (i k : ℕ) → how_many p xs ≤ 1 → p (get_or xs i d) ≡ true → first p xs k ≡ Some (k + i)
     unfolding first sum_by
     only-from [] i k once e = absurd (true≢false (sym e ∙ empty))
-    only-from (x ∷ xs) zero k once e = let z : k ≡ k + 0 = omega arith in rw e (ap Place.At z)
+    only-from (x ∷ xs) zero k once e = let z : k ≡ k + 0 = omega arith in rw e (ap Some z)
     only-from (x ∷ xs) (suc i) k once e = go (p x) refl (only-from xs i (suc k))
       where
         there : Passes p d xs i
         there = record { inside = inside xs i e; passing = e }
 
         go : (b : Bool) → p x ≡ b →
-            (how_many p xs ≤ 1 → p (get_or xs i d) ≡ true → first p xs (suc k) ≡ Place.At (suc k + i)) →
-            cond b (Place.At k) (first p xs (suc k)) ≡ Place.At (k + suc i)
+            (how_many p xs ≤ 1 → p (get_or xs i d) ≡ true → first p xs (suc k) ≡ Some (suc k + i)) →
+            cond b (Some k) (first p xs (suc k)) ≡ Some (k + suc i)
         go true h more = absurd (omega (arith, ap one h, counted p d xs i there))
         go false h more =
             let z : suc k + i ≡ k + suc i = omega arith in
-            more (omega (arith, ap one h)) e ∙ ap Place.At z
+            more (omega (arith, ap one h)) e ∙ ap Some z
 
-    only : (xs : List A) (i : ℕ) → how_many p xs ≤ 1 → p (get_or xs i d) ≡ true → first p xs 0 ≡ Place.At i
-    only xs i once e = let z : 0 + i ≡ i = omega arith in only-from xs i 0 once e ∙ ap Place.At z
+    only : (xs : List A) (i : ℕ) → how_many p xs ≤ 1 → p (get_or xs i d) ≡ true → first p xs 0 ≡ Some i
+    only xs i once e = let z : 0 + i ≡ i = omega arith in only-from xs i 0 once e ∙ ap Some z
 
   -- where a search found a live entry, one stands that passes
   stands : (p live : A → Bool) → live d ≡ false → (xs : List A) (n : ℕ) →
-      live (entry_at xs (first p xs 0) d) ≡ true → p (get_or xs (index_of n (first p xs 0)) d) ≡ true
+      live (entry_at xs (first p xs 0) d) ≡ true → p (get_or xs (unwrap_or (first p xs 0) n) d) ≡ true
   stands p live e xs n h = go (first p xs 0) refl h
     where
-      go : (at : Place) → first p xs 0 ≡ at → live (entry_at xs at d) ≡ true → p (get_or xs (index_of n at) d) ≡ true
-      go (Place.At i) f g = (found p d xs i f).passing
-      go Place.Nothing f g = absurd (true≢false (sym g ∙ e))
+      go : (at : Option ℕ) → first p xs 0 ≡ at → live (entry_at xs at d) ≡ true → p (get_or xs (unwrap_or at n) d) ≡ true
+      go (Some i) f g = (found p d xs i f).passing
+      go None f g = absurd (true≢false (sym g ∙ e))
 
   -- where an entry was put, it stands
   put-stands : (p free : A → Bool) (x : A) → p x ≡ true → (xs : List A) (n : ℕ) →
-      no_place (or_place (first p xs 0) (first free xs 0)) ≡ false →
-      p (get_or (put xs (or_place (first p xs 0) (first free xs 0)) x)
-      (index_of n (or_place (first p xs 0) (first free xs 0))) d) ≡ true
-  put-stands p free x e xs n h = go (or_place (first p xs 0) (first free xs 0)) refl h
+      is_none (option_or (first p xs 0) (first free xs 0)) ≡ false →
+      p (get_or (put xs (option_or (first p xs 0) (first free xs 0)) x)
+      (unwrap_or (option_or (first p xs 0) (first free xs 0)) n) d) ≡ true
+  put-stands p free x e xs n h = go (option_or (first p xs 0) (first free xs 0)) refl h
     where
       room : (i : ℕ) → Taken p free d xs i → i < length xs
       room i (own l) = l.inside
       room i (new l none) = l.inside
 
-      go : (at : Place) → or_place (first p xs 0) (first free xs 0) ≡ at → no_place at ≡ false →
-          p (get_or (put xs at x) (index_of n at) d) ≡ true
-      go (Place.At i) f g = ap p (set_there xs i x (room i (taken p free d xs i f))) ∙ e
-      go Place.Nothing f g = absurd (true≢false g)
+      go : (at : Option ℕ) → option_or (first p xs 0) (first free xs 0) ≡ at → is_none at ≡ false →
+          p (get_or (put xs at x) (unwrap_or at n) d) ≡ true
+      go (Some i) f g = ap p (set_there xs i x (room i (taken p free d xs i f))) ∙ e
+      go None f g = absurd (true≢false g)
 
   -- where an entry is put, what was live has its id: it stands at the id's own place, or at a free one
   over-own : (p live free : A → Bool) → ((x : A) → p x ≡ true → live x ≡ p x) →
       ((x : A) → free x ≡ true → live x ≡ p x) → (xs : List A) (n : ℕ) →
-      no_place (or_place (first p xs 0) (first free xs 0)) ≡ false →
-      let x = get_or xs (index_of n (or_place (first p xs 0) (first free xs 0))) d in live x ≡ p x
-  over-own p live free f g xs n h = go (or_place (first p xs 0) (first free xs 0)) refl h
+      is_none (option_or (first p xs 0) (first free xs 0)) ≡ false →
+      let x = get_or xs (unwrap_or (option_or (first p xs 0) (first free xs 0)) n) d in live x ≡ p x
+  over-own p live free f g xs n h = go (option_or (first p xs 0) (first free xs 0)) refl h
     where
       there : (i : ℕ) → Taken p free d xs i → live (get_or xs i d) ≡ p (get_or xs i d)
       there i (own l) = f (get_or xs i d) l.passing
       there i (new l none) = g (get_or xs i d) l.passing
 
-      go : (at : Place) → or_place (first p xs 0) (first free xs 0) ≡ at → no_place at ≡ false →
-          live (get_or xs (index_of n at) d) ≡ p (get_or xs (index_of n at) d)
-      go (Place.At i) e k = there i (taken p free d xs i e)
-      go Place.Nothing e k = absurd (true≢false k)
+      go : (at : Option ℕ) → option_or (first p xs 0) (first free xs 0) ≡ at → is_none at ≡ false →
+          live (get_or xs (unwrap_or at n) d) ≡ p (get_or xs (unwrap_or at n) d)
+      go (Some i) e k = there i (taken p free d xs i e)
+      go None e k = absurd (true≢false k)
 
 -- an entry that passes is live, a free one is not and does not pass
 both_hold : (b q : Bool) → b && q ≡ true → b ≡ b && q
@@ -188,7 +189,7 @@ unfolding session_after ends_it own_cursor
 opens s o r i sound =
     record {
       ended = λ _ f. absurd (true≢false f);
-      replaced = λ f _. ap (λ at. or_place at (first free_cursor s.cursors 0)) (own-found f);
+      replaced = λ f _. ap (λ at. option_or at (first free_cursor s.cursors 0)) (own-found f);
       kept = λ _ f. absurd (true≢false f);
       others = λ _ f.
           put_has no_cursor (λ c. c ≡ cursor_there s i) s.cursors i (cursor_place s o.cursor) _
@@ -201,7 +202,7 @@ opens s o r i sound =
         ap (λ b. is_live_cursor (cursor_there s i) && b) (sym (or-false (eqb (cursor_there s i).id o.cursor)))
         ∙ sym (bits_told s (Open o) i) ∙ f
 
-    own-found : bit (ends_at s (Open o)) i ≡ true → cursor_at s o.cursor ≡ Place.At i
+    own-found : bit (ends_at s (Open o)) i ≡ true → cursor_at s o.cursor ≡ Some i
     own-found f =
         only no_cursor (is_cursor o.cursor) refl s.cursors i (sound.cursor_once o.cursor) (its-id f)
 
@@ -262,11 +263,11 @@ ends_told s frame r buffer used q sound e =
 
 -- a live entry of an id, where a search for it looked
 stmt_stands : (s : Session) (id n : ℕ) → not (is_live_stmt (entry_at s.stmts (stmt_at s id) no_stmt)) ≡ false →
-    is_stmt id (stmt_there s (index_of n (stmt_at s id))) ≡ true
+    is_stmt id (stmt_there s (unwrap_or (stmt_at s id) n)) ≡ true
 stmt_stands s id n h = stands no_stmt (is_stmt id) is_live_stmt refl s.stmts n (not-false _ h)
 
 cursor_stands : (s : Session) (id n : ℕ) → not (is_live_cursor (entry_at s.cursors (cursor_at s id) no_cursor)) ≡ false →
-    is_cursor id (cursor_there s (index_of n (cursor_at s id))) ≡ true
+    is_cursor id (cursor_there s (unwrap_or (cursor_at s id) n)) ≡ true
 cursor_stands s id n h = stands no_cursor (is_cursor id) is_live_cursor refl s.cursors n (not-false _ h)
 
 standing : (s : Session) (q : Request) (r : Report) → Looked s q → Stands s q (session_after s q r)

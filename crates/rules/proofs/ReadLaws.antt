@@ -1,7 +1,8 @@
 -- Every request that a frame gives has numbers of 32 bits: ids are cut to them, and a frame has fewer bytes. Assumes
 -- nothing.
-use Rattle.prelude.proofs.Basics.{ℕ, zero, suc, ◌+◌, ◌-◌, ◌%◌, ◌^◌, ◌≤◌, ◌<◌, arith, le_trans, mod-lt, Bool}
-use Rattle.prelude.proofs.Basics.{List, [], ◌∷◌, length, get_or, take, length-take, eqb, leb, ltb, ltb-false, both}
+use Rattle.prelude.proofs.Basics.{Option, Some, None}
+use Rattle.prelude.proofs.Basics.{ℕ, zero, suc, ◌+◌, ◌-◌, ◌%◌, ◌^◌, ◌≤◌, ◌<◌, arith, le_trans, mod-lt, Bool, List, []}
+use Rattle.prelude.proofs.Basics.{◌∷◌, length, take, length-take, eqb, leb, ltb, ltb-false, both, Ok, Err}
 use Rattle.protocol.specs.Client.{reset, session_close, execute, deallocate, close}
 use Rattle.protocol.specs.Reason as Reason
 use Rattle.scalar.specs.declared.argument.Argument.{Argument}
@@ -14,6 +15,7 @@ use Rattle.layout.specs.declared.part.Part.{Part}
 use Rattle.args.specs.Arguments.{no_arguments, bad_arguments, counted, with_type, any_type_of, together, arguments_from}
 use Rattle.args.specs.Arguments.{arguments_at, arguments_in, next_argument, and_more}
 use Rattle.args.specs.declared.arguments.Arguments.{Arguments}
+use Rattle.std.specs.Prelude.{Option, Some, None}
 use Rattle.args.specs.declared.arguments.NextArgument.{NextArgument}
 use Rattle.message.specs.Operation as Operation
 use Rattle.message.specs.Payload.{payload, if_good, twice, optional_of, truth_of}
@@ -23,7 +25,7 @@ use Rattle.message.specs.Execute.{open_by, open_inside, open_parts, open_frame}
 use Rattle.message.specs.Prepare.{body_in, bodies_good, prepare_by, prepare_typed, prepare_inside, stmt_parts, prepare_frame}
 use Rattle.message.specs.declared.request.Execute.{Execute}
 use Rattle.rules.proofs.Names.{prepare, open', fetch, length_bytes, max_length, length_of, head_of, of_head, frame_in}
-use Rattle.rules.proofs.Names.{frame_of, Head, Frame, Optional, Request, max_number, Read, ReadIn}
+use Rattle.rules.proofs.Names.{frame_of, HeadResult, Frame, Request, max_number, Read, ReadIn}
 use Rattle.rules.specs.Read.{FramesAreRead}
 
 -- ---- at most k arguments
@@ -58,10 +60,10 @@ together_few n k x (a ∷ l) h g =
     both (Few n) (eqb (any_type_of a) 0) _ _ (λ _. bad_few n)
     (λ _. together_few n (suc k) (with_type x (any_type_of a)) l (type_few k (any_type_of a) x h) (omega arith))
 
-and_more_few : (n : ℕ) (more : ℕ → List Argument) → ((q : ℕ) → length (more q) ≤ n) → (a : NextArgument) →
+and_more_few : (n : ℕ) (more : ℕ → List Argument) → ((q : ℕ) → length (more q) ≤ n) → (a : Option NextArgument) →
     length (and_more more a) ≤ suc n
-and_more_few n more h (NextArgument.Found a next) = omega (arith, h next)
-and_more_few n more h NextArgument.End = omega arith
+and_more_few n more h (Some found) = omega (arith, h found.next)
+and_more_few n more h None = omega arith
 
 arguments_few : (n : ℕ) (s : List ℕ) (at : ℕ) → length (arguments_from n s at) ≤ n
 unfolding arguments_from
@@ -132,7 +134,7 @@ close_read v = record {
       arith;
 }
 
-fetch_read : (v : ℕ) (rows : Optional) → Read (Request.Fetch (record { cursor = low32 v; rows = rows }))
+fetch_read : (v : ℕ) (rows : Option ℕ) → Read (Request.Fetch (record { cursor = low32 v; rows = rows }))
 fetch_read v rows = record {
   stmt_small = omega arith;
   cursor_small = low v;
@@ -155,7 +157,7 @@ execute_read x h =
       count_small = h.args_few.count;
     }
 
-open_read : (v : ℕ) (rows : Optional) (body : Part) (x : Execute) → Short x →
+open_read : (v : ℕ) (rows : Option ℕ) (body : Part) (x : Execute) → Short x →
     Read (Request.Open (record { cursor = low32 v; rows = rows; body = body; execute = x }))
 open_read v rows body x h =
     record {
@@ -194,14 +196,14 @@ module _ (s : List ℕ) (long : length s ≤ max_number) where
       if_good_read s execute x.args.good (Request.Execute x)
       (execute_read x (in-short payload (length s - payload)))
 
-  open_by_lem : (id : ℕ) (rows : Optional) (es : List Part) → ReadIn (open_by s id rows es)
+  open_by_lem : (id : ℕ) (rows : Option ℕ) (es : List Part) → ReadIn (open_by s id rows es)
   open_by_lem id rows [] = tt
   open_by_lem id rows (e ∷ []) =
       let x = execute_in s e.start e.len in
       if_good_read s open' x.args.good _ (open_read id rows e x (in-short e.start e.len))
   open_by_lem id rows (e ∷ (f ∷ es)) = twice_read s open' (executes_good s (e ∷ (f ∷ es)))
 
-  open-inside : (id : ℕ) (rows : Optional) (ps : List Part) → ReadIn (open_inside s id rows ps)
+  open-inside : (id : ℕ) (rows : Option ℕ) (ps : List Part) → ReadIn (open_inside s id rows ps)
   open-inside id rows ps =
       both ReadIn (merged (rows_of open_stmt) s ps).good _ (Frame.BadPayload (length s) open')
       (λ _. open_by_lem id rows (parts_in 2 s ps)) (λ _. tt)
@@ -288,23 +290,22 @@ module _ (s : List ℕ) (long : length s ≤ max_number) where
 -- ---- a frame
 
 -- a frame has at most 65,536 bytes
-abbrev Headed : Head → Type 0
-Headed (Head.Frame kind end) = end ≤ length_bytes + max_length
-Headed (Head.Refused n) = Unit {0}
+abbrev Headed : HeadResult → Type 0
+Headed (Ok head) = head.end ≤ length_bytes + max_length
+Headed (Err reason) = Unit {0}
 
 headed : (s : List ℕ) → Headed (head_of s)
 headed s =
-    both Headed (leb length_bytes (length s)) _ (Head.Refused Reason.not_all_there)
-    (λ _. both Headed (eqb (length_of s) 0) (Head.Refused Reason.bad_length) _ (λ _. tt)
-    (λ _. both Headed (ltb max_length (length_of s)) (Head.Refused Reason.bad_length) _ (λ _. tt)
-    (λ e. both Headed (ltb (length s) (length_bytes + length_of s)) (Head.Refused Reason.not_all_there)
-    (Head.Frame (get_or s length_bytes 0) (length_bytes + length_of s)) (λ _. tt)
+    both Headed (leb length_bytes (length s)) _ _
+    (λ _. both Headed (eqb (length_of s) 0) _ _ (λ _. tt)
+    (λ _. both Headed (ltb max_length (length_of s)) _ _ (λ _. tt)
+    (λ e. both Headed (ltb (length s) (length_bytes + length_of s)) _ _ (λ _. tt)
     (λ _. omega (arith, ltb-false max_length (length_of s) e)))))
     (λ _. tt)
 
-of_head_read : (s : List ℕ) (h : Head) → Headed h → ReadIn (of_head s h)
-of_head_read s (Head.Frame kind end) h = frame-read (take end s) (omega (arith, length-take end s)) kind
-of_head_read s (Head.Refused n) h = both ReadIn (eqb n Reason.bad_length) Frame.BadLength Frame.NotAllThere (λ _. tt)
+of_head_read : (s : List ℕ) (h : HeadResult) → Headed h → ReadIn (of_head s h)
+of_head_read s (Ok head) h = frame-read (take head.end s) (omega (arith, length-take head.end s)) head.kind
+of_head_read s (Err reason) h = both ReadIn (eqb (Reason.number_of reason) Reason.bad_length) Frame.BadLength Frame.NotAllThere (λ _. tt)
     (λ _. tt)
 
 pub frames_are_read : FramesAreRead

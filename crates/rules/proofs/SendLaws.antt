@@ -1,15 +1,16 @@
 -- The rules of specs/SendRules.antt hold. Assumes nothing.
 use Rattle.prelude.proofs.Basics.{ℕ, ◌+◌, ◌≤◌, arith, le_trans, not, ◌≡◌, refl, sym, ap, ◌∙◌, List, ◌++◌, length, take}
 use Rattle.prelude.proofs.Basics.{drop, length-take, eqb, leb, ltb, eq-eqb, eqb-false, le-ltb, ltb-false, ne_eqb}
-use Rattle.prelude.proofs.Basics.{not-true, both}
+use Rattle.prelude.proofs.Basics.{not-true, both, Ok, Err}
 use Rattle.protocol.specs.Reason as Reason
+use Rattle.protocol.specs.declared.reason.Reason as Declared
 use Rattle.message.specs.Frame.{reason_of, refused_head}
 use Rattle.message.specs.declared.request.Request.TheVariants.{Reset, SessionClose, Prepare, Execute, Deallocate, Open}
 use Rattle.message.specs.declared.request.Request.TheVariants.{Close, Fetch}
 use Rattle.message.specs.declared.request.Frame.TheVariants.{NotAllThere, BadLength, Good}
 use Rattle.message.proofs.UsedLaws.{uses_all}
 use Rattle.rules.proofs.Names.{length_bytes, max_length, length_of, head_of, of_head, used_of, frame_in, frame_of}
-use Rattle.rules.proofs.Names.{padded_of, Head, Frame, Request, Session, reply_bytes, min_buffer, no_work, work_of}
+use Rattle.rules.proofs.Names.{padded_of, HeadResult, Frame, Request, Session, reply_bytes, min_buffer, no_work, work_of}
 use Rattle.rules.proofs.Names.{look_reason, report_reason, step_reason, row_count, sends_columns, accepted}
 use Rattle.rules.proofs.Names.{decision_of, looked, look_of, step_by, step_on, answer_says, look_at, step_of, Report}
 use Rattle.rules.specs.declared.Answer.{Answer}
@@ -163,44 +164,45 @@ used_by s x r buffer =
 abbrev Unread : Frame → ℕ → Type 0
 Unread x n = (n ≡ Reason.not_all_there → ⊥) → (n ≡ Reason.bad_length → ⊥) → (n ≡ Reason.no_room → ⊥) → ⊥
 
-head_refused : (s : Session) (m : ℕ) (r : Report) (buffer : List ℕ) →
+head_refused : (s : Session) (m : Declared.Reason) (r : Report) (buffer : List ℕ) →
     Unread (refused_head m) (step_on s (refused_head m) r buffer).answer.reason
 unfolding look_reason report_reason
 head_refused s m r buffer =
-    both (λ x. Unread x (step_on s x r buffer).answer.reason) (eqb m Reason.bad_length) BadLength NotAllThere
+    both (λ x. Unread x (step_on s x r buffer).answer.reason) (eqb (Reason.number_of m) Reason.bad_length) BadLength NotAllThere
     (λ _. step_has (λ y. Unread BadLength y.answer.reason) s BadLength r buffer (λ _ a b c. c refl)
     (λ used q _ t. absurd (omega (arith, ap reason_of t.good))) (λ _ _ a b c. b refl))
     (λ _. step_has (λ y. Unread NotAllThere y.answer.reason) s NotAllThere r buffer (λ _ a b c. c refl)
     (λ used q _ t. absurd (omega (arith, ap reason_of t.good))) (λ _ _ a b c. a refl))
 
 -- a whole frame ends where its four bytes say
-abbrev Ends : List ℕ → Head → Type 0
-Ends frame (Head.Frame kind end) = (end ≡ length_bytes + length_of frame) × (end ≤ length frame)
-Ends frame (Head.Refused n) = Unit {0}
+abbrev Ends : List ℕ → HeadResult → Type 0
+Ends frame (Ok head) = (head.end ≡ length_bytes + length_of frame) × (head.end ≤ length frame)
+Ends frame (Err reason) = Unit {0}
 
 head_ends : (frame : List ℕ) → Ends frame (head_of frame)
 head_ends frame =
-    both (Ends frame) (leb length_bytes (length frame)) _ (Head.Refused Reason.not_all_there)
-    (λ _. both (Ends frame) (eqb (length_of frame) 0) (Head.Refused Reason.bad_length) _ (λ _. tt)
-    (λ _. both (Ends frame) (ltb max_length (length_of frame)) (Head.Refused Reason.bad_length) _ (λ _. tt)
-    (λ _. both (Ends frame) (ltb (length frame) (length_bytes + length_of frame)) (Head.Refused Reason.not_all_there) _
+    both (Ends frame) (leb length_bytes (length frame)) _ _
+    (λ _. both (Ends frame) (eqb (length_of frame) 0) _ _ (λ _. tt)
+    (λ _. both (Ends frame) (ltb max_length (length_of frame)) _ _ (λ _. tt)
+    (λ _. both (Ends frame) (ltb (length frame) (length_bytes + length_of frame)) _ _
     (λ _. tt)
     (λ e. (refl, ltb-false (length frame) (length_bytes + length_of frame) e)))))
     (λ _. tt)
 
-uses_by : (s : Session) (frame : List ℕ) (r : Report) (buffer : List ℕ) (h : Head) → Ends frame h →
+uses_by : (s : Session) (frame : List ℕ) (r : Report) (buffer : List ℕ) (h : HeadResult) → Ends frame h →
     ((step_on s (of_head frame h) r buffer).answer.reason ≡ Reason.not_all_there → ⊥) →
     ((step_on s (of_head frame h) r buffer).answer.reason ≡ Reason.bad_length → ⊥) →
     ((step_on s (of_head frame h) r buffer).answer.reason ≡ Reason.no_room → ⊥) →
     Uses frame (step_on s (of_head frame h) r buffer).answer
-uses_by s frame r buffer (Head.Frame kind end) e a b c =
-    let u = used_by s (frame_in (take end frame) kind) r buffer c ∙ uses_all (take end frame) kind in
+uses_by s frame r buffer (Ok head) e a b c =
+    let cut = take head.end frame in
+    let u = used_by s (frame_in cut head.kind) r buffer c ∙ uses_all cut head.kind in
     record {
-      own = omega (arith, u, length-take end frame, e.0, e.1);
+      own = omega (arith, u, length-take head.end frame, e.0, e.1);
       within = omega
-          (arith, u, length-take end frame, e.1);
+          (arith, u, length-take head.end frame, e.1);
     }
-uses_by s frame r buffer (Head.Refused n) e a b c = absurd (head_refused s n r buffer a b c)
+uses_by s frame r buffer (Err reason) e a b c = absurd (head_refused s reason r buffer a b c)
 
 pub uses_frame : UsesFrame
 unfolding frame_of

@@ -2,14 +2,14 @@
 use Rattle.prelude.proofs.Basics.{ℕ, ◌≤◌, arith, ◌≡◌, refl, ap, ◌∙◌, List, length}
 use Rattle.protocol.specs.Reason as Reason
 use Rattle.message.proofs.UsedLaws.{whole_used, whole_read}
-use Rattle.rules.proofs.Names.{head_of, frame_of, Head, Session, min_buffer, step_reason, step_of, Report}
+use Rattle.rules.proofs.Names.{head_of, frame_of, framed, Session, min_buffer, step_reason, step_of, Report}
 use Rattle.rules.proofs.ReadLaws.{frames_are_read}
 use Rattle.rules.proofs.RefusalLaws.{late_read}
 use Rattle.rules.proofs.StepLaws.{step_has}
 use Rattle.rules.proofs.BufferLaws.{step_outcome}
 
 module _ (s : Session) (frame : List ℕ) (r : Report) (buffer : List ℕ) {kind : ℕ}
-    (e : head_of frame ≡ Head.Frame kind (length frame)) where
+    (e : head_of frame ≡ framed kind (length frame)) where
   not_low : step_reason s (frame_of frame) r ≤ Reason.no_room → (step_reason s (frame_of frame) r ≡ 0 → ⊥) → ⊥
   not_low h some = some (late_read s (frame_of frame) r (whole_read frame e) h)
 

@@ -1,5 +1,5 @@
 -- What a host may rely on: what the told places and bits are after an accepted step.
-use Rattle.std.specs.Prelude.{ℕ, zero, suc, ◌/◌, ◌%◌, Bool, true, false, ◌≡◌, List, get_or, eqb}
+use Rattle.std.specs.Prelude.{ℕ, zero, suc, ◌/◌, ◌%◌, Bool, true, false, ◌≡◌, List, get_or, eqb, Some}
 use Rattle.protocol.specs.Client.{prepare, execute, deallocate, open', close, fetch}
 use Rattle.protocol.specs.Reason as Reason
 use Rattle.message.specs.Frame.{frame_of}
@@ -8,7 +8,6 @@ use Rattle.message.specs.declared.request.Request.{Request}
 use Rattle.message.specs.declared.request.Frame.{Frame}
 use Rattle.session.specs.declared.Stmt.{Stmt}
 use Rattle.session.specs.declared.Cursor.{Cursor}
-use Rattle.session.specs.declared.Place.{Place}
 use Rattle.session.specs.Session.{Session}
 use Rattle.session.specs.Entry.{no_stmt, no_cursor, is_live_stmt, is_live_cursor, is_stmt, is_cursor}
 use Rattle.session.specs.Sound.{Sound}
@@ -47,11 +46,11 @@ pub record SameOpening (before after : Cursor) : Type 0 where
 -- place and for the rows that a Fetch sends (K17)
 pub record EndsAndKeeps (s : Session) (q : Request) (after : Session) (i : ℕ) : Type 0 where
   pub ended : bit (ends_at s q) i ≡ true → is_a open' q ≡ false → cursor_there after i ≡ no_cursor
-  pub replaced : bit (ends_at s q) i ≡ true → is_a open' q ≡ true → own_cursor s q ≡ Place.At i
+  pub replaced : bit (ends_at s q) i ≡ true → is_a open' q ≡ true → own_cursor s q ≡ Some i
   pub kept :
       bit (ends_at s q) i ≡ false → one_of open' fetch q ≡ false → cursor_there after i ≡ cursor_there s i
   pub others :
-      bit (ends_at s q) i ≡ false → (own_cursor s q ≡ Place.At i → ⊥) → cursor_there after i ≡ cursor_there s i
+      bit (ends_at s q) i ≡ false → (own_cursor s q ≡ Some i → ⊥) → cursor_there after i ≡ cursor_there s i
   pub fetched : is_a fetch q ≡ true → SameOpening (cursor_there s i) (cursor_there after i)
 
 abbrev pub EndsTold : Type 0

@@ -1,5 +1,5 @@
 -- The refusals, as one list of tests in order: "Each is given exactly when its row holds and no earlier one does." (O1)
-use Rattle.std.specs.Prelude.{ℕ, Bool, true, false, cond, not, ◌&&◌, ◌||◌, List, [], ◌∷◌, ◌++◌, eqb, ltb, leb}
+use Rattle.std.specs.Prelude.{ℕ, Bool, cond, not, ◌&&◌, ◌||◌, List, [], ◌∷◌, ◌++◌, eqb, ltb, leb, is_none}
 use Rattle.protocol.specs.Anys as Anys
 use Rattle.protocol.specs.Client.{prepare, execute, deallocate, open', close, fetch}
 use Rattle.protocol.specs.Reason as Reason
@@ -8,7 +8,6 @@ use Rattle.message.specs.Frame.{reason_of}
 use Rattle.message.specs.declared.request.Request.{Request}
 use Rattle.message.specs.declared.request.Frame.{Frame}
 use Rattle.session.specs.Session.{Session, is_closed}
-use Rattle.session.specs.declared.Place.{Place}
 use Rattle.session.specs.Entry.{is_live_stmt, is_live_cursor}
 use Rattle.session.specs.Tables.{live_stmt, live_cursor, carried, stmt_place, cursor_place}
 use Rattle.rules.specs.declared.Report.{Report}
@@ -57,17 +56,13 @@ abbrev pub other_cursor : Session → Request → Bool
 other_cursor s q =
     is_a open' q && is_live_cursor (carried s (stmt_of q)) && not (eqb (carried s (stmt_of q)).id (cursor_of q))
 
-abbrev pub no_place : Place → Bool
-no_place (Place.At i) = false
-no_place Place.Nothing = true
-
 -- 13 "64 statements live, id not among them" (R13)
 abbrev pub stmts_full : Session → Request → Bool
-stmts_full s q = is_a prepare q && no_place (stmt_place s (stmt_of q))
+stmts_full s q = is_a prepare q && is_none (stmt_place s (stmt_of q))
 
 -- 14 "16 cursors live, id not among them" (R14)
 abbrev pub cursors_full : Session → Request → Bool
-cursors_full s q = is_a open' q && no_place (cursor_place s (cursor_of q))
+cursors_full s q = is_a open' q && is_none (cursor_place s (cursor_of q))
 
 -- the refusals that a look gives
 abbrev pub frame_tests : Session → Frame → List Test

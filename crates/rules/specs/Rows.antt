@@ -1,9 +1,8 @@
 -- Which rows an accepted step sends (K11).
-use Rattle.std.specs.Prelude.{ℕ, ◌+◌, ◌-◌, min, Bool, cond, not, ◌&&◌, eqb}
+use Rattle.std.specs.Prelude.{ℕ, ◌+◌, ◌-◌, min, Bool, cond, not, ◌&&◌, eqb, Option, Some, None}
 use Rattle.protocol.specs.Client.{execute, open', fetch}
 use Rattle.message.specs.Request.{cursor_of, rows_of}
 use Rattle.message.specs.declared.request.Request.{Request}
-use Rattle.message.specs.declared.request.Optional.{Optional}
 use Rattle.session.specs.Session.{Session}
 use Rattle.session.specs.declared.Cursor.{Cursor}
 use Rattle.session.specs.Tables.{live_cursor}
@@ -11,18 +10,19 @@ use Rattle.rules.specs.declared.Report.{Report}
 use Rattle.rules.specs.Kind.{is_a, one_of}
 
 -- fetch_rows, or what its absence means
-abbrev pub asked : Optional → ℕ → ℕ
-asked rows absent = cond rows.present rows.value absent
+abbrev pub asked : Option ℕ → ℕ → ℕ
+asked (Some rows) absent = rows
+asked None absent = absent
 
 abbrev pub remaining : Cursor → ℕ
 remaining c = c.rows - c.sent
 
 -- "the next min(fetch_rows, remaining) rows, absent meaning all" (K11, S8)
-abbrev pub fetch_count : Cursor → Optional → ℕ
+abbrev pub fetch_count : Cursor → Option ℕ → ℕ
 fetch_count c rows = min (asked rows (remaining c)) (remaining c)
 
 -- "the first min(fetch_rows, N) rows (absent means 0)" (K11, S7)
-abbrev pub open_count : Optional → ℕ → ℕ
+abbrev pub open_count : Option ℕ → ℕ → ℕ
 open_count rows reported = min (asked rows 0) reported
 
 -- "rows sent so far" is the first row of a Fetch

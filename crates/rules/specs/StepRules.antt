@@ -1,5 +1,5 @@
 -- What holds of every look and step, whatever the session, frame, report and reply buffer.
-use Rattle.std.specs.Prelude.{ℕ, ◌≤◌, ◌<◌, true, false, ◌≡◌, List, [], ◌∷◌, ◌++◌, length, drop, get_or}
+use Rattle.std.specs.Prelude.{ℕ, ◌≤◌, ◌<◌, true, false, ◌≡◌, List, [], ◌∷◌, ◌++◌, length, drop, get_or, Some, None}
 use Rattle.protocol.specs.Reason as Reason
 use Rattle.message.specs.Frame.{used_of, frame_of}
 use Rattle.message.specs.Request.{stmt_of, cursor_of}
@@ -8,7 +8,6 @@ use Rattle.message.specs.declared.request.Fetch.{Fetch}
 use Rattle.message.specs.declared.request.Request.{Request}
 use Rattle.message.specs.declared.request.Frame.{Frame}
 use Rattle.session.specs.Session.{Session, is_closed}
-use Rattle.session.specs.declared.Place.{Place}
 use Rattle.session.specs.Entry.{is_live_stmt, is_live_cursor, no_stmt, no_cursor}
 use Rattle.session.specs.Tables.{live_stmt, live_cursor, stmt_at, cursor_at, stmt_place, cursor_place}
 use Rattle.session.specs.Sound.{Sound}
@@ -114,10 +113,10 @@ OwnPlace =
 abbrev pub LowestPlace : Type 0
 LowestPlace =
     (s : Session) (id i : ℕ) →
-    (stmt_at s id ≡ Place.Nothing → stmt_place s id ≡ Place.At i →
+    (stmt_at s id ≡ None → stmt_place s id ≡ Some i →
     (i < length s.stmts) × (is_live_stmt (get_or s.stmts i no_stmt) ≡ false)
     × ((j : ℕ) → j < i → is_live_stmt (get_or s.stmts j no_stmt) ≡ true))
-    × (cursor_at s id ≡ Place.Nothing → cursor_place s id ≡ Place.At i →
+    × (cursor_at s id ≡ None → cursor_place s id ≡ Some i →
     (i < length s.cursors) × (is_live_cursor (get_or s.cursors i no_cursor) ≡ false)
     × ((j : ℕ) → j < i → is_live_cursor (get_or s.cursors j no_cursor) ≡ true))
 
@@ -126,8 +125,8 @@ LowestPlace =
 abbrev pub SendsUnasked : Type 0
 SendsUnasked =
     (s : Session) (r : Report) →
-    ((o : Open) → o.rows.present ≡ false → row_count s (Request.Open o) r ≡ 0)
-    × ((f : Fetch) → f.rows.present ≡ false → row_count s (Request.Fetch f) r ≡ remaining (live_cursor s f.cursor))
+    ((o : Open) → o.rows ≡ None → row_count s (Request.Open o) r ≡ 0)
+    × ((f : Fetch) → f.rows ≡ None → row_count s (Request.Fetch f) r ≡ remaining (live_cursor s f.cursor))
 
 -- every step hands back a session that keeps the rules of the tables (S13)
 abbrev pub KeepsSound : Type 0

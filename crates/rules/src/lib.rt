@@ -1,5 +1,9 @@
-// What a look and a step take and what they answer. Every type is of numbers and bools, so that a host can pass it.
+// What a look and a step take and what they answer. Every struct is of numbers and bools, so that a
+// host can pass it; `Work` names the numbers of one of them.
 #![tactic(auto)]
+
+ghost use Rattle.std.specs.Prelude.{◌≡◌};
+ghost use Rattle.rules.specs.Report.{work_number};
 
 // The kinds of an engine report.
 pub const NONE: u64 = 0;
@@ -12,16 +16,29 @@ pub const DONE: u64 = 3;
 
 pub const FAILED: u64 = 4;
 
-// The work that a look wants of the engine, besides none.
-pub const NO_WORK: u64 = 0;
+// The work that a look wants of the engine.
+#[derive(Clone, Copy, Debug, PartialEq, Eq)]
+pub enum Work {
+    Nothing,
+    Prepare,
+    Execute,
+    Open,
+    Fetch,
+}
 
-pub const PREPARE: u64 = 1;
+impl From<Work> for u64 {
+    ghost from_gives = { λ work n. n ≡ work_number work };
 
-pub const EXECUTE: u64 = 2;
-
-pub const OPEN: u64 = 3;
-
-pub const FETCH: u64 = 4;
+    fn from(work: Work) -> u64 {
+        match work {
+            Work::Nothing => 0,
+            Work::Prepare => 1,
+            Work::Execute => 2,
+            Work::Open => 3,
+            Work::Fetch => 4,
+        }
+    }
+}
 
 // The limits of what a report says.
 pub const MAX_PLACEHOLDERS: u64 = 65535;
@@ -34,7 +51,7 @@ pub const MAX_NUMBER: u64 = 0xffff_ffff;
 pub const MIN_BUFFER: usize = 128;
 
 // An engine report. `placeholders` counts where it is prepared, `columns` and `rows` where it is a result, `code` where
-// it failed.
+// it failed. The kind is a number, as hosts in C give it: one that is not listed is refused.
 #[repr(C)]
 #[derive(Clone, Copy)]
 pub struct Report {

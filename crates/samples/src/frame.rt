@@ -1,31 +1,22 @@
 // A frame as it is read: its request, the chosen body and each argument.
-use crate::given;
 use args::arguments::NextArgument;
-use message::request::{Frame, Optional, Request};
+use message::request::{Frame, Request};
 use protocol::{client, reason};
 use scalar::argument::Argument;
-use std::io;
 use std::io::Write;
+use std::{fmt, io};
 
-// A double that the samples use; of any other nothing is printed.
-fn double(output: &mut impl Write, d: f64) -> io::Result<()> {
-    if d == 0.0 {
-        return write!(output, "double 0.0");
+// A double or a float that the samples use, as it stands among these; of any other nothing is printed.
+fn real<T: Copy + PartialEq + fmt::Debug>(
+    output: &mut impl Write,
+    name: &str,
+    value: T,
+    used: &[T],
+) -> io::Result<()> {
+    match used.iter().find(|known| **known == value) {
+        Some(known) => write!(output, "{name} {known:?}"),
+        None => Ok(()),
     }
-    if d == 1.0 || d == -2.5 || d == 25.4 {
-        return write!(output, "double {d:?}");
-    }
-    Ok(())
-}
-
-fn float(output: &mut impl Write, d: f32) -> io::Result<()> {
-    if d == 0.0 {
-        return write!(output, "float 0.0");
-    }
-    if d == 1.0 || d == -2.5 {
-        return write!(output, "float {d:?}");
-    }
-    Ok(())
 }
 
 fn value(output: &mut impl Write, a: Argument) -> io::Result<()> {
@@ -34,9 +25,9 @@ fn value(output: &mut impl Write, a: Argument) -> io::Result<()> {
         Argument::Unsigned(n) => write!(output, "uint {n}"),
         Argument::Null => write!(output, "null"),
         Argument::Octets { start, len } => write!(output, "octets {start}+{len}"),
-        Argument::Double(d) => double(output, d),
+        Argument::Double(d) => real(output, "double", d, &[0.0, 1.0, -2.5, 25.4]),
         Argument::DoubleNan(n) => write!(output, "double nan {n}"),
-        Argument::Float(d) => float(output, d),
+        Argument::Float(d) => real(output, "float", d, &[0.0, 1.0, -2.5]),
         Argument::FloatNan(n) => write!(output, "float nan {n}"),
         Argument::Bool(b) => write!(output, "bool {b}"),
         Argument::String { start, len } => write!(output, "string {start}+{len}"),
@@ -59,13 +50,13 @@ fn values(output: &mut impl Write, s: &[u8], frame: &[u8], from: usize) -> io::R
     let mut p = from;
     for k in 0..frame.len() {
         match args::arguments::next_argument(s, p) {
-            NextArgument::Found { value: a, next } => {
+            Some(NextArgument { value: a, next }) => {
                 write!(output, "  ")?;
                 value(output, a)?;
                 beside(output, frame, k)?;
                 p = next;
             }
-            NextArgument::End => {
+            None => {
                 write!(output, "  end")?;
                 return beside(output, frame, k);
             }
@@ -79,9 +70,9 @@ fn ids(output: &mut impl Write, kind: u64, stmt: u32, cursor: u32) -> io::Result
     write!(output, " kind {kind} stmt {stmt} cursor {cursor}")
 }
 
-fn optional(output: &mut impl Write, name: &str, o: Optional) -> io::Result<()> {
-    if o.present {
-        write!(output, " {name} {}", o.value)?;
+fn optional(output: &mut impl Write, name: &str, field: Option<u64>) -> io::Result<()> {
+    if let Some(value) = field {
+        write!(output, " {name} {value}")?;
     }
     Ok(())
 }
@@ -125,7 +116,7 @@ fn accepted(output: &mut impl Write, s: &[u8], used: usize, q: Request) -> io::R
     write!(output, " body {}+{}", body.start, part.len())?;
     let a = message::request::args_of(q);
     writeln!(output, " args {} first {}@{}", a.count, a.kind, a.index)?;
-    values(output, given::part(s, 0, a.end), s, a.start)
+    values(output, s.get(..a.end).unwrap_or(b""), s, a.start)
 }
 
 fn refused(output: &mut impl Write, s: &[u8], reason: u64, used: usize) -> io::Result<()> {

@@ -1,116 +1,102 @@
-// What a record gives to write or to step on: a list of fields, by their numbers. A number that is not given is 0, and
+// What a record gives to write or to step on: a list of fields, by their keys. A number that is not given is 0, and
 // bytes that are not given are none.
 use protocol::uint32;
 use wire::field::Field;
 
-// The type of a message, a Scalar or a report, or the first message type of a reply.
-pub const CASE: u64 = 1;
+// What each field gives, by its number.
+#[derive(Clone, Copy)]
+pub enum Key {
+    // The type of a message, a Scalar or a report, or the first message type of a reply.
+    Case = 1,
+    Stmt = 2,
+    Cursor = 3,
+    HasRows = 4,
+    Rows = 5,
+    HasCompact = 6,
+    Compact = 7,
+    Operation = 8,
+    // The body up to its last byte that is not zero, and the length of all of it.
+    Body = 9,
+    Size = 10,
+    Args = 11,
+    // The length of the buffer, how many bytes of what was written are printed, and whether the whole buffer is, too.
+    Room = 12,
+    Shown = 13,
+    Whole = 14,
+    // An argument's number, or its place in the source bytes.
+    Value = 15,
+    Start = 16,
+    Len = 17,
+    Source = 18,
+    // Where an argument is appended.
+    At = 19,
+    // Two arguments, each a list of fields.
+    First = 20,
+    Second = 21,
+    Reason = 22,
+    Number = 23,
+    Kind = 24,
+    Placeholders = 25,
+    Columns = 26,
+    Code = 27,
+    Frame = 28,
+    Text = 29,
+}
 
-pub const STMT: u64 = 2;
+// The fields, read once for each key that is asked for.
+#[derive(Clone, Copy)]
+pub struct Given<'a> {
+    pub fields: &'a [u8],
+}
 
-pub const CURSOR: u64 = 3;
+impl<'a> Given<'a> {
+    fn find(self, key: Key) -> Option<Field> {
+        let mut unread = false;
+        let mut p = 0;
+        for _ in 0..self.fields.len() {
+            let field = wire::field::long_field(self.fields, p, &mut unread)?;
+            if field.number == key as u64 {
+                return Some(field);
+            }
+            p = field.next;
+        }
+        None
+    }
 
-pub const HASROWS: u64 = 4;
-
-pub const ROWS: u64 = 5;
-
-pub const HASCOMPACT: u64 = 6;
-
-pub const COMPACT: u64 = 7;
-
-pub const OPERATION: u64 = 8;
-
-// The body up to its last byte that is not zero, and the length of all of it.
-pub const BODY: u64 = 9;
-
-pub const SIZE: u64 = 10;
-
-pub const ARGS: u64 = 11;
-
-// The length of the buffer, how many bytes of what was written are printed, and whether the whole buffer is, too.
-pub const ROOM: u64 = 12;
-
-pub const SHOWN: u64 = 13;
-
-pub const WHOLE: u64 = 14;
-
-// An argument's number, or its place in the source bytes.
-pub const VALUE: u64 = 15;
-
-pub const START: u64 = 16;
-
-pub const LEN: u64 = 17;
-
-pub const SOURCE: u64 = 18;
-
-// Where an argument is appended.
-pub const AT: u64 = 19;
-
-// Two arguments, each a list of fields.
-pub const FIRST: u64 = 20;
-
-pub const SECOND: u64 = 21;
-
-pub const REASON: u64 = 22;
-
-pub const NUMBER: u64 = 23;
-
-pub const KIND: u64 = 24;
-
-pub const PLACEHOLDERS: u64 = 25;
-
-pub const COLUMNS: u64 = 26;
-
-pub const CODE: u64 = 27;
-
-pub const FRAME: u64 = 28;
-
-pub const TEXT: u64 = 29;
-
-// The field of this number.
-fn find(s: &[u8], number: u64) -> Field {
-    let mut unread = false;
-    let mut p = 0;
-    for _ in 0..s.len() {
-        let field = wire::field::long_field(s, p, &mut unread);
-        match field {
-            Field::Good {
-                number: n,
-                next,
-                ..
-            } if n != number => p = next,
-            _ => return field,
+    pub fn number(self, key: Key) -> u64 {
+        match self.find(key) {
+            Some(field) => field.value,
+            None => 0,
         }
     }
-    Field::Bad
-}
 
-pub(crate) fn number(s: &[u8], number: u64) -> u64 {
-    match find(s, number) {
-        Field::Good { value, .. } => value,
-        Field::Bad => 0,
+    pub fn small(self, key: Key) -> u32 {
+        (self.number(key) % uint32::COUNT) as u32
     }
-}
 
-pub(crate) fn small(s: &[u8], number: u64) -> u32 {
-    (crate::given::number(s, number) % uint32::COUNT) as u32
-}
+    pub fn size(self, key: Key) -> usize {
+        self.number(key) as usize
+    }
 
-pub(crate) fn bytes(s: &[u8], number: u64) -> &[u8] {
-    match find(s, number) {
-        Field::Good { start, len, .. } => part(s, start, len),
-        Field::Bad => &s[..0],
+    pub fn is_set(self, key: Key) -> bool {
+        self.number(key) == 1
     }
-}
 
-// The part of this length from `start` on, none where it is not all there.
-pub(crate) fn part(s: &[u8], start: usize, len: usize) -> &[u8] {
-    if s.len() < start {
-        return &s[..0];
+    // None where they are not all there.
+    pub fn bytes(self, key: Key) -> &'a [u8] {
+        let Some(field) = self.find(key) else {
+            return b"";
+        };
+        match self.fields.get(field.start..) {
+            Some(rest) => rest.get(..field.len).unwrap_or(b""),
+            None => b"",
+        }
     }
-    if s.len() - start < len {
-        return &s[..0];
+
+    // A list of fields within this one.
+    pub fn within(self, key: Key) -> Given<'a> {
+        Given {
+            fields: self.bytes(key),
+        }
     }
-    let end = start + len;
-    &s[start..end]
 }

@@ -2,24 +2,24 @@
 use crate::frame;
 use std::io;
 use std::io::Write;
-use varint::Varint;
+use varint::Number;
 use wire::field::Field;
 
 fn print_varint(output: &mut impl Write, s: &[u8]) -> io::Result<()> {
     let mut unread = false;
     match varint::read_varint(s, 0, &mut unread) {
-        Varint::Number { value, next } => writeln!(output, " {value} next {next}"),
-        Varint::Bad => writeln!(output, " bad"),
+        Some(Number { value, next }) => writeln!(output, " {value} next {next}"),
+        None => writeln!(output, " bad"),
     }
 }
 
 fn print_zigzag(output: &mut impl Write, s: &[u8]) -> io::Result<()> {
     let mut unread = false;
     match varint::read_varint(s, 0, &mut unread) {
-        Varint::Number { value, next: _ } => {
+        Some(Number { value, .. }) => {
             writeln!(output, " {}", scalar::zigzag::zigzag_decode(value))
         }
-        Varint::Bad => writeln!(output, " bad"),
+        None => writeln!(output, " bad"),
     }
 }
 
@@ -32,18 +32,20 @@ fn print_fields(output: &mut impl Write, s: &[u8]) -> io::Result<()> {
             break;
         }
         match wire::field::long_field(s, p, &mut unread) {
-            Field::Good {
-                number,
-                wire,
-                value,
-                start,
-                len,
-                next,
-            } => {
+            Some(
+                Field {
+                    number,
+                    wire,
+                    value,
+                    start,
+                    len,
+                    next,
+                },
+            ) => {
                 write!(output, " {number}:{wire}={value}@{start}+{len}")?;
                 p = next;
             }
-            Field::Bad => return writeln!(output, " bad"),
+            None => return writeln!(output, " bad"),
         }
     }
     writeln!(output)

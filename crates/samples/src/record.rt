@@ -1,8 +1,7 @@
 // The records of the input, one after the other. A record is a letter, two bytes of length, least first, and its
 // bytes.
-ghost use Rattle.std.specs.Prelude.{◌<◌};
-
-use crate::{given, reading, steps, writing};
+use crate::given::{Given, Key};
+use crate::{reading, steps, writing};
 use session::{Session, WORDS};
 use std::io;
 use std::io::Write;
@@ -16,34 +15,34 @@ const FILL: u8 = 7;
 fn print(
     output: &mut impl Write,
     letter: u8,
-    s: &[u8],
+    given: Given<'_>,
     words: &mut [u32; WORDS],
     buf: &mut [u8],
 ) -> io::Result<()> {
     match letter {
-        b'h' => output.write_all(given::bytes(s, given::TEXT)),
-        b's' => steps::print_step(output, s, words, buf),
-        b'l' => steps::print_look(output, s, words),
-        b'r' => writing::print_reply(output, s, buf),
-        b'm' => writing::print_message(output, s, buf),
-        b'a' => writing::print_argument(output, s, buf),
-        b'p' => writing::print_pair(output, s, buf),
+        b'h' => output.write_all(given.bytes(Key::Text)),
+        b's' => steps::print_step(output, given, words, buf),
+        b'l' => steps::print_look(output, given, words),
+        b'r' => writing::print_reply(output, given, buf),
+        b'm' => writing::print_message(output, given, buf),
+        b'a' => writing::print_argument(output, given, buf),
+        b'p' => writing::print_pair(output, given, buf),
         _ => Ok(()),
     }
 }
 
+// In as much room as is given, if there is so much.
 fn print_in(
     output: &mut impl Write,
     letter: u8,
-    s: &[u8],
+    given: Given<'_>,
     words: &mut [u32; WORDS],
     space: &mut [u8],
 ) -> io::Result<()> {
-    let n = given::number(s, given::ROOM) as usize;
-    if n <= space.len() {
-        print(output, letter, s, words, &mut space[0..n])?;
+    match space.get_mut(..given.size(Key::Room)) {
+        Some(buf) => print(output, letter, given, words, buf),
+        None => Ok(()),
     }
-    Ok(())
 }
 
 // Capital letters stand for what is read. The session goes on from one record to the next, until one that starts
@@ -62,20 +61,20 @@ fn print_record(
         return Ok(());
     }
     let mut space = [FILL; SPACE];
-    print_in(output, letter, s, &mut session.words, &mut space)
-}
-
-fn wide(b: u8) -> usize
-    ensures { result < 256 }
-{
-    b as usize
+    print_in(
+        output,
+        letter,
+        Given { fields: s },
+        &mut session.words,
+        &mut space,
+    )
 }
 
 pub fn print_records(output: &mut impl Write, s: &[u8]) -> io::Result<()> {
     let mut session = Session::fresh();
     let mut rest = s;
     while let [letter, low, high, behind @ ..] = rest {
-        let len = wide(*low) + 256 * wide(*high);
+        let len = usize::from(u16::from_le_bytes([*low, *high]));
         let Some((record, next)) = behind.split_at_checked(len) else {
             break;
         };

@@ -1,6 +1,7 @@
 // Steps as a host takes them. A line for each: reason, bytes used, reply length, columns, first row, row
 // count, and the reply in hex. A line of a look: reason, work, first row, row count.
-use crate::{given, out};
+use crate::given::{Given, Key};
+use crate::out;
 use rules::{Answer, Report};
 use session::WORDS;
 use std::io;
@@ -15,22 +16,26 @@ fn print_answer(output: &mut impl Write, a: Answer, buf: &[u8]) -> io::Result<()
 
 pub fn print_step(
     output: &mut impl Write,
-    s: &[u8],
+    given: Given<'_>,
     words: &mut [u32; WORDS],
     buf: &mut [u8],
 ) -> io::Result<()> {
     let report = Report {
-        kind: given::number(s, given::CASE),
-        placeholders: given::number(s, given::PLACEHOLDERS),
-        columns: given::number(s, given::COLUMNS),
-        rows: given::number(s, given::ROWS),
-        code: given::number(s, given::CODE),
+        kind: given.number(Key::Case),
+        placeholders: given.number(Key::Placeholders),
+        columns: given.number(Key::Columns),
+        rows: given.number(Key::Rows),
+        code: given.number(Key::Code),
     };
-    let a = keeper::step::step(words, given::bytes(s, given::FRAME), report, buf);
+    let a = keeper::step::step(words, given.bytes(Key::Frame), report, buf);
     print_answer(output, a, buf)
 }
 
-pub fn print_look(output: &mut impl Write, s: &[u8], words: &[u32; WORDS]) -> io::Result<()> {
-    let l = keeper::look::look(words, given::bytes(s, given::FRAME));
+pub fn print_look(
+    output: &mut impl Write,
+    given: Given<'_>,
+    words: &[u32; WORDS],
+) -> io::Result<()> {
+    let l = keeper::look::look(words, given.bytes(Key::Frame));
     writeln!(output, "{} {} {} {}", l.reason, l.work, l.first, l.count)
 }

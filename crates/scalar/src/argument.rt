@@ -2,8 +2,9 @@
 ghost use Rattle.std.specs.Prelude.{◌≡◌};
 ghost use Rattle.scalar.specs.Argument.{double_of, float_of, signed_of};
 
-// One argument of an Execute, an Open or a StmtExecute. Bytes are a place in the frame and a length.
-// The logic has one NaN, so that a NaN is kept as its bits, in a case of its own.
+// One argument of an Execute, an Open or a StmtExecute. Bytes are a place in the frame and a length. The logic has one
+// NaN, so that a NaN is kept as its bits, in a case of its own. A refusal has any number, and no Reason:
+// `append_argument` (args_writer) takes an argument refused by any, and a narrower type would ask more of its callers.
 #[derive(Clone, Copy)]
 pub enum Argument {
     Signed(i64),
@@ -33,7 +34,8 @@ pub fn double_argument(bits: u64) -> Argument
     }
 }
 
-// The float of these bits, as the double above.
+// The float of these bits, as the double above. One function for both would take the format's numbers and its two cases
+// of an argument, which is all that either says.
 pub fn float_argument(bits: u32) -> Argument
     ensures { result ≡ float_of bits }
 {

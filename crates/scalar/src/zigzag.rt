@@ -8,22 +8,14 @@ ghost use Rattle.scalar.specs.Zigzag.{zigzag, unzigzag};
 pub fn of_bits(x: u64) -> i64
     ensures { result ≡ to_z w64 x }
 {
-    if x < 0x8000_0000_0000_0000 {
-        x as i64
-    } else {
-        -1 - ((u64::MAX - x) as i64)
-    }
+    x.cast_signed()
 }
 
 // The bits in two's complement of v.
 pub fn to_bits(v: i64) -> u64
     ensures { result ≡ of_z w64 v }
 {
-    if 0 <= v {
-        v as u64
-    } else {
-        u64::MAX - ((-1 - v) as u64)
-    }
+    v.cast_unsigned()
 }
 
 // n / 2, minus n where n is odd, which is -(n / 2) - 1.
@@ -31,7 +23,7 @@ pub fn zigzag_decode(n: u64) -> i64
     ensures { result ≡ unzigzag n }
 {
     let odd = if n % 2 == 1 { n } else { 0 };
-    of_bits(std::num::wrapping_sub_u64(n / 2, odd))
+    of_bits((n / 2).wrapping_sub(odd))
 }
 
 // 2 v, and -1 minus that where v is negative.
@@ -39,10 +31,10 @@ pub fn zigzag_encode(v: i64) -> u64
     ensures { result ≡ zigzag v }
 {
     let bits = to_bits(v);
-    let twice = std::num::wrapping_add_u64(bits, bits);
+    let twice = bits.wrapping_add(bits);
     if bits < 0x8000_0000_0000_0000 {
         twice
     } else {
-        std::num::wrapping_sub_u64(u64::MAX, twice)
+        u64::MAX - twice
     }
 }

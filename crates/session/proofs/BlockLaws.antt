@@ -1,17 +1,11 @@
 -- A search of the ids by blocks. Assumes nothing.
 use Rattle.prelude.proofs.Basics.{ℕ, zero, suc, ◌+◌, ◌-◌, ◌*◌, ◌≤◌, ◌<◌, arith, Bool, true, false, ◌&&◌, ◌||◌, ◌≡◌}
-use Rattle.prelude.proofs.Basics.{refl, sym, ap, subst, ◌∙◌, List, eqb, eq-eqb, ne_eqb}
-use Rattle.session.proofs.Names.{is_live_stmt, is_stmt, max_stmts, stmt_in}
-use Rattle.session.specs.private.Search.{block_ids, any_in}
-use Rattle.session.proofs.LoopLaws.{Looking, looks, looks_on}
-
-or_false : (b : Bool) → b || false ≡ b
-or_false true = refl
-or_false false = refl
-
-or_true : (b : Bool) → b || true ≡ true
-or_true true = refl
-or_true false = refl
+use Rattle.prelude.proofs.Basics.{refl, sym, ap, subst, ◌∙◌, List, eqb}
+use Rattle.prelude.proofs.Basics.{less_or_not, or_assoc, or_false, drop, Option, Some, None}
+use Rattle.session.specs.Words.{stmts_in}
+use Rattle.session.proofs.Names.{first, is_live_stmt, is_stmt, max_stmts, stmt_in}
+use Rattle.session.specs.private.Search.{block_ids, blocks, any_in, FirstBlock}
+use Rattle.session.proofs.LoopLaws.{passed, first_is}
 
 -- a test of the n ids from a place on stands at k
 pub record Testing (id : ℕ) (w : List ℕ) (at n k : ℕ) (hit : Bool) : Type 0 where
@@ -29,7 +23,7 @@ module _ {id at n k : ℕ} {w : List ℕ} {hit : Bool} (t : Testing id w at n k 
   unfolding any_in
   tested h =
       let e : n - k ≡ 0 = omega arith in
-      sym (or_false hit) ∙ sym (ap (λ (m : ℕ). hit || any_in id w (at + k) m) e) ∙ t.whole
+      or_false hit ∙ sym (ap (λ (m : ℕ). hit || any_in id w (at + k) m) e) ∙ t.whole
 
   abbrev others : Bool
   others = any_in id w (at + (k + 1)) (n - (k + 1))
@@ -43,14 +37,8 @@ module _ {id at n k : ℕ} {w : List ℕ} {hit : Bool} (t : Testing id w at n k 
       ∙ ap (λ (m : ℕ). hit || any_in id w (at + k) m) e
       ∙ t.whole
 
-  turn : k < n → (b : Bool) → eqb (stmt_in w (at + k)).id id ≡ b → hit || (b || others) ≡ any_in id w at n
-  turn h b e = sym (ap (λ (x : Bool). hit || (x || others)) e) ∙ opened h
-
-  pub hits : k < n → (stmt_in w (at + k)).id ≡ id → Testing id w at n (k + 1) true
-  hits h e = record { small = omega arith; whole = sym (or_true hit) ∙ turn h true (eq-eqb _ id e) }
-
-  pub misses : k < n → ((stmt_in w (at + k)).id ≡ id → ⊥) → Testing id w at n (k + 1) hit
-  misses h e = record { small = omega arith; whole = turn h false (ne_eqb _ id e) }
+  pub tests_on : k < n → Testing id w at n (k + 1) (hit || eqb (stmt_in w (at + k)).id id)
+  tests_on h = record { small = omega arith; whole = or_assoc hit _ others ∙ opened h }
 
 and_last : (a b : Bool) → b ≡ false → a && b ≡ false
 and_last true b e = e
@@ -64,33 +52,39 @@ or_right : (a b : Bool) → a || b ≡ false → b ≡ false
 or_right false b e = e
 or_right true b e = absurd (let z : ◌≡◌ {A = ℕ} 0 1 = cc in omega arith)
 
--- ids without the one asked for are passed
+-- a search by blocks
 module _ (id : ℕ) (w : List ℕ) where
-  abbrev Seeking : ℕ → Type 0
-  Seeking b = Looking (is_stmt id) (stmt_in w) max_stmts 0 b
-
-  passed : (n b : ℕ) → b + n ≤ max_stmts → any_in id w b n ≡ false → Seeking b → Seeking (b + n)
+  -- a statement among n places without the id does not pass
+  lacks : (n at : ℕ) → any_in id w at n ≡ false → (i : ℕ) → at ≤ i → i < at + n → is_stmt id (stmt_in w i) ≡ false
   unfolding any_in
-  passed zero b h e l = let q : b ≡ b + 0 = omega arith in subst Seeking q l
-  passed (suc n) b h e l =
-      let q : suc b + n ≡ b + suc n = omega arith in
-      let p : b + 1 ≡ suc b = omega arith in
-      let same = eqb (stmt_in w b).id id in
-      let rest = any_in id w (suc b) n in
-      let here = and_last (is_live_stmt (stmt_in w b)) same (or_left same rest e) in
-      subst Seeking q
-      (passed n (suc b) (omega arith) (or_right same rest e) (subst Seeking p (looks_on l (omega arith) here)))
+  lacks zero at e i l h = absurd (omega arith)
+  lacks (suc n) at e i l h =
+      let same = eqb (stmt_in w at).id id in
+      let rest = any_in id w (suc at) n in
+      less_or_not at i
+      (λ b. lacks n (suc at) (or_right same rest e) i (omega arith) (omega arith))
+      (λ b. let q : at ≡ i = omega arith in
+      subst (λ (j : ℕ). is_stmt id (stmt_in w j) ≡ false) q
+      (and_last (is_live_stmt (stmt_in w at)) same (or_left same rest e)))
 
--- a search by blocks stands at b
-pub record Skipping (id : ℕ) (w : List ℕ) (b : ℕ) : Type 0 where
-  pub block : ℕ
-  pub here : b ≡ block_ids * block
-  pub look : Looking (is_stmt id) (stmt_in w) max_stmts 0 b
+  -- nor one of the first b blocks, where none of them has it
+  blocks_lack : (b : ℕ) → ((j : ℕ) → 0 ≤ j → j < b → any_in id w (block_ids * j) block_ids ≡ false) →
+      (i : ℕ) → 0 ≤ i → i < block_ids * b → is_stmt id (stmt_in w i) ≡ false
+  blocks_lack zero none i l h = absurd (omega arith)
+  blocks_lack (suc b) none i l h =
+      less_or_not i (block_ids * b)
+      (λ m. blocks_lack b (λ j k n. none j k (omega arith)) i l m)
+      (λ m. lacks block_ids (block_ids * b) (none b (omega arith) (omega arith)) i m (omega arith))
 
-pub skips : (id : ℕ) (w : List ℕ) → Skipping id w 0
-skips id w = record { block = 0; here = omega arith; look = looks }
+  pub no_block : FirstBlock id w None → None ≡ first (is_stmt id) (stmts_in w) 0
+  no_block none = first_is (is_stmt id) (stmt_in w) max_stmts 0 None (λ i l h. blocks_lack blocks none i l h)
 
-pub skips_on : {id b : ℕ} {w : List ℕ} → Skipping id w b → b < max_stmts → any_in id w b block_ids ≡ false →
-    Skipping id w (b + block_ids)
-skips_on {id} {b} {w} s h e =
-    record { block = s.block + 1; here = omega arith; look = passed id w block_ids b (omega arith) e s.look }
+  -- blocks without the id are passed
+  pub from_block : (b : ℕ) → FirstBlock id w (Some b) → (r : Option ℕ) →
+      r ≡ first (is_stmt id) (drop (block_ids * b) (stmts_in w)) (block_ids * b) → r ≡ first (is_stmt id) (stmts_in w) 0
+  from_block b found r e =
+      let q : 0 + block_ids * b ≡ block_ids * b = omega arith in
+      e
+      ∙ subst (λ (j : ℕ). first (is_stmt id) (drop j (stmts_in w)) j ≡ first (is_stmt id) (stmts_in w) 0) q
+      (passed (is_stmt id) (stmt_in w) max_stmts (block_ids * b) 0 (omega (arith, found.1))
+      (λ i l h. blocks_lack b (λ j k m. found.3 j k m) i l (omega arith)))

@@ -1,8 +1,8 @@
 -- Cursors that end, one turn at a time. Assumes nothing.
 use Rattle.prelude.proofs.Basics.{ℕ, ◌+◌, ◌-◌, ◌≤◌, ◌<◌, min, arith, add-one, Bool, true, false, cond, ◌≡◌, sym, ap}
-use Rattle.prelude.proofs.Basics.{◌∙◌, List, get_or, set}
+use Rattle.prelude.proofs.Basics.{◌∙◌, List, get_or, set, Option}
 use Rattle.session.proofs.Names.{entry_at, change, Session, with_cursors, no_cursor, with_sent, max_cursors, ended_by}
-use Rattle.session.proofs.Names.{fetched_at, cursor_in, cursors_in, session_of, Cursor, Place}
+use Rattle.session.proofs.Names.{fetched_at, cursor_in, cursors_in, session_of, Cursor}
 use Rattle.session.specs.Tables.{stored_cursor}
 use Rattle.session.proofs.BuildLaws.{length_build, get_d_build}
 use Rattle.session.proofs.LoopLaws.{up_to, up_to_none, up_to_at, up_to_set, up_to_left, up_to_all}
@@ -54,7 +54,7 @@ module _ {p : Cursor → Bool} {w₀ w : List ℕ} {i : ℕ} (l : Ending p w₀ 
         record { state = l.state ∙ ap (with_cursors (session_of w₀)) (rw add-one left) }
 
 -- the number of rows sent is the one that `raise` says
-pub raises : (s : Session) (place : Place) (count n : ℕ) (c : Cursor) → c ≡ entry_at s.cursors place no_cursor →
+pub raises : (s : Session) (place : Option ℕ) (count n : ℕ) (c : Cursor) → c ≡ entry_at s.cursors place no_cursor →
     n ≡ c.sent + min count (c.rows - c.sent) →
     stored_cursor s place (with_sent (entry_at s.cursors place no_cursor) n) ≡ fetched_at s place count
 raises s place count n c e f =

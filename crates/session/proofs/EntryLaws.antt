@@ -1,5 +1,6 @@
 -- Laws on one entry. Assumes nothing.
-use Rattle.prelude.proofs.Basics.{ℕ, ◌-◌, Bool, true, false, not, ◌&&◌, cond, ◌≡◌, refl, sym, ap, ◌∙◌, ne_eqb}
+use Rattle.prelude.proofs.Basics.{ℕ, ◌≤◌, arith, ◌-◌, Bool, true, false, not, ◌&&◌, cond, ◌≡◌, refl, sym, ap, ◌∙◌, ne_eqb}
+use mir.Val.{bool_byte}
 use Rattle.session.proofs.Names.{flag, owes, Cursor}
 
 -- a flag that is 0, and one that is not
@@ -33,3 +34,12 @@ module _ (c : Cursor) where
 
   pub owes_live : (n : ℕ) → (c.live ≡ 0 → ⊥) → n ≡ c.rows - c.sent → n ≡ owes c
   owes_live n h e = e ∙ sym (ap (λ x. cond x (c.rows - c.sent) 0) (flag_on c.live h))
+
+-- a test as a number
+pub bit_of : (b : Bool) → bool_byte b ≡ cond b 1 0
+bit_of true = refl
+bit_of false = refl
+
+pub bit_small : (b : Bool) → bool_byte b ≤ 1
+bit_small true = omega arith
+bit_small false = omega arith

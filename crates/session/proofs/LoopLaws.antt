@@ -1,9 +1,18 @@
 -- The loops over a table, one turn at a time: a search, a sum, the bits of places, a change in place. Assumes nothing.
 use Rattle.prelude.proofs.Basics.{ℕ, zero, suc, ◌+◌, ◌-◌, ◌*◌, ◌^◌, ◌≤◌, ◌<◌, arith, add-one, Bool, true, false, cond}
 use Rattle.prelude.proofs.Basics.{◌≡◌, refl, sym, ap, ◌∙◌, List, [], ◌∷◌, map, length, get_or, set, drop}
-use Rattle.prelude.proofs.Basics.{drop_of_length-le, length-drop, drop-cons}
-use Rattle.session.proofs.Names.{or_place, first, sum_by, build, Place}
+use denote.Param.Members.{Mut}
+use denote.Ref.{Bor}
+use Rattle.std.specs.Prelude.{MatchOption}
+use Rattle.std.specs.Fn.{CalledAt}
+use Rattle.std.specs.Iterator.{FindsItem}
+use Rattle.std.specs.declared.ops.Range.{Range}
+use Rattle.std.proofs.iter.Yields.{nat_range_steps}
+use Rattle.std.proofs.lemmas.Iterator.{first_from_Range}
+use Rattle.prelude.proofs.Basics.{less_or_not, subst, add-zero, drop_of_length-le, length-drop, drop-cons, Option, Some, None, option_or}
+use Rattle.session.proofs.Names.{first, sum_by, build}
 use Rattle.session.specs.Lists.{mask_of}
+use Rattle.session.specs.private.Search.{FirstPassing}
 use Rattle.session.proofs.BuildLaws.{length_build, get_d_build}
 
 -- what is left of a table past its end, and before it
@@ -16,38 +25,51 @@ module _ {A : Type 0} (f : ℕ → A) (n i : ℕ) where
       drop-cons (build f 0 n) i (f i) (omega (arith, length_build f 0 n))
       ∙ ap (λ x. x ∷ drop (suc i) (build f 0 n)) (get_d_build f n i (f i) h)
 
--- a search that began at `from` stands at i: the first place from i on is the first from there on
-pub record Looking {A : Type 0} (p : A → Bool) (f : ℕ → A) (n from i : ℕ) : Type 0 where
-  pub rest : first p (drop i (build f 0 n)) i ≡ first p (drop from (build f 0 n)) from
+-- a search from a place on
+module _ {A : Type 0} (p : A → Bool) (f : ℕ → A) (n : ℕ) where
+  -- places that do not pass are left out
+  pub passed : (k from : ℕ) → from + k ≤ n → ((i : ℕ) → from ≤ i → i < from + k → p (f i) ≡ false) →
+      first p (drop (from + k) (build f 0 n)) (from + k) ≡ first p (drop from (build f 0 n)) from
+  unfolding first
+  passed zero from h none = rw add-zero refl
+  passed (suc k) from h none =
+      let back : suc from + k ≡ from + suc k = omega arith in
+      subst (λ (j : ℕ). first p (drop j (build f 0 n)) j ≡ first p (drop from (build f 0 n)) from) back
+      (passed k (suc from) (omega arith) (λ i l m. none i (omega arith) (omega arith))
+      ∙ sym (rw (one_left f n from (omega arith), none from (omega arith) (omega arith))))
 
-module _ {A : Type 0} {p : A → Bool} {f : ℕ → A} {n from : ℕ} where
-  pub looks : Looking p f n from from
-  looks = record { rest = refl }
+  pub first_is : (from : ℕ) (r : Option ℕ) → FirstPassing p f from n r → r ≡ first p (drop from (build f 0 n)) from
+  unfolding first
+  first_is from None none =
+      less_or_not n from
+      (λ h. sym (ap (λ ys. first p ys from) (none_left f n from (omega arith))))
+      (λ h. let e : from + (n - from) ≡ n = omega arith in
+      sym (ap (λ ys. first p ys n) (none_left f n n (omega arith)))
+      ∙ subst (λ (j : ℕ). first p (drop j (build f 0 n)) j ≡ first p (drop from (build f 0 n)) from) e
+      (passed (n - from) from (omega arith) (λ i l m. none i l (omega arith))))
+  first_is from (Some i) found =
+      let e : from + (i - from) ≡ i = omega (arith, found.0) in
+      sym (rw (one_left f n i found.1, found.2))
+      ∙ subst (λ (j : ℕ). first p (drop j (build f 0 n)) j ≡ first p (drop from (build f 0 n)) from) e
+      (passed (i - from) from (omega (arith, found.0, found.1)) (λ k l m. found.3 k l (omega arith)))
 
-  module _ {i : ℕ} (l : Looking p f n from i) where
-    pub no_place_lem : n ≤ i → Place.Nothing ≡ first p (drop from (build f 0 n)) from
-    unfolding first
-    no_place_lem h = sym (ap (λ ys. first p ys i) (none_left f n i h)) ∙ l.rest
+-- what `find` over a range gives is the first place that passes
+module _ {A F : Type 0} {g : Mut F (Bor ℕ × Unit {0}) Bool} (p : A → Bool) (f : ℕ → A) (from n : ℕ) (u : Range ℕ)
+    (test : F) (r : Option ℕ) (ran : FindsItem nat_range_steps g (record { start = from; end = n }) test r u)
+    (told : (x : ℕ) (b : Bool) (q : F) → CalledAt g test x b q → (q ≡ test) × (b ≡ p (f x))) where
+  pub passes_first : FirstPassing p f from n r
+  passes_first =
+      first_from_Range _ u test r (λ x. p (f x) ≡ true) (λ x. p (f x) ≡ false) ran
+      (λ x q h. sym (told x true q h).1)
+      (λ x q h. let t = told x false q h in (t.0, sym t.1))
 
-    module _ (inside : i < n) where
-      turn : (b : Bool) → p (f i) ≡ b →
-          cond b (Place.At i) (first p (drop (suc i) (build f 0 n)) (suc i)) ≡ first p (drop from (build f 0 n)) from
-      unfolding first
-      turn b e = sym (rw (one_left f n i inside, e)) ∙ l.rest
-
-      pub placed : p (f i) ≡ true → Place.At i ≡ first p (drop from (build f 0 n)) from
-      placed e = turn true e
-
-      pub looks_on : p (f i) ≡ false → Looking p f n from (i + 1)
-      looks_on e = record { rest = rw add-one (turn false e) }
+  pub finds : r ≡ first p (drop from (build f 0 n)) from
+  finds = first_is p f n from r passes_first
 
 -- what a search finds comes before another place
-module _ {r p : Place} (found : r ≡ p) (q : Place) where
-  pub own_place : {i : ℕ} → r ≡ Place.At i → Place.At i ≡ or_place p q
-  own_place e = ap (λ x. or_place x q) (sym e ∙ found)
-
-  pub other_place : r ≡ Place.Nothing → q ≡ or_place p q
-  other_place e = ap (λ x. or_place x q) (sym e ∙ found)
+pub or_other : (r p q s : Option ℕ) → r ≡ p → MatchOption r (s ≡ q) (λ x. s ≡ Some x) → s ≡ option_or p q
+or_other None p q s e h = h ∙ ap (λ x. option_or x q) e
+or_other (Some x) p q s e h = h ∙ ap (λ x. option_or x q) e
 
 -- a sum over a table of n entries, each at most `most`, stands at i
 pub record Summing {A : Type 0} (v : A → ℕ) (most : ℕ) (f : ℕ → A) (n i sum : ℕ) : Type 0 where

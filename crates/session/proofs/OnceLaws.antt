@@ -1,8 +1,8 @@
 -- Where at most one entry passes a test, a change of the first that passes is a change of all that pass. Assumes
 -- nothing.
 use Rattle.prelude.proofs.Basics.{ℕ, zero, suc, ◌≤◌, arith, Bool, true, false, cond, ◌≡◌, refl, sym, ap, List, [], ◌∷◌}
-use Rattle.prelude.proofs.Basics.{get_or, set}
-use Rattle.session.proofs.Names.{first, put, entry_at, changed, sum_by, how_many, Place}
+use Rattle.prelude.proofs.Basics.{get_or, set, Option, Some, None}
+use Rattle.session.proofs.Names.{first, put, entry_at, changed, sum_by, how_many}
 use Rattle.session.proofs.PlaceLaws.{Passes, found, none_from}
 use Rattle.session.proofs.SumLaws.{one, counted}
 
@@ -57,6 +57,6 @@ module _ {A : Type 0} (p : A → Bool) (f : A → A) where
         put xs (first p xs 0) (f (entry_at xs (first p xs 0) d)) ≡ changed p f xs
     first_changed xs once = go (first p xs 0) refl
       where
-        go : (at : Place) → first p xs 0 ≡ at → put xs at (f (entry_at xs at d)) ≡ changed p f xs
-        go (Place.At i) e = at-changed xs i once (found p d xs i e)
-        go Place.Nothing e = sym (none_changed xs (none_from p xs 0 e))
+        go : (at : Option ℕ) → first p xs 0 ≡ at → put xs at (f (entry_at xs at d)) ≡ changed p f xs
+        go (Some i) e = at-changed xs i once (found p d xs i e)
+        go None e = sym (none_changed xs (none_from p xs 0 e))

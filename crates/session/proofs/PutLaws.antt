@@ -1,8 +1,8 @@
 -- An entry read and put at a place, inside the table and past it. Assumes nothing.
+use Rattle.prelude.proofs.Basics.{Option, Some, None, unwrap_or}
 use Rattle.prelude.proofs.Basics.{ℕ, ◌≤◌, ◌<◌, arith, ◌≡◌, refl, sym, ap, ◌∙◌, List, get_or, set}
 use native.Mathlib.Nat.{le_refl}
-use Rattle.session.proofs.Names.{put, entry_at, no_cursor, with_sent, max_cursors, build, cursor_in, cursors_in, Place}
-use Rattle.session.specs.Lists.{index_of}
+use Rattle.session.proofs.Names.{put, entry_at, no_cursor, with_sent, max_cursors, build, cursor_in, cursors_in}
 use Rattle.session.proofs.BuildLaws.{length_build, get_d_build, get_d_past, set_past}
 
 module _ {A : Type 0} (f : ℕ → A) (n : ℕ) where
@@ -10,15 +10,15 @@ module _ {A : Type 0} (f : ℕ → A) (n : ℕ) where
   past_end : (i : ℕ) (x : A) → n ≤ i → set (build f 0 n) i x ≡ build f 0 n
   past_end i x h = set_past (build f 0 n) i x (omega (arith, length_build f 0 n))
 
-  put-index : (x : A) (place : Place) → set (build f 0 n) (index_of n place) x ≡ put (build f 0 n) place x
-  put-index x (Place.At i) = refl
-  put-index x Place.Nothing = past_end n x (le_refl n)
+  put-index : (x : A) (place : Option ℕ) → set (build f 0 n) (unwrap_or place n) x ≡ put (build f 0 n) place x
+  put-index x (Some i) = refl
+  put-index x None = past_end n x (le_refl n)
 
-  read-index : (d : A) (place : Place) → get_or (build f 0 n) (index_of n place) d ≡ entry_at (build f 0 n) place d
-  read-index d (Place.At i) = refl
-  read-index d Place.Nothing = get_d_past f n n d (le_refl n)
+  read-index : (d : A) (place : Option ℕ) → get_or (build f 0 n) (unwrap_or place n) d ≡ entry_at (build f 0 n) place d
+  read-index d (Some i) = refl
+  read-index d None = get_d_past f n n d (le_refl n)
 
-  module _ (place : Place) (i : ℕ) (e : i ≡ index_of n place) where
+  module _ (place : Option ℕ) (i : ℕ) (e : i ≡ unwrap_or place n) where
     pub put_there : (x : A) → set (build f 0 n) i x ≡ put (build f 0 n) place x
     put_there x = ap (λ (k : ℕ). set (build f 0 n) k x) e ∙ put-index x place
 
@@ -32,7 +32,7 @@ module _ {A : Type 0} (f : ℕ → A) (n : ℕ) where
     read_past d h = sym (get_d_past f n i d h) ∙ ap (λ (k : ℕ). get_or (build f 0 n) k d) e ∙ read-index d place
 
 -- the rows sent of a cursor
-pub sent_there : (w : List ℕ) (place : Place) (i sent : ℕ) → i ≡ index_of max_cursors place → i < max_cursors →
+pub sent_there : (w : List ℕ) (place : Option ℕ) (i sent : ℕ) → i ≡ unwrap_or place max_cursors → i < max_cursors →
     set (cursors_in w) i (with_sent (cursor_in w i) sent)
     ≡ put (cursors_in w) place (with_sent (entry_at (cursors_in w) place no_cursor) sent)
 sent_there w place i sent e h =

@@ -2,11 +2,12 @@
 -- Assumes nothing.
 use Rattle.prelude.proofs.Basics.{ℕ, zero, suc, ◌+◌, ◌≤◌, ◌<◌, arith, Bool, true, false, not, ◌&&◌, cond, false≢true}
 use Rattle.prelude.proofs.Basics.{◌≡◌, refl, sym, ap, subst, ◌∙◌, List, [], ◌∷◌, ◌++◌, map, length, get_or, set, replicate}
-use Rattle.prelude.proofs.Basics.{length-set, eqb, eqb-true, not-true, both}
+use Rattle.prelude.proofs.Basics.{length-set, eqb, eqb-true, not-true, both, Option, Some, None, option_or}
 use native.Mathlib.Nat.{le_refl, le_of_eq}
-use Rattle.session.proofs.Names.{or_place, first, put, change, changed, sum_by, how_many, Place}
+use Rattle.session.proofs.Names.{first, put, change, changed, sum_by, how_many}
 use Rattle.session.specs.Lists.{All}
-use Rattle.session.proofs.PlaceLaws.{Passes, Taken, taken, At-nothing, none_from, none_back}
+use Rattle.session.proofs.PlaceLaws.{Passes, Taken, taken, none_from, none_back}
+use Rattle.std.proofs.lemmas.Option.{none-some}
 use Rattle.session.proofs.PlaceLaws.Taken.{own, new}
 
 -- 1 where a test passes
@@ -76,13 +77,13 @@ module _ {A : Type 0} where
   sum-set-le w x (y ∷ xs) zero = omega arith
   sum-set-le w x (y ∷ xs) (suc i) = omega (arith, sum-set-le w x xs i)
 
-  pub sum_put_le : (w : A → ℕ) (x : A) (xs : List A) (at : Place) → sum_by w (put xs at x) ≤ sum_by w xs + w x
-  sum_put_le w x xs (Place.At i) = sum-set-le w x xs i
-  sum_put_le w x xs Place.Nothing = omega arith
+  pub sum_put_le : (w : A → ℕ) (x : A) (xs : List A) (at : Option ℕ) → sum_by w (put xs at x) ≤ sum_by w xs + w x
+  sum_put_le w x xs (Some i) = sum-set-le w x xs i
+  sum_put_le w x xs None = omega arith
 
-  pub length_put : (xs : List A) (at : Place) (x : A) → length (put xs at x) ≡ length xs
-  length_put xs (Place.At i) x = length-set xs i x
-  length_put xs Place.Nothing x = refl
+  pub length_put : (xs : List A) (at : Option ℕ) (x : A) → length (put xs at x) ≡ length xs
+  length_put xs (Some i) x = length-set xs i x
+  length_put xs None x = refl
 
   pub sum_replicate : (w : A → ℕ) (n : ℕ) (x : A) → w x ≡ 0 → sum_by w (replicate n x) ≡ 0
   unfolding sum_by
@@ -134,9 +135,9 @@ module _ {A : Type 0} where
     all_set x (y ∷ xs) zero h l = (h, l.1)
     all_set x (y ∷ xs) (suc i) h l = (l.0, all_set x xs i h l.1)
 
-    pub all_put : (x : A) (xs : List A) (at : Place) → P x → All P xs → All P (put xs at x)
-    all_put x xs (Place.At i) h l = all_set x xs i h l
-    all_put x xs Place.Nothing h l = l
+    pub all_put : (x : A) (xs : List A) (at : Option ℕ) → P x → All P xs → All P (put xs at x)
+    all_put x xs (Some i) h l = all_set x xs i h l
+    all_put x xs None h l = l
 
     pub all_replicate : (n : ℕ) (x : A) → P x → All P (replicate n x)
     unfolding All
@@ -170,21 +171,21 @@ module _ {A : Type 0} (live : A → Bool) (num : A → ℕ) where
       ap (λ b. b && eqb (num x) k) l.0 ∙ ap (λ (n : ℕ). eqb n k) (eqb-true (num x) i l.1) ∙ e
 
   module _ (d x : A) (lives : live x ≡ true) (xs : List A) where
-    abbrev there : Place
-    there = or_place (first (has (num x)) xs 0) (first (λ y. not (live y)) xs 0)
+    abbrev there : Option ℕ
+    there = option_or (first (has (num x)) xs 0) (first (λ y. not (live y)) xs 0)
 
     abbrev before : ℕ → ℕ
     before k = how_many (has k) xs
 
-    abbrev after : ℕ → Place → ℕ
+    abbrev after : ℕ → Option ℕ → ℕ
     after k at = how_many (has k) (put xs at x)
 
     -- an entry of the number was replaced, or there was none
-    data Counts (k : ℕ) (at : Place) : Type 0 where
+    data Counts (k : ℕ) (at : Option ℕ) : Type 0 where
       same : after k at ≡ before k → Counts k at
       more : after k at ≡ before k + one (has k x) → before (num x) ≡ 0 → Counts k at
 
-    counts-at : (k i : ℕ) → Taken (has (num x)) (λ y. not (live y)) d xs i → Counts k (Place.At i)
+    counts-at : (k i : ℕ) → Taken (has (num x)) (λ y. not (live y)) d xs i → Counts k (Some i)
     counts-at k i (own l) =
         same (omega (arith, sum_set (λ y. one (has k y)) x d xs i l.inside, ap one old))
       where
@@ -203,9 +204,9 @@ module _ {A : Type 0} (live : A → Bool) (num : A → ℕ) where
     counts : (k : ℕ) → Counts k there
     counts k = go there refl
       where
-        go : (at : Place) → there ≡ at → Counts k at
-        go (Place.At i) e = counts-at k i (taken (has (num x)) (λ y. not (live y)) d xs i e)
-        go Place.Nothing e = same refl
+        go : (at : Option ℕ) → there ≡ at → Counts k at
+        go (Some i) e = counts-at k i (taken (has (num x)) (λ y. not (live y)) d xs i e)
+        go None e = same refl
 
     pub put_more : (k : ℕ) → before k ≤ after k there
     put_more k = go (counts k)
@@ -236,18 +237,18 @@ module _ {A : Type 0} (live : A → Bool) (num : A → ℕ) (xs : List A) where
       each : (y : A) → one (live y) + one (not (live y)) ≡ 1
       each y = one_of (live y)
 
-  pub no_place_full : (k : ℕ) → or_place (first (has live num k) xs 0) (first (λ y. not (live y)) xs 0) ≡ Place.Nothing →
+  pub no_place_full : (k : ℕ) → option_or (first (has live num k) xs 0) (first (λ y. not (live y)) xs 0) ≡ None →
       (how_many (has live num k) xs ≡ 0) × (how_many live xs ≡ length xs)
   no_place_full k e = go (first (has live num k) xs 0) refl e
     where
-      go : (x : Place) → first (has live num k) xs 0 ≡ x → or_place x (first (λ y. not (live y)) xs 0) ≡ Place.Nothing →
+      go : (x : Option ℕ) → first (has live num k) xs 0 ≡ x → option_or x (first (λ y. not (live y)) xs 0) ≡ None →
           (how_many (has live num k) xs ≡ 0) × (how_many live xs ≡ length xs)
-      go (Place.At i) h g = absurd (At-nothing g)
-      go Place.Nothing h g =
+      go (Some i) h g = absurd (none-some _ (sym g))
+      go None h g =
           (none_from (has live num k) xs 0 h, omega (arith, none_from (λ y. not (live y)) xs 0 g, live-or-free))
 
   pub full_no_place : (k : ℕ) → how_many (has live num k) xs ≡ 0 → how_many live xs ≡ length xs →
-      or_place (first (has live num k) xs 0) (first (λ y. not (live y)) xs 0) ≡ Place.Nothing
+      option_or (first (has live num k) xs 0) (first (λ y. not (live y)) xs 0) ≡ None
   full_no_place k none full =
-      ap (λ x. or_place x (first (λ y. not (live y)) xs 0)) (none_back (has live num k) xs 0 none)
+      ap (λ x. option_or x (first (λ y. not (live y)) xs 0)) (none_back (has live num k) xs 0 none)
       ∙ none_back (λ y. not (live y)) xs 0 (omega (arith, live-or-free))

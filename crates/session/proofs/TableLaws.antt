@@ -1,10 +1,11 @@
 -- Every operation keeps a session sound. Assumes nothing.
 use Rattle.prelude.proofs.Basics.{ℕ, ◌+◌, ◌≤◌, arith, le_trans, Bool, true, false, not, ◌&&◌, true≢false, false≢true}
 use Rattle.prelude.proofs.Basics.{◌≡◌, refl, sym, ap, subst, ◌∙◌, List, length, get_or, set, eqb, eq-eqb, eqb-true}
+use Rattle.prelude.proofs.Basics.{Option, Some, None}
 use lib.ListN.{length-map, length-replicate}
 use Rattle.session.proofs.Names.{put, entry_at, changed, how_many, Session, with_stmts, with_cursors, with_closed}
 use Rattle.session.proofs.Names.{no_stmt, no_cursor, new_stmt, is_live_stmt, is_live_cursor, is_stmt, max_stmts}
-use Rattle.session.proofs.Names.{max_cursors, fresh, ended_by, reset, max_number, Cursor, Place, Stmt}
+use Rattle.session.proofs.Names.{max_cursors, fresh, ended_by, reset, max_number, Cursor, Stmt}
 use Rattle.session.specs.Session.{is_closed}
 use Rattle.session.specs.Lists.{always}
 use Rattle.session.specs.Entry.{new_cursor, is_cursor, on_stmt, raise}
@@ -67,25 +68,25 @@ new_own false e h = refl
 pub stmt_live : (s : Session) (id : ℕ) → is_live_stmt (live_stmt s id) ≡ true → 1 ≤ how_many (is_stmt id) s.stmts
 stmt_live s id e = go (stmt_at s id) refl
   where
-    go : (x : Place) → stmt_at s id ≡ x → 1 ≤ how_many (is_stmt id) s.stmts
-    go (Place.At i) h = counted (is_stmt id) no_stmt s.stmts i (found (is_stmt id) no_stmt s.stmts i h)
-    go Place.Nothing h = absurd (false≢true (sym (ap (λ x. is_live_stmt (entry_at s.stmts x no_stmt)) h) ∙ e))
+    go : (x : Option ℕ) → stmt_at s id ≡ x → 1 ≤ how_many (is_stmt id) s.stmts
+    go (Some i) h = counted (is_stmt id) no_stmt s.stmts i (found (is_stmt id) no_stmt s.stmts i h)
+    go None h = absurd (false≢true (sym (ap (λ x. is_live_stmt (entry_at s.stmts x no_stmt)) h) ∙ e))
 
 -- a table has no place for an id exactly where it is full and the id is not among its live ones
-pub stmts_full_lem : (s : Session) (id : ℕ) → stmt_place s id ≡ Place.Nothing →
+pub stmts_full_lem : (s : Session) (id : ℕ) → stmt_place s id ≡ None →
     (how_many (is_stmt id) s.stmts ≡ 0) × (stmt_count s ≡ length s.stmts)
 stmts_full_lem s id = no_place_full is_live_stmt (λ t. t.id) s.stmts id
 
 pub full_stmts : (s : Session) (id : ℕ) → how_many (is_stmt id) s.stmts ≡ 0 → stmt_count s ≡ length s.stmts →
-    stmt_place s id ≡ Place.Nothing
+    stmt_place s id ≡ None
 full_stmts s id = full_no_place is_live_stmt (λ t. t.id) s.stmts id
 
-pub cursors_full_lem : (s : Session) (id : ℕ) → cursor_place s id ≡ Place.Nothing →
+pub cursors_full_lem : (s : Session) (id : ℕ) → cursor_place s id ≡ None →
     (how_many (is_cursor id) s.cursors ≡ 0) × (cursor_count s ≡ length s.cursors)
 cursors_full_lem s id = no_place_full is_live_cursor (λ c. c.id) s.cursors id
 
 pub full_cursors : (s : Session) (id : ℕ) → how_many (is_cursor id) s.cursors ≡ 0 →
-    cursor_count s ≡ length s.cursors → cursor_place s id ≡ Place.Nothing
+    cursor_count s ≡ length s.cursors → cursor_place s id ≡ None
 full_cursors s id = full_no_place is_live_cursor (λ c. c.id) s.cursors id
 
 -- the numbers of a cursor that is opened
@@ -273,8 +274,8 @@ module _ {s : Session} (sound : Sound s) where
     no_other : how_many other s.cursors ≡ 0
     no_other = go (cursor_on s stmt) refl
       where
-        go : (x : Place) → cursor_on s stmt ≡ x → how_many other s.cursors ≡ 0
-        go (Place.At i) h =
+        go : (x : Option ℕ) → cursor_on s stmt ≡ x → how_many other s.cursors ≡ 0
+        go (Some i) h =
             let l = found (on_stmt stmt) no_cursor s.cursors i h in
             let c : Cursor = get_or s.cursors i no_cursor in
             let it : carried s stmt ≡ c = ap (λ x. entry_at s.cursors x no_cursor) h in
@@ -292,7 +293,7 @@ module _ {s : Session} (sound : Sound s) where
               sound.carries stmt,
               sound.stmt_once stmt,
             )
-        go Place.Nothing h =
+        go None h =
             omega (arith, none_from (on_stmt stmt) s.cursors 0 h, count_le other (on_stmt stmt) other-on s.cursors)
 
     abbrev now : List Cursor

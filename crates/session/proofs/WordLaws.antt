@@ -1,7 +1,8 @@
 -- The session that words hold: read at a place, after a store, and lost by none. Assumes nothing.
 use Rattle.prelude.proofs.Basics.{ℕ, ◌+◌, ◌*◌, ◌≤◌, ◌<◌, arith, ◌≡◌, refl, sym, ap, ◌∙◌, List, [], ◌∷◌, map, length}
 use Rattle.prelude.proofs.Basics.{set, replicate, List·getD-eq-default, length-set, get_or-set_other, get_or-set_same, sets}
-use Rattle.prelude.proofs.Basics.{less_or_not}
+use Rattle.prelude.proofs.Basics.{less_or_not, ◌++◌, drop, get_or-drop, List·getD-append}
+use Rattle.std.proofs.lemmas.List.{get_or-append_right}
 use lib.ListN.{length-replicate, get_or-replicate}
 use lib.Seq.{ext_get_or}
 use Rattle.session.proofs.Names.{Session, with_stmts, with_cursors, with_closed, no_stmt, no_cursor, with_sent}
@@ -253,35 +254,16 @@ holds_fresh n =
     (no-spares (replicate n 0) none)
     (word_zero n closed_at)
 
--- zeroing the words before the flag stands at i
-pub record Wiping (w₀ : List ℕ) (i : ℕ) (w : List ℕ) : Type 0 where
-  pub long : length w ≡ word_count
-  pub small : i ≤ closed_at
-  pub gone : (k : ℕ) → k < i → word w k ≡ 0
-  pub kept : (k : ℕ) → i ≤ k → word w k ≡ word w₀ k
-
-pub wipes : (w : List ℕ) → length w ≡ word_count → Wiping w 0 w
-wipes w h = record { long = h; small = omega arith; gone = λ k b. absurd (omega arith); kept = λ k b. refl }
-
-module _ {w₀ w : List ℕ} {i : ℕ} (l : Wiping w₀ i w) where
-  pub wipes_on : i < closed_at → Wiping w₀ (i + 1) (set w i 0)
-  wipes_on h =
-      record {
-        long = length-set w i 0 ∙ l.long;
-        small = omega arith;
-        gone =
-            λ k b.
-            less_or_not k i
-            (λ c. get_or-set_other w i k 0 0 (λ e. omega arith) ∙ l.gone k c)
-            (λ c. here k (omega arith));
-        kept = λ k b. get_or-set_other w i k 0 0 (λ e. omega arith) ∙ l.kept k (omega arith);
-      }
-    where
-      here : (k : ℕ) → k ≡ i → word (set w i 0) k ≡ 0
-      here k e = ap (λ (j : ℕ). word (set w i 0) j) e ∙ get_or-set_same w i 0 0 (omega (arith, l.long))
-
-  pub wiped_all : closed_at ≤ i → session_of w ≡ reset (session_of w₀)
-  wiped_all h = wiped w (λ k b. l.gone k (omega arith)) w₀ (l.kept closed_at l.small)
+-- zeros in front of the flag
+pub zeros_in_front : (w : List ℕ) → session_of (replicate closed_at 0 ++ drop closed_at w) ≡ reset (session_of w)
+zeros_in_front w =
+    let zeros : List ℕ = replicate closed_at 0 in
+    let long = length-replicate {A = ℕ} closed_at 0 in
+    wiped (zeros ++ drop closed_at w)
+    (λ k b. List·getD-append zeros (drop closed_at w) 0 k (omega (arith, long)) ∙ get_or-replicate closed_at k 0 0 b)
+    w
+    (get_or-append_right zeros (drop closed_at w) closed_at closed_at 0 long (omega arith)
+    ∙ get_or-drop closed_at w 0 0)
 
 -- a row by its entry
 abbrev of_stmt : Stmt → List ℕ

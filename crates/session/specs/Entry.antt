@@ -45,6 +45,7 @@ free_cursor c = not (is_live_cursor c)
 abbrev pub passes : Which → Cursor → Bool
 passes (Which.Id id) = is_cursor id
 passes (Which.On id) = on_stmt id
+passes Which.Live = is_live_cursor
 
 -- a cursor with this many rows sent
 abbrev pub with_sent : Cursor → ℕ → Cursor

@@ -1,33 +1,22 @@
 -- What the rules of a table say of a list: the first place that passes a test, an entry put at a place, the entries
 -- that pass changed, a sum over the entries, the places that pass as bits.
-use Rattle.std.specs.Prelude.{ℕ, suc, ◌+◌, ◌*◌, Bool, true, cond, List, [], ◌∷◌, map, get_or, set}
-use Rattle.session.specs.declared.Place.{Place}
-
--- a place, or where there is none another
-abbrev pub or_place : Place → Place → Place
-or_place (Place.At i) other = Place.At i
-or_place Place.Nothing other = other
-
--- the number of a place, n where there is none
-abbrev pub index_of : ℕ → Place → ℕ
-index_of n (Place.At i) = i
-index_of n Place.Nothing = n
+use Rattle.std.specs.Prelude.{ℕ, suc, ◌+◌, ◌*◌, Bool, true, cond, List, [], ◌∷◌, map, get_or, set, Option, Some, None}
 
 module _ {A : Type 0} where
   -- the first place whose entry passes, counted from k
-  unfoldable pub first : (A → Bool) → List A → ℕ → Place
-  first p [] k = Place.Nothing
-  first p (x ∷ xs) k = let rest = first p xs (suc k) in cond (p x) (Place.At k) rest
+  unfoldable pub first : (A → Bool) → List A → ℕ → Option ℕ
+  first p [] k = None
+  first p (x ∷ xs) k = let rest = first p xs (suc k) in cond (p x) (Some k) rest
 
   -- the entry x at a place
-  abbrev pub put : List A → Place → A → List A
-  put xs (Place.At i) x = set xs i x
-  put xs Place.Nothing x = xs
+  abbrev pub put : List A → Option ℕ → A → List A
+  put xs (Some i) x = set xs i x
+  put xs None x = xs
 
   -- the entry at a place, d where there is none
-  abbrev pub entry_at : List A → Place → A → A
-  entry_at xs (Place.At i) d = get_or xs i d
-  entry_at xs Place.Nothing d = d
+  abbrev pub entry_at : List A → Option ℕ → A → A
+  entry_at xs (Some i) d = get_or xs i d
+  entry_at xs None d = d
 
   -- f of an entry that passes
   abbrev pub change : (A → Bool) → (A → A) → A → A

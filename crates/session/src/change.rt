@@ -4,7 +4,7 @@ ghost use Rattle.session.specs.Entry.{passes};
 ghost use Rattle.session.specs.Tables.{ended_by, prepared_at, freed_at, opened_at, fetched_at};
 ghost use Rattle.session.specs.Words.{session_of};
 
-use crate::{Cursor, MAX_CURSORS, NO_CURSOR, NO_STMT, Place, Stmt, WORDS, Which, find, words};
+use crate::{Cursor, MAX_CURSORS, NO_CURSOR, NO_STMT, Stmt, WORDS, Which, find, words};
 
 const LIVE: u32 = 1;
 
@@ -12,17 +12,15 @@ const LIVE: u32 = 1;
 pub fn end(words: &mut [u32; WORDS], which: Which)
     ensures { session_of words.new ≡ ended_by (passes which) (session_of words.old) }
 {
-    let mut i = 0;
-    while i < MAX_CURSORS {
+    for i in 0..MAX_CURSORS {
         if find::passes(words, i, which) {
-            words::put_cursor(words, Place::At(i), NO_CURSOR);
+            words::put_cursor(words, Some(i), NO_CURSOR);
         }
-        i += 1;
     }
 }
 
 // Stores a statement at a place, which `stmt_place` finds for its id; its cursor ends.
-pub fn prepare(words: &mut [u32; WORDS], place: Place, id: u32, placeholders: u32)
+pub fn prepare(words: &mut [u32; WORDS], place: Option<usize>, id: u32, placeholders: u32)
     ensures { session_of words.new ≡
         prepared_at (session_of words.old) place id placeholders }
 {
@@ -39,7 +37,7 @@ pub fn prepare(words: &mut [u32; WORDS], place: Place, id: u32, placeholders: u3
 }
 
 // Frees the statement at a place, which `find_stmt` finds for its id; its cursor ends.
-pub fn free(words: &mut [u32; WORDS], place: Place, id: u32)
+pub fn free(words: &mut [u32; WORDS], place: Option<usize>, id: u32)
     ensures { session_of words.new ≡ freed_at (session_of words.old) place id }
 {
     end(words, Which::On(id));
@@ -47,7 +45,14 @@ pub fn free(words: &mut [u32; WORDS], place: Place, id: u32)
 }
 
 // Stores a cursor at a place, which `cursor_place` finds for its id.
-pub fn open(words: &mut [u32; WORDS], place: Place, id: u32, stmt: u32, rows: u32, sent: u32)
+pub fn open(
+    words: &mut [u32; WORDS],
+    place: Option<usize>,
+    id: u32,
+    stmt: u32,
+    rows: u32,
+    sent: u32,
+)
     ensures { session_of words.new ≡
         opened_at (session_of words.old) place id stmt rows sent }
 {
@@ -68,17 +73,11 @@ pub fn open(words: &mut [u32; WORDS], place: Place, id: u32, stmt: u32, rows: u3
 fn raised(rows: u32, sent: u32, count: u32) -> u32
     ensures { result ≡ sent + min count (rows - sent) }
 {
-    if rows <= sent {
-        return sent;
-    }
-    if count < rows - sent {
-        return sent + count;
-    }
-    rows
+    sent + count.min(rows.saturating_sub(sent))
 }
 
 // The cursor at a place, which `find_cursor` finds for its id, sends `count` more rows.
-pub fn fetch(words: &mut [u32; WORDS], place: Place, count: u32)
+pub fn fetch(words: &mut [u32; WORDS], place: Option<usize>, count: u32)
     ensures { session_of words.new ≡ fetched_at (session_of words.old) place count }
 {
     let c = words::cursor_at(words, place);

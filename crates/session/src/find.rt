@@ -1,23 +1,18 @@
 // The first places that pass a test.
-ghost use Rattle.std.specs.Prelude.{◌≡◌, not, ◌&&◌, ◌+◌, ◌<◌, ◌≤◌, eqb, drop};
+ghost use Rattle.std.specs.Prelude.{◌≡◌, ◌+◌, ◌<◌, ◌≤◌};
 ghost use Rattle.session.specs.Lists.{first};
 ghost use Rattle.session.specs.Entry.{is_stmt, free_stmt, free_cursor, passes};
 ghost use Rattle.session.specs.Tables.{max_stmts, max_cursors};
 ghost use Rattle.session.specs.Tables.{stmt_at, cursor_at, cursor_on, stmt_place, cursor_place, place_of};
-ghost use Rattle.session.specs.Words.{cursor_in, stmts_in, session_of};
-ghost use Rattle.session.specs.private.Search.{block_ids, any_in};
+ghost use Rattle.session.specs.Words.{cursor_in, stmt_in, stmts_in, session_of};
+ghost use Rattle.session.specs.private.Search.{FirstBlock, any_in, block_ids};
 
-use crate::{MAX_CURSORS, MAX_STMTS, Place, WORDS, Which, words};
+use crate::{MAX_CURSORS, MAX_STMTS, WORDS, Which, words};
 
 // Ids that are compared at once: without a way out of the loop the compiler makes vector compares of it.
 const BLOCK: usize = 16;
 
-// Whether an entry is live and has the number asked for.
-fn tells(live: u32, number: u32, asked: u32) -> bool
-    ensures { result ≡ (not (eqb live 0) && eqb number asked) }
-{
-    live != 0 && number == asked
-}
+const BLOCKS: usize = MAX_STMTS / BLOCK;
 
 // Whether one of the statements of a block has the id, live or not.
 fn has(words: &[u32; WORDS], at: usize, id: u32) -> bool
@@ -25,65 +20,46 @@ fn has(words: &[u32; WORDS], at: usize, id: u32) -> bool
     ensures { result ≡ any_in id words.now at block_ids }
 {
     let mut hit = false;
-    let mut k = 0;
-    while k < BLOCK {
-        if words::stmt_id(words, at + k) == id {
-            hit = true;
-        }
-        k += 1;
+    for k in 0..BLOCK {
+        hit |= words::stmt_id(words, at + k) == id;
     }
     hit
 }
 
-// The place of the live statement of an id, from a place on.
-fn scan(words: &[u32; WORDS], from: usize, id: u32) -> Place
-    ensures { result ≡ first (is_stmt id) (drop from (stmts_in words.now)) from }
+// The first block that has the id.
+fn first_block(words: &[u32; WORDS], id: u32) -> Option<usize>
+    ensures { FirstBlock id words.now result }
 {
-    let mut i = from;
-    while i < MAX_STMTS {
-        if tells(words::stmt_live(words, i), words::stmt_id(words, i), id) {
-            return Place::At(i);
-        }
-        i += 1;
-    }
-    Place::Nothing
+    (0..BLOCKS).find(|b| has(words, BLOCK * *b, id))
+}
+
+// Whether the statement at a place is the live one of an id.
+fn is_stmt(words: &[u32; WORDS], i: usize, id: u32) -> bool
+    requires { i < max_stmts }
+    ensures { result ≡ is_stmt id (stmt_in words.now i) }
+{
+    words::stmt_live(words, i) != 0 && words::stmt_id(words, i) == id
 }
 
 // The place of the live statement of an id: blocks without the id are passed.
-pub fn find_stmt(words: &[u32; WORDS], id: u32) -> Place
+pub fn find_stmt(words: &[u32; WORDS], id: u32) -> Option<usize>
     ensures { result ≡ stmt_at (session_of words.now) id }
 {
-    let mut b = 0;
-    while b < MAX_STMTS {
-        if has(words, b, id) {
-            return scan(words, b, id);
-        }
-        b += BLOCK;
-    }
-    Place::Nothing
+    let block = first_block(words, id)?;
+    (BLOCK * block..MAX_STMTS).find(|i| is_stmt(words, *i, id))
 }
 
-fn free_stmt(words: &[u32; WORDS]) -> Place
+fn free_stmt(words: &[u32; WORDS]) -> Option<usize>
     ensures { result ≡ first free_stmt (stmts_in words.now) 0 }
 {
-    let mut i = 0;
-    while i < MAX_STMTS {
-        if words::stmt_live(words, i) == 0 {
-            return Place::At(i);
-        }
-        i += 1;
-    }
-    Place::Nothing
+    (0..MAX_STMTS).find(|i| words::stmt_live(words, *i) == 0)
 }
 
 // The place that a statement of an id takes: its own, or the lowest free one.
-pub fn stmt_place(words: &[u32; WORDS], id: u32) -> Place
+pub fn stmt_place(words: &[u32; WORDS], id: u32) -> Option<usize>
     ensures { result ≡ stmt_place (session_of words.now) id }
 {
-    match find_stmt(words, id) {
-        Place::At(i) => Place::At(i),
-        Place::Nothing => free_stmt(words),
-    }
+    find_stmt(words, id).or_else(|| free_stmt(words))
 }
 
 // Whether the cursor at a place passes the test.
@@ -91,62 +67,44 @@ pub(crate) fn passes(words: &[u32; WORDS], i: usize, which: Which) -> bool
     requires { i < max_cursors }
     ensures { result ≡ passes which (cursor_in words.now i) }
 {
+    let live = words::cursor_live(words, i) != 0;
     match which {
-        Which::Id(id) => tells(words::cursor_live(words, i), words::cursor_id(words, i), id),
-        Which::On(id) => tells(
-            words::cursor_live(words, i),
-            words::cursor_stmt(words, i),
-            id,
-        ),
+        Which::Id(id) => live && words::cursor_id(words, i) == id,
+        Which::On(id) => live && words::cursor_stmt(words, i) == id,
+        Which::Live => live,
     }
 }
 
-fn first_place(words: &[u32; WORDS], which: Which) -> Place
+// The first place whose cursor passes.
+pub fn first_place(words: &[u32; WORDS], which: Which) -> Option<usize>
     ensures { result ≡ place_of (passes which) (session_of words.now) }
 {
-    let mut i = 0;
-    while i < MAX_CURSORS {
-        if passes(words, i, which) {
-            return Place::At(i);
-        }
-        i += 1;
-    }
-    Place::Nothing
+    (0..MAX_CURSORS).find(|i| passes(words, *i, which))
 }
 
 // The place of the live cursor of an id.
-pub fn find_cursor(words: &[u32; WORDS], id: u32) -> Place
+pub fn find_cursor(words: &[u32; WORDS], id: u32) -> Option<usize>
     ensures { result ≡ cursor_at (session_of words.now) id }
 {
     first_place(words, Which::Id(id))
 }
 
 // The place of the live cursor on a statement.
-pub fn find_on(words: &[u32; WORDS], stmt: u32) -> Place
+pub fn find_on(words: &[u32; WORDS], stmt: u32) -> Option<usize>
     ensures { result ≡ cursor_on (session_of words.now) stmt }
 {
     first_place(words, Which::On(stmt))
 }
 
-fn free_cursor(words: &[u32; WORDS]) -> Place
+fn free_cursor(words: &[u32; WORDS]) -> Option<usize>
     ensures { result ≡ place_of free_cursor (session_of words.now) }
 {
-    let mut i = 0;
-    while i < MAX_CURSORS {
-        if words::cursor_live(words, i) == 0 {
-            return Place::At(i);
-        }
-        i += 1;
-    }
-    Place::Nothing
+    (0..MAX_CURSORS).find(|i| words::cursor_live(words, *i) == 0)
 }
 
 // The place that a cursor of an id takes: its own, or the lowest free one.
-pub fn cursor_place(words: &[u32; WORDS], id: u32) -> Place
+pub fn cursor_place(words: &[u32; WORDS], id: u32) -> Option<usize>
     ensures { result ≡ cursor_place (session_of words.now) id }
 {
-    match find_cursor(words, id) {
-        Place::At(i) => Place::At(i),
-        Place::Nothing => free_cursor(words),
-    }
+    find_cursor(words, id).or_else(|| free_cursor(words))
 }

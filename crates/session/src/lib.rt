@@ -1,4 +1,5 @@
-// A session: words that the host owns, holding the two tables and the closed flag.
+// A session: words that the host owns, holding the two tables and the closed flag. What reads and changes it are
+// functions on the words, since the C interface lends those; `Session`, by value, has methods that call them.
 #![tactic(auto)]
 
 ghost use Rattle.std.specs.Prelude.{◌≡◌};
@@ -22,7 +23,8 @@ pub const CURSOR_WORDS: usize = 5;
 // The words of a session; the flag is the last.
 pub const WORDS: usize = words::CLOSED + 1;
 
-// An entry of the statement table. `live` is a flag: 0 for a free place, which then holds zeros.
+// An entry of the statement table. `live` is a flag: 0 for a free place, which then holds zeros. It is a number since
+// any words of the host are a session (`session_of`), and none of them may be lost (`NothingLost`).
 #[derive(Clone, Copy)]
 pub struct Stmt {
     pub id: u32,
@@ -47,18 +49,12 @@ pub struct Session {
     pub words: [u32; WORDS],
 }
 
-// A place of a table.
-#[derive(Clone, Copy)]
-pub enum Place {
-    At(usize),
-    Nothing,
-}
-
-// A test on cursors: the live one of an id, a live one on a statement.
+// A test on cursors: the live one of an id, a live one on a statement, any live one.
 #[derive(Clone, Copy)]
 pub enum Which {
     Id(u32),
     On(u32),
+    Live,
 }
 
 // The empty entries.

@@ -1,12 +1,12 @@
 // Where the parts of a session stand among its words, as specs/Words says. No other file knows these places.
 ghost use Rattle.std.specs.Prelude.{◌≡◌, ◌<◌, length, set};
 ghost use Rattle.session.specs.Session.{with_stmts, with_cursors, with_closed, is_closed};
-ghost use Rattle.session.specs.Lists.{entry_at, index_of};
+ghost use Rattle.session.specs.Lists.{entry_at};
 ghost use Rattle.session.specs.Entry.{no_stmt, no_cursor, with_sent};
 ghost use Rattle.session.specs.Tables.{max_stmts, max_cursors, stored_stmt, stored_cursor, reset, closed_now};
 ghost use Rattle.session.specs.Words.{word_count, stmt_in, cursor_in, stmts_in, cursors_in, session_of};
 
-use crate::{CURSOR_WORDS, Cursor, MAX_CURSORS, MAX_STMTS, NO_CURSOR, NO_STMT, Place, Stmt, WORDS};
+use crate::{CURSOR_WORDS, Cursor, MAX_CURSORS, MAX_STMTS, NO_CURSOR, NO_STMT, Stmt, WORDS};
 
 // The words of a statement's row.
 const STMT_WORDS: usize = 2;
@@ -87,21 +87,11 @@ pub(crate) fn cursor_live(words: &[u32; WORDS], i: usize) -> u32
     words[CURSOR_ROWS + CURSOR_WORDS * i + CURSOR_LIVE]
 }
 
-// The number of a place, `past` where there is none.
-pub fn index(place: Place, past: usize) -> usize
-    ensures { result ≡ index_of past place }
-{
-    match place {
-        Place::At(i) => i,
-        Place::Nothing => past,
-    }
-}
-
 // The entry at a place, the empty one past the table.
-pub fn stmt_at(words: &[u32; WORDS], place: Place) -> Stmt
+pub fn stmt_at(words: &[u32; WORDS], place: Option<usize>) -> Stmt
     ensures { result ≡ entry_at (stmts_in words.now) place no_stmt }
 {
-    let i = index(place, MAX_STMTS);
+    let i = place.unwrap_or(MAX_STMTS);
     if i < MAX_STMTS {
         return Stmt {
             id: stmt_id(words, i),
@@ -112,10 +102,10 @@ pub fn stmt_at(words: &[u32; WORDS], place: Place) -> Stmt
     NO_STMT
 }
 
-pub fn cursor_at(words: &[u32; WORDS], place: Place) -> Cursor
+pub fn cursor_at(words: &[u32; WORDS], place: Option<usize>) -> Cursor
     ensures { result ≡ entry_at (cursors_in words.now) place no_cursor }
 {
-    let i = index(place, MAX_CURSORS);
+    let i = place.unwrap_or(MAX_CURSORS);
     if i < MAX_CURSORS {
         return Cursor {
             id: cursor_id(words, i),
@@ -149,10 +139,10 @@ fn store_stmt(words: &mut [u32], i: usize, t: Stmt)
 }
 
 // A statement stored at a place; nothing is stored past the table.
-pub fn put_stmt(words: &mut [u32; WORDS], place: Place, t: Stmt)
+pub fn put_stmt(words: &mut [u32; WORDS], place: Option<usize>, t: Stmt)
     ensures { session_of words.new ≡ stored_stmt (session_of words.old) place t }
 {
-    let i = index(place, MAX_STMTS);
+    let i = place.unwrap_or(MAX_STMTS);
     if i < MAX_STMTS {
         store_stmt(words, i, t);
     }
@@ -173,10 +163,10 @@ fn store_cursor(words: &mut [u32], i: usize, c: Cursor)
 }
 
 // A cursor stored at a place.
-pub fn put_cursor(words: &mut [u32; WORDS], place: Place, c: Cursor)
+pub fn put_cursor(words: &mut [u32; WORDS], place: Option<usize>, c: Cursor)
     ensures { session_of words.new ≡ stored_cursor (session_of words.old) place c }
 {
-    let i = index(place, MAX_CURSORS);
+    let i = place.unwrap_or(MAX_CURSORS);
     if i < MAX_CURSORS {
         store_cursor(words, i, c);
     }
@@ -193,12 +183,12 @@ fn store_sent(words: &mut [u32], i: usize, sent: u32)
 }
 
 // The rows sent of the cursor at a place: one word.
-pub fn put_sent(words: &mut [u32; WORDS], place: Place, sent: u32)
+pub fn put_sent(words: &mut [u32; WORDS], place: Option<usize>, sent: u32)
     ensures { session_of words.new ≡
         stored_cursor (session_of words.old) place
         (with_sent (entry_at (cursors_in words.old) place no_cursor) sent) }
 {
-    let i = index(place, MAX_CURSORS);
+    let i = place.unwrap_or(MAX_CURSORS);
     if i < MAX_CURSORS {
         store_sent(words, i, sent);
     }
@@ -209,11 +199,7 @@ fn wipe(words: &mut [u32])
     requires { length words.old ≡ word_count }
     ensures { session_of words.new ≡ reset (session_of words.old) }
 {
-    let mut i = 0;
-    while i < CLOSED {
-        words[i] = 0;
-        i += 1;
-    }
+    words[..CLOSED].fill(0);
 }
 
 fn set_closed(words: &mut [u32])

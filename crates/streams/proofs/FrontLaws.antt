@@ -3,13 +3,13 @@
 use Rattle.prelude.proofs.Basics.{ℕ, zero, suc, ◌+◌, ◌*◌, ◌≤◌, arith, Bool, true, false, cond, ◌≡◌, refl, sym, ap, ap₂}
 use Rattle.prelude.proofs.Basics.{◌∙◌, ◌⊎◌, inl, inr, ⊎_elim, List, [], ◌++◌, append-nil, length, get_or, take, drop}
 use Rattle.prelude.proofs.Basics.{List·getD-append, length-append, length-take, take-append-drop, get_or-take}
-use Rattle.prelude.proofs.Basics.{length-take-le, take-take, eqb, leb, ltb, eq-eqb, eqb-false, eqb-true, le-leb, le-ltb}
-use Rattle.prelude.proofs.Basics.{leb-true, lt-ltb, ltb-false, ltb-true, ne_eqb, both}
+use Rattle.prelude.proofs.Basics.{length-take-le, take-take, eqb, leb, ltb, eq-eqb, eqb-false, eqb-true, le-leb}
+use Rattle.prelude.proofs.Basics.{le-ltb, leb-true, lt-ltb, ltb-false, ltb-true, ne_eqb, both, Ok, Err}
 use lib.Seq.{take-append_seam}
 use Rattle.protocol.specs.Reason as Reason
 use Rattle.scalar.specs.Fixed.{little}
-use Rattle.message.specs.declared.head.Head.{Head}
-use Rattle.message.specs.Head.{length_bytes, head_of, length_of, max_length, head_reason}
+use Rattle.protocol.specs.declared.reason.Reason as Declared
+use Rattle.message.specs.Head.{HeadResult, framed, length_bytes, head_of, length_of, max_length, head_reason}
 use Rattle.streams.specs.Reader.{stands_first, bad_first}
 use Rattle.streams.specs.ReaderRules.{kept, WholeFirst, BadFirst, Whole}
 
@@ -26,9 +26,9 @@ pub record Declines (b : List ℕ) (reason : ℕ) : Type 0 where
   pub known : (reason ≡ Reason.not_all_there) ⊎ (reason ≡ Reason.bad_length)
   pub bad : reason ≡ Reason.bad_length → BadFirst b
 
-abbrev Says : List ℕ → Head → Type 0
-Says b (Head.Frame kind end) = Stands b kind end
-Says b (Head.Refused reason) = Declines b reason
+abbrev Says : List ℕ → HeadResult → Type 0
+Says b (Ok head) = Stands b head.kind head.end
+Says b (Err reason) = Declines b (Reason.number_of reason)
 
 waits : (b : List ℕ) → Declines b Reason.not_all_there
 waits b = record { known = inl refl; bad = λ e. absurd (omega arith) }
@@ -64,17 +64,18 @@ head_says b =
     }))))
     (λ _. waits b)
 
-pub frame_told : (b : List ℕ) {kind end : ℕ} → head_of b ≡ Head.Frame kind end → Stands b kind end
+pub frame_told : (b : List ℕ) {kind end : ℕ} → head_of b ≡ framed kind end → Stands b kind end
 frame_told b {kind} {end} e = rw e at (head_says b)
 
-pub refused_told : (b : List ℕ) {reason : ℕ} → head_of b ≡ Head.Refused reason → Declines b reason
+pub refused_told : (b : List ℕ) {reason : Declared.Reason} → head_of b ≡ Err reason → Declines b (Reason.number_of reason)
 refused_told b {reason} e = rw e at (head_says b)
 
 -- a refusal is not 0
-pub refused_some : (b : List ℕ) {reason : ℕ} → head_of b ≡ Head.Refused reason → reason ≡ Reason.accepted → ⊥
+pub refused_some : (b : List ℕ) {reason : Declared.Reason} → head_of b ≡ Err reason →
+    Reason.number_of reason ≡ Reason.accepted → ⊥
 refused_some b e z = ⊎_elim (λ f. omega arith) (λ f. omega arith) (refused_told b e).known
 
-pub frame_known : (b : List ℕ) → WholeFirst b → head_of b ≡ Head.Frame (get_or b length_bytes 0) (length_bytes + length_of b)
+pub frame_known : (b : List ℕ) → WholeFirst b → head_of b ≡ framed (get_or b length_bytes 0) (length_bytes + length_of b)
 frame_known b w =
     simp (
       le-leb length_bytes (length b) w.known,
@@ -83,7 +84,7 @@ frame_known b w =
       le-ltb (length b) (length_bytes + length_of b) w.there,
     )
 
-pub bad_known : (b : List ℕ) → BadFirst b → head_of b ≡ Head.Refused Reason.bad_length
+pub bad_known : (b : List ℕ) → BadFirst b → head_of b ≡ Err Declared.Reason.BadLength
 bad_known b w =
     ⊎_elim (λ e. simp (le-leb length_bytes (length b) w.known, eq-eqb (length_of b) 0 e))
     (λ g.
@@ -96,17 +97,17 @@ bad_known b w =
 
 -- ---- the number of what stands first
 
-pub first_is : (b : List ℕ) {h : Head} → head_of b ≡ h → stands_first b ≡ head_reason h
+pub first_is : (b : List ℕ) {h : HeadResult} → head_of b ≡ h → stands_first b ≡ head_reason h
 unfolding stands_first
 first_is b e = ap head_reason e
 
 -- where no whole frame stands first, the head is a refusal
-pub refusal : (b : List ℕ) → (stands_first b ≡ Reason.accepted → ⊥) → head_of b ≡ Head.Refused (stands_first b)
+pub refusal : (b : List ℕ) → (stands_first b ≡ Reason.accepted → ⊥) → (reason : Declared.Reason) × (head_of b ≡ Err reason)
 refusal b none = go (head_of b) refl
   where
-    go : (h : Head) → head_of b ≡ h → head_of b ≡ Head.Refused (stands_first b)
-    go (Head.Frame kind end) e = absurd (none (first_is b e))
-    go (Head.Refused reason) e = e ∙ ap Head.Refused (sym (first_is b e))
+    go : (h : HeadResult) → head_of b ≡ h → (reason : Declared.Reason) × (head_of b ≡ Err reason)
+    go (Ok head) e = absurd (none (first_is b e))
+    go (Err reason) e = (reason, e)
 
 pub is_bad : (b : List ℕ) → BadFirst b → bad_first b ≡ true
 is_bad b w = eq-eqb (stands_first b) Reason.bad_length (first_is b (bad_known b w))
@@ -114,21 +115,21 @@ is_bad b w = eq-eqb (stands_first b) Reason.bad_length (first_is b (bad_known b 
 pub bad_told : (b : List ℕ) → bad_first b ≡ true → BadFirst b
 bad_told b t = go (head_of b) refl (eqb-true (stands_first b) Reason.bad_length t)
   where
-    go : (h : Head) → head_of b ≡ h → stands_first b ≡ Reason.bad_length → BadFirst b
-    go (Head.Frame kind end) e f = absurd (omega (arith, first_is b e))
-    go (Head.Refused reason) e f = (refused_told b e).bad (sym (first_is b e) ∙ f)
+    go : (h : HeadResult) → head_of b ≡ h → stands_first b ≡ Reason.bad_length → BadFirst b
+    go (Ok head) e f = absurd (omega (arith, first_is b e))
+    go (Err reason) e f = (refused_told b e).bad (sym (first_is b e) ∙ f)
 
 pub whole_told : (b : List ℕ) → stands_first b ≡ Reason.accepted → WholeFirst b
 whole_told b z = go (head_of b) refl
   where
-    go : (h : Head) → head_of b ≡ h → WholeFirst b
-    go (Head.Frame kind end) e = (frame_told b e).first
-    go (Head.Refused reason) e = absurd (refused_some b e (sym (first_is b e) ∙ z))
+    go : (h : HeadResult) → head_of b ≡ h → WholeFirst b
+    go (Ok head) e = (frame_told b e).first
+    go (Err reason) e = absurd (refused_some b e (sym (first_is b e) ∙ z))
 
-pub refused_none : (b : List ℕ) {reason : ℕ} → head_of b ≡ Head.Refused reason → stands_first b ≡ Reason.accepted → ⊥
+pub refused_none : (b : List ℕ) {reason : Declared.Reason} → head_of b ≡ Err reason → stands_first b ≡ Reason.accepted → ⊥
 refused_none b e z = refused_some b e (sym (first_is b e) ∙ z)
 
-pub frame_good : (b : List ℕ) {kind end : ℕ} → head_of b ≡ Head.Frame kind end → bad_first b ≡ false
+pub frame_good : (b : List ℕ) {kind end : ℕ} → head_of b ≡ framed kind end → bad_first b ≡ false
 frame_good b e = ne_eqb (stands_first b) Reason.bad_length (λ z. omega (arith, first_is b e))
 
 -- ---- the first bytes of some
@@ -147,22 +148,22 @@ length_of_more a c h = sym (length_of_take (length a) (a ++ c) h) ∙ ap length_
 
 -- ---- a whole frame
 
-pub frame_more : (a c : List ℕ) {kind end : ℕ} → head_of a ≡ Head.Frame kind end → head_of (a ++ c) ≡ Head.Frame kind end
+pub frame_more : (a c : List ℕ) {kind end : ℕ} → head_of a ≡ framed kind end → head_of (a ++ c) ≡ framed kind end
 frame_more a c e =
     let s = frame_told a e in
     let same = length_of_more a c s.first.known in
     let long = length-append a c in
     frame_known (a ++ c) (record { known = omega arith; some = omega arith; small = omega arith; there = omega arith })
-    ∙ ap₂ Head.Frame (List·getD-append a c 0 length_bytes (omega arith) ∙ sym s.type) (omega arith)
+    ∙ ap₂ framed (List·getD-append a c 0 length_bytes (omega arith) ∙ sym s.type) (omega arith)
 
-pub frame_whole : (b : List ℕ) {kind end : ℕ} → head_of b ≡ Head.Frame kind end → Whole (take end b)
+pub frame_whole : (b : List ℕ) {kind end : ℕ} → head_of b ≡ framed kind end → Whole (take end b)
 frame_whole b {kind} {end} e =
     let s = frame_told b e in
     let long : length (take end b) ≡ end = length-take-le end b (omega arith) in
     let same : length_of (take end b) ≡ length_of b = length_of_take end b (omega arith) in
     frame_known (take end b)
     (record { known = omega arith; some = omega arith; small = omega arith; there = omega arith })
-    ∙ ap (Head.Frame (get_or (take end b) length_bytes 0)) (omega arith)
+    ∙ ap (framed (get_or (take end b) length_bytes 0)) (omega arith)
 
 -- ---- a bad length
 

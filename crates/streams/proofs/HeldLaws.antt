@@ -4,10 +4,9 @@ use Rattle.prelude.proofs.Basics.{ℕ, ◌+◌, ◌-◌, ◌≤◌, ◌<◌, ari
 use Rattle.prelude.proofs.Basics.{sym, ap, subst, ◌∙◌, ◌⊎◌, inl, inr, ⊎_elim, List, ◌++◌, length, take, drop}
 use Rattle.prelude.proofs.Basics.{length-append, length-drop, drop-append-le, drop_at, drop-drop, length-take-le}
 use Rattle.prelude.proofs.Basics.{take-add, take_at, take-take, eqb, leb, eq-eqb, eqb-false, eqb-true, le-leb}
-use Rattle.prelude.proofs.Basics.{leb-false, leb-true, lt-leb, ne_eqb, both, yes, no, less_or_not}
+use Rattle.prelude.proofs.Basics.{leb-false, leb-true, lt-leb, ne_eqb, both, yes, no, less_or_not, Ok, Err}
 use Rattle.protocol.specs.Reason as Reason
-use Rattle.message.specs.declared.head.Head.{Head}
-use Rattle.message.specs.Head.{length_bytes, head_of, length_of, max_length}
+use Rattle.message.specs.Head.{HeadResult, length_bytes, head_of, length_of, max_length}
 use Rattle.encode.specs.Put.{written}
 use Rattle.encode.proofs.PutLaws.{length_written}
 use Rattle.streams.specs.declared.Reader.{Reader}
@@ -223,10 +222,11 @@ pushes_behind r arrival store =
 
 -- ---- the next frame
 
-hands : (store : List ℕ) (r : Reader) → Part store r → (h : Head) → head_of (part store r) ≡ h → (q : Reader) →
+hands : (store : List ℕ) (r : Reader) → Part store r → (h : HeadResult) → head_of (part store r) ≡ h → (q : Reader) →
     held store q ≡ part store r →
     Hands q store (next_by store r h) h
-hands store r p (Head.Frame kind end) e q same =
+hands store r p (Ok head) e q same =
+    let end = head.end in
     let s = frame_told (part store r) e in
     let within : r.start + end ≤ r.end = omega (arith, s.ends, s.first.there, long-part store r p, p.ordered) in
     record {
@@ -239,7 +239,7 @@ hands store r p (Head.Frame kind end) e q same =
           settled_held store (reader (r.start + end) r.end) (record { ordered = within; within = p.within })
           ∙ ap kept (between_drop store r.start r.end end p.within within ∙ ap (drop end) (sym same));
     }
-hands store r p (Head.Refused reason) e q same =
+hands store r p (Err reason) e q same =
     record { reason = refl; len = refl; kind = refl; left = settled_held store r p ∙ ap kept (sym same) }
 
 pub hands_first : HandsFirst
@@ -271,9 +271,10 @@ push_alike r r' arrival store store' a =
       after = record { size = x.size ∙ a.size ∙ sym y.size; bytes = holds };
     }
 
-next_alike : (r r' : Reader) (store store' : List ℕ) → Alike r r' store store' → (x y : NextFrame) (h : Head) →
+next_alike : (r r' : Reader) (store store' : List ℕ) → Alike r r' store store' → (x y : NextFrame) (h : HeadResult) →
     Hands r store x h → Hands r' store' y h → HandsAlike store store' x y
-next_alike r r' store store' a x y (Head.Frame kind end) f g =
+next_alike r r' store store' a x y (Ok head) f g =
+    let end = head.end in
     record {
       reason = f.reason ∙ sym g.reason;
       frame = f.frame ∙ ap (take end) a.bytes ∙ sym g.frame;
@@ -284,7 +285,7 @@ next_alike r r' store store' a x y (Head.Frame kind end) f g =
             ∙ sym g.left;
       };
     }
-next_alike r r' store store' a x y (Head.Refused reason) f g =
+next_alike r r' store store' a x y (Err reason) f g =
     record {
       reason = f.reason ∙ sym g.reason;
       frame =
@@ -314,9 +315,9 @@ module _ (b : List ℕ) where
   bad-is : BadFirst b → stands_first b ≡ Reason.bad_length
   bad-is w = first_is b (bad_known b w)
 
-  neither : (h : Head) → head_of b ≡ h → (WholeFirst b → ⊥) → (BadFirst b → ⊥) → stands_first b ≡ Reason.not_all_there
-  neither (Head.Frame kind end) e whole bad = absurd (whole (frame_told b e).first)
-  neither (Head.Refused reason) e whole bad =
+  neither : (h : HeadResult) → head_of b ≡ h → (WholeFirst b → ⊥) → (BadFirst b → ⊥) → stands_first b ≡ Reason.not_all_there
+  neither (Ok head) e whole bad = absurd (whole (frame_told b e).first)
+  neither (Err reason) e whole bad =
       ⊎_elim (λ z. first_is b e ∙ z) (λ z. absurd (bad ((refused_told b e).bad z))) (refused_told b e).known
 
 pub waits_exactly : WaitsExactly

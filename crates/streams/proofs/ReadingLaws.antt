@@ -2,10 +2,9 @@
 -- length are the bytes taken. Assumes nothing.
 use Rattle.prelude.proofs.Basics.{ℕ, zero, suc, ◌≤◌, arith, Bool, true, false, cond, ◌≡◌, refl, sym, ap, ◌∙◌, inl}
 use Rattle.prelude.proofs.Basics.{⊎_elim, List, [], ◌∷◌, ◌++◌, append-nil, length, take, drop, replicate, length-drop}
-use Rattle.prelude.proofs.Basics.{length-take, take_all, take-length, eq-eqb, eqb-true, ne_eqb}
+use Rattle.prelude.proofs.Basics.{length-take, take_all, take-length, eq-eqb, eqb-true, ne_eqb, Ok, Err}
 use Rattle.protocol.specs.Reason as Reason
-use Rattle.message.specs.declared.head.Head.{Head}
-use Rattle.message.specs.Head.{length_bytes, head_of}
+use Rattle.message.specs.Head.{HeadResult, length_bytes, head_of}
 use Rattle.session.specs.Lists.{All}
 use Rattle.session.proofs.SumLaws.{all_append}
 use Rattle.streams.specs.declared.Reader.{Reader}
@@ -18,7 +17,7 @@ use Rattle.streams.specs.Stream.{joined, Stream, stream, less_dropped}
 use Rattle.streams.specs.Arrivals.{Always, Conserved, HandsOutFrames, Drained, ReadInOrder, goes_on, Refuses}
 use Rattle.streams.specs.Arrivals.{Stays, StaysBad, StartsEmpty, Drains, Offered, FramesArrive}
 use Rattle.streams.proofs.HeldLaws.{stands_kept, pushes_behind, hands_first}
-use Rattle.streams.proofs.FrontLaws.{frame_told, refused_some, refused_none, bad_told, bad_known, refusal}
+use Rattle.streams.proofs.FrontLaws.{frame_told, refused_some, refused_none, bad_told, bad_known, refusal, first_is}
 use Rattle.streams.proofs.FrontLaws.{whole_told, kept_both, nothing_kept}
 use Rattle.streams.proofs.StreamLaws.{Holds, holds_as, joined_holds, more_comes, one_out, four_left, stream_is}
 use Rattle.streams.proofs.StreamLaws.{whole_stream, dropped_alike, behind_alike}
@@ -86,17 +85,17 @@ none_added x next e =
     ap (λ (b : Bool). cond b (x.frames ++ (frame_at x.store next ∷ [])) x.frames)
     (ne_eqb next.reason Reason.accepted e)
 
-handed_sound : (x : Reading) (next : NextFrame) (h : Head) → head_of (left x) ≡ h →
+handed_sound : (x : Reading) (next : NextFrame) (h : HeadResult) → head_of (left x) ≡ h →
     Hands x.reader x.store next h → Sound x →
     Sound (handed_by x next)
-handed_sound x next (Head.Frame kind end) e p s =
+handed_sound x next (Ok head) e p s =
     record {
       holds =
           holds_as (ap (λ (f : List ℕ). x.frames ++ (f ∷ [])) (sym p.frame) ∙ sym (frame_added x next p.reason))
           (sym p.left) refl (one_out s.holds e);
       before = s.before;
     }
-handed_sound x next (Head.Refused reason) e p s =
+handed_sound x next (Err reason) e p s =
     record {
       holds =
           holds_as (sym (none_added x next (λ z. refused_some (left x) e (sym p.reason ∙ z))))
@@ -280,18 +279,21 @@ stays_drained (suc n) x none =
     stays_drained n (operate next_frame x) (λ z. none (stands_kept (left x) ∙ ap stands_first (sym same.left) ∙ z))
   where
     same : HandsNone x.reader x.store (stands_first (left x)) (next_of x.reader x.store)
-    same = rw (refusal (left x) none) at (hands_first x.reader x.store)
+    same =
+        let f = refusal (left x) none in
+        rw (first_is (left x) f.1) (rw f.1 at (hands_first x.reader x.store))
 
 -- a hand-out leaves no frame, or fewer bytes
-drains_on : (n : ℕ) (x : Reading) → length (left x) ≤ suc n → (t : Head) → head_of (left x) ≡ t →
+drains_on : (n : ℕ) (x : Reading) → length (left x) ≤ suc n → (t : HeadResult) → head_of (left x) ≡ t →
     Hands x.reader x.store (next_of x.reader x.store) t →
     (length (left (operate next_frame x)) ≤ n → Drained (operated (replicate n next_frame) (operate next_frame x))) →
     Drained (operated (replicate (suc n) next_frame) x)
 unfolding operated operate
-drains_on n x h (Head.Frame kind end) e p again =
+drains_on n x h (Ok head) e p again =
+    let end = head.end in
     let s = frame_told (left x) e in
     again (omega (arith, ap length p.left, kept_short (drop end (left x)), length-drop end (left x), s.ends))
-drains_on n x h (Head.Refused reason) e p again = stays_drained (suc n) x (refused_none (left x) e)
+drains_on n x h (Err reason) e p again = stays_drained (suc n) x (refused_none (left x) e)
 
 drains_in : (n : ℕ) (x : Reading) → length (left x) ≤ n → Drained (operated (replicate n next_frame) x)
 unfolding operated

@@ -2,12 +2,11 @@
 -- its own length. Assumes nothing.
 use Rattle.prelude.proofs.Basics.{ℕ, zero, suc, ◌≤◌, arith, Bool, true, false, ◌≡◌, refl, sym, ap, ap₂, ◌∙◌, List, []}
 use Rattle.prelude.proofs.Basics.{◌∷◌, ◌++◌, append-nil, append_assoc, length, take, drop, length-append, length-drop}
-use Rattle.prelude.proofs.Basics.{length-take, take-append-drop, take-append-le, eqb-true}
+use Rattle.prelude.proofs.Basics.{length-take, take-append-drop, take-append-le, eqb-true, Ok, Err}
 use mathlib.Core.Path.{subst₃}
 use lib.Seq.{take-append_seam, drop-append_seam}
 use Rattle.protocol.specs.Reason as Reason
-use Rattle.message.specs.declared.head.Head.{Head}
-use Rattle.message.specs.Head.{length_bytes, head_of}
+use Rattle.message.specs.Head.{HeadResult, framed, length_bytes, head_of}
 use Rattle.session.specs.Lists.{All}
 use Rattle.session.proofs.SumLaws.{all_append}
 use Rattle.streams.specs.Reader.{stands_first, bad_first}
@@ -90,7 +89,7 @@ module _ {fs : List (List ℕ)} {l t : List ℕ} (h : Holds fs l t) where
       }
 
   -- the frame that stands first is handed out
-  pub one_out : {kind end : ℕ} → head_of l ≡ Head.Frame kind end → Holds (fs ++ (take end l ∷ [])) (kept (drop end l)) t
+  pub one_out : {kind end : ℕ} → head_of l ≡ framed kind end → Holds (fs ++ (take end l ∷ [])) (kept (drop end l)) t
   one_out {kind} {end} e =
       kept_holds (drop end l) (all_append Whole fs (take end l ∷ []) h.whole (all_one Whole (frame_whole l e)))
       (ap (λ (z : List ℕ). z ++ drop end l) (joined_more fs (take end l))
@@ -109,7 +108,7 @@ none_first : (n : ℕ) (b : List ℕ) → (stands_first b ≡ Reason.accepted �
     stream_from n b ≡ record { frames = []; left = kept b }
 unfolding stream_from
 none_first zero b none = refl
-none_first (suc n) b none = ap (stream_by (stream_from n) b) (refusal b none)
+none_first (suc n) b none = ap (stream_by (stream_from n) b) (refusal b none).1
 
 frames_first : (fs : List (List ℕ)) (n : ℕ) → All Whole fs → length fs ≤ n → (b : List ℕ) →
     (stands_first b ≡ Reason.accepted → ⊥) →
@@ -207,13 +206,14 @@ unfolding stream_from
 from_found zero b h = none_found b (λ z. omega (arith, whole_told b z))
 from_found (suc n) b h = go (head_of b) refl (λ end. from_found n (drop end b))
   where
-    go : (x : Head) → head_of b ≡ x →
+    go : (x : HeadResult) → head_of b ≡ x →
         ((end : ℕ) → length (drop end b) ≤ n → Found (stream_from n (drop end b)) (drop end b)) →
         Found (stream_by (stream_from n) b x) b
-    go (Head.Frame kind end) e on =
+    go (Ok head) e on =
+        let end = head.end in
         also_found (take end b) (frame_whole b e) (take-append-drop end b)
         (on end (omega (arith, length-drop end b, (frame_told b e).ends)))
-    go (Head.Refused reason) e on = none_found b (refused_none b e)
+    go (Err reason) e on = none_found b (refused_none b e)
 
 pub stream_found : (b : List ℕ) → Found (stream b) b
 stream_found b = from_found (length b) b (omega arith)

@@ -1,11 +1,10 @@
 -- Frames as they arrive (N1, N2, N5): a reader "keeps what it has not handed out in a lent 65,536-byte store that only
 -- it writes, takes the next arrival as far as there is room beside that, tells the count taken, and hands out whole
 -- frames".
-use Rattle.std.specs.Prelude.{ℕ, ◌+◌, ◌-◌, min, Bool, cond, ◌&&◌, List, length, take, drop, eqb, leb}
+use Rattle.std.specs.Prelude.{ℕ, ◌+◌, ◌-◌, min, Bool, cond, ◌&&◌, List, length, take, drop, eqb, leb, Ok, Err}
 use Rattle.protocol.specs.Reason as Reason
 use Rattle.encode.specs.Put.{written}
-use Rattle.message.specs.declared.head.Head.{Head}
-use Rattle.message.specs.Head.{length_bytes, head_of, head_reason}
+use Rattle.message.specs.Head.{HeadResult, length_bytes, head_of, head_reason}
 use Rattle.streams.specs.declared.Reader.{Reader}
 use Rattle.streams.specs.declared.Pushed.{Pushed}
 use Rattle.streams.specs.declared.NextFrame.{NextFrame}
@@ -100,17 +99,17 @@ push_of r arrival store = push_at store (usable (length store) r) arrival
 -- ---- the next frame
 
 -- a whole frame that stands first is handed out: its place, its length and its type; else there is none
-abbrev pub next_by : List ℕ → Reader → Head → NextFrame
-next_by store r (Head.Frame kind long) =
+abbrev pub next_by : List ℕ → Reader → HeadResult → NextFrame
+next_by store r (Ok head) =
     record {
-      reader = settled store (reader (r.start + long) r.end);
-      reason = head_reason (Head.Frame kind long);
+      reader = settled store (reader (r.start + head.end) r.end);
+      reason = head_reason (Ok head);
       start = r.start;
-      len = long;
-      kind = kind;
+      len = head.end;
+      kind = head.kind;
     }
-next_by store r (Head.Refused reason) =
-    record { reader = settled store r; reason = head_reason (Head.Refused reason); start = 0; len = 0; kind = 0 }
+next_by store r (Err reason) =
+    record { reader = settled store r; reason = head_reason (Err reason); start = 0; len = 0; kind = 0 }
 
 abbrev pub next_at : List ℕ → Reader → NextFrame
 next_at store r = next_by store r (head_of (part store r))

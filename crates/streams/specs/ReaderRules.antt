@@ -1,9 +1,8 @@
 -- What holds of one push and of one next_frame, for every reader, store and arrival, also of a reader that nobody
 -- made: the bytes held decide everything, and they are what the reader has not handed out.
-use Rattle.std.specs.Prelude.{ℕ, ◌+◌, ◌≤◌, ◌<◌, false, cond, ◌≡◌, List, ◌++◌, ◌⊎◌, length, get_or, take, drop}
+use Rattle.std.specs.Prelude.{ℕ, ◌+◌, ◌≤◌, ◌<◌, false, cond, ◌≡◌, List, ◌++◌, ◌⊎◌, length, get_or, take, drop, Ok, Err}
 use Rattle.protocol.specs.Reason as Reason
-use Rattle.message.specs.declared.head.Head.{Head}
-use Rattle.message.specs.Head.{length_bytes, head_of, length_of, max_length}
+use Rattle.message.specs.Head.{HeadResult, framed, length_bytes, head_of, length_of, max_length}
 use Rattle.streams.specs.declared.Reader.{Reader}
 use Rattle.streams.specs.declared.NextFrame.{NextFrame}
 use Rattle.streams.specs.Reader.{Push, store_size, stands_first}
@@ -32,7 +31,7 @@ PushesBehind = (r : Reader) (arrival store : List ℕ) → Pushes r arrival stor
 
 -- a frame and nothing else: its own length says so
 abbrev pub Whole : List ℕ → Type 0
-Whole frame = head_of frame ≡ Head.Frame (get_or frame length_bytes 0) (length frame)
+Whole frame = head_of frame ≡ framed (get_or frame length_bytes 0) (length frame)
 
 -- the bytes of the store that an answer names
 abbrev pub frame_at : List ℕ → NextFrame → List ℕ
@@ -54,9 +53,9 @@ pub record HandsNone (r : Reader) (store : List ℕ) (why : ℕ) (x : NextFrame)
   pub kind : x.kind ≡ 0
   pub left : held store x.reader ≡ kept (held store r)
 
-abbrev pub Hands : Reader → List ℕ → NextFrame → Head → Type 0
-Hands r store x (Head.Frame type long) = HandsOut r store type long x
-Hands r store x (Head.Refused reason) = HandsNone r store reason x
+abbrev pub Hands : Reader → List ℕ → NextFrame → HeadResult → Type 0
+Hands r store x (Ok head) = HandsOut r store head.kind head.end x
+Hands r store x (Err reason) = HandsNone r store (Reason.number_of reason) x
 
 abbrev pub HandsFirst : Type 0
 HandsFirst = (r : Reader) (store : List ℕ) → Hands r store (next_of r store) (head_of (held store r))

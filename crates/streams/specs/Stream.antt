@@ -1,8 +1,7 @@
 -- What a stream of bytes comes to, whoever reads it: the whole frames that stand one behind the other at its front,
 -- and what is left behind them, a part of a frame or a bad length.
-use Rattle.std.specs.Prelude.{ℕ, zero, suc, List, [], ◌∷◌, ◌++◌, length, take, drop}
-use Rattle.message.specs.declared.head.Head.{Head}
-use Rattle.message.specs.Head.{head_of}
+use Rattle.std.specs.Prelude.{ℕ, zero, suc, List, [], ◌∷◌, ◌++◌, length, take, drop, Ok, Err}
+use Rattle.message.specs.Head.{HeadResult, head_of}
 use Rattle.streams.specs.ReaderRules.{kept}
 
 -- frames one behind the other
@@ -19,9 +18,9 @@ abbrev pub also : List ℕ → Stream → Stream
 also frame x = record { frames = frame ∷ x.frames; left = x.left }
 
 -- a whole frame that stands first, then the rest; of a bad length only its four bytes are left
-abbrev pub stream_by : (List ℕ → Stream) → List ℕ → Head → Stream
-stream_by rest bytes (Head.Frame kind end) = also (take end bytes) (rest (drop end bytes))
-stream_by rest bytes (Head.Refused reason) = record { frames = []; left = kept bytes }
+abbrev pub stream_by : (List ℕ → Stream) → List ℕ → HeadResult → Stream
+stream_by rest bytes (Ok head) = also (take head.end bytes) (rest (drop head.end bytes))
+stream_by rest bytes (Err reason) = record { frames = []; left = kept bytes }
 
 unfoldable pub stream_from : ℕ → List ℕ → Stream
 stream_from zero bytes = record { frames = []; left = kept bytes }

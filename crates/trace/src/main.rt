@@ -2,12 +2,12 @@
 // header, a line for each record and the end's text. Here bytes are moved, and nothing else.
 #![tactic(auto)]
 
-use encode::put::Put;
 use session::Session;
 use std::io;
 use std::io::{Read, Write};
 use std::process::ExitCode;
-use trace_line::printer::{First, MAX_RECORD, Printer};
+use trace_line::printer::{MAX_RECORD, Printer};
+use trace_line::record::RecordError;
 
 const CHUNK: usize = 65536;
 
@@ -16,22 +16,6 @@ const STORE: usize = MAX_RECORD + CHUNK;
 
 const OUTPUT: usize = 65536;
 
-// The session that the records step on, the bytes that are not printed yet, and the lines that go out.
-#[derive(Drop)]
-struct Tables {
-    session: Session,
-    store: [u8; STORE],
-    lines: [u8; OUTPUT],
-}
-
-// The printer, what stands first among the bytes that it holds, and whether there is more to do.
-#[derive(Clone, Copy)]
-struct Run {
-    printer: Printer,
-    first: First,
-    going: bool,
-}
-
 // The call that failed, and why.
 #[derive(Clone, Copy)]
 enum Failure {
@@ -39,107 +23,89 @@ enum Failure {
     Write(io::Error),
 }
 
-fn stopped(printer: Printer) -> Run {
-    Run {
-        printer,
-        first: First::Bad,
-        going: false,
-    }
-}
-
-// Writes the first n bytes, and tells whether there are so many.
-fn write_front(output: &mut impl Write, lines: &[u8], n: usize) -> Result<bool, Failure> {
-    if lines.len() < n {
-        return Ok(false);
-    }
-    output.write_all(&lines[..n]).map_err(Failure::Write)?;
-    Ok(true)
-}
-
-// Writes what was put at the front.
-fn write_put(output: &mut impl Write, lines: &[u8], put: Put) -> Result<bool, Failure> {
-    match put {
-        Put::Next(n) => write_front(output, lines, n),
-        Put::Full => Ok(false),
-    }
-}
-
-// A chunk into the store, and the lines out.
-fn feed(
-    output: &mut impl Write,
+// The session that the records step on; the printer, with the bytes that it has not printed yet and what stands first
+// among them; and the lines that go out.
+#[derive(Drop)]
+struct Trace {
+    session: Session,
     printer: Printer,
-    tables: &mut Tables,
-    chunk: &[u8],
-) -> Result<Run, Failure> {
-    let printed = trace_line::printer::print_chunk(
-        printer,
-        &mut tables.session.words,
-        &mut tables.store,
-        chunk,
-        &mut tables.lines,
-    );
-    let going = write_front(output, &tables.lines, printed.put)?;
-    Ok(Run {
-        printer: printed.printer,
-        first: printed.first,
-        going,
-    })
+    first: Result<(), RecordError>,
+    store: [u8; STORE],
+    lines: [u8; OUTPUT],
 }
 
-fn finish(output: &mut impl Write, printer: Printer, tables: &mut Tables) -> Result<Run, Failure> {
-    let put = trace_line::printer::put_end(printer, &mut tables.lines, 0);
-    write_put(output, &tables.lines, put)?;
-    Ok(stopped(printer))
-}
-
-// The next chunk, or the end of the input. An error is not the end: the end's text is not written.
-fn read_on(
-    input: &mut impl Read,
-    output: &mut impl Write,
-    printer: Printer,
-    tables: &mut Tables,
-    chunk: &mut [u8],
-) -> Result<Run, Failure> {
-    let n = input.read(chunk).map_err(Failure::Read)?;
-    if n == 0 {
-        return finish(output, printer, tables);
+impl Trace {
+    fn new() -> Trace {
+        Trace {
+            session: Session::fresh(),
+            printer: trace_line::printer::start(),
+            first: Err(RecordError::Short),
+            store: [0; STORE],
+            lines: [0; OUTPUT],
+        }
     }
-    feed(output, printer, tables, &chunk[..n])
+
+    // Writes the first n bytes of what was put, which are never more than there is room for.
+    fn write_lines(&self, output: &mut impl Write, n: usize) -> Result<(), Failure> {
+        let n = n.min(self.lines.len());
+        output.write_all(&self.lines[..n]).map_err(Failure::Write)
+    }
+
+    fn write_put(&self, output: &mut impl Write, put: Option<usize>) -> Result<(), Failure> {
+        self.write_lines(output, put.unwrap_or(0))
+    }
+
+    fn start(&mut self, output: &mut impl Write) -> Result<(), Failure> {
+        let put = trace_line::printer::put_header(&mut self.lines, 0);
+        self.write_put(output, put)
+    }
+
+    // A chunk into the store, and the lines out.
+    fn feed(&mut self, output: &mut impl Write, chunk: &[u8]) -> Result<(), Failure> {
+        let printed = trace_line::printer::print_chunk(
+            self.printer,
+            &mut self.session.words,
+            &mut self.store,
+            chunk,
+            &mut self.lines,
+        );
+        self.printer = printed.printer;
+        self.first = printed.first;
+        self.write_lines(output, printed.put)
+    }
+
+    fn finish(&mut self, output: &mut impl Write) -> Result<(), Failure> {
+        let put = trace_line::printer::put_end(self.printer, &mut self.lines, 0);
+        self.write_put(output, put)
+    }
 }
 
-// More lines of what is held, more input, or the end.
-fn turn(
+// The chunk to go on with: an empty one where a whole record is held, else the next of the input. `None` where the
+// input is at its end, or a bad record stands first. An error is not the end: the end's text is not written.
+fn next_chunk<'a>(
     input: &mut impl Read,
-    output: &mut impl Write,
-    run: Run,
-    tables: &mut Tables,
-    chunk: &mut [u8],
-) -> Result<Run, Failure> {
-    match run.first {
-        First::Whole => feed(output, run.printer, tables, b""),
-        First::Short => read_on(input, output, run.printer, tables, chunk),
-        First::Bad => finish(output, run.printer, tables),
+    first: Result<(), RecordError>,
+    chunk: &'a mut [u8],
+) -> Result<Option<&'a [u8]>, Failure> {
+    match first {
+        Ok(()) => Ok(Some(b"")),
+        Err(RecordError::Short) => {
+            let n = input.read(chunk).map_err(Failure::Read)?;
+            Ok(if n == 0 { None } else { Some(&chunk[..n]) })
+        }
+        Err(RecordError::Bad) => Ok(None),
     }
 }
 
 fn print_trace(input: &mut impl Read, output: &mut impl Write) -> Result<(), Failure> {
     let mut chunk = [0u8; CHUNK];
-    let mut tables = Tables {
-        session: Session::fresh(),
-        store: [0; STORE],
-        lines: [0; OUTPUT],
-    };
-    let put = trace_line::printer::put_header(&mut tables.lines, 0);
-    let mut run = Run {
-        printer: trace_line::printer::start(),
-        first: First::Short,
-        going: write_put(output, &tables.lines, put)?,
-    };
+    let mut trace = Trace::new();
+    trace.start(output)?;
     for _ in 0..u64::MAX {
-        if !run.going {
-            break;
-        }
-        run = turn(input, output, run, &mut tables, &mut chunk)?;
+        let Some(bytes) = next_chunk(input, trace.first, &mut chunk)? else {
+            return trace.finish(output);
+        };
+        trace.feed(output, bytes)?;
     }
     Ok(())
 }

@@ -6,12 +6,15 @@ use Rattle.prelude.proofs.Basics.{ltb-false, ltb-true}
 use Rattle.std.proofs.Common.{get_or-append-add}
 use lib.Seq.{drop-append-add}
 use Rattle.varint.proofs.GroupLaws.{groups_none}
-use Rattle.trace_line.proofs.Names.{onto, low64, varint_at, groups, Varint, prepared, result, failed, Report}
+use Rattle.trace_line.proofs.Names.{NumberResult, RecordResult, Result, Ok, Err, RecordError, Short, Bad, whole_record}
+use Rattle.trace_line.proofs.Names.{onto, low64, varint_at, groups, Number, prepared, result, failed, Report}
 use Rattle.trace_line.proofs.Names.{number_of, number_at, and_then, max_frame, max_kind, bare_report, prepared_report}
 use Rattle.trace_line.proofs.Names.{result_report, failed_report, prepared_at, failed_at, rows_at, result_at, report_at}
 use Rattle.trace_line.proofs.Names.{kind_at, frame_at, record_at, shifted, Number, Record}
 use Rattle.trace_line.specs.RecordRules.{ReadsAlike, FrameAlike}
 use Rattle.trace_line.proofs.RecordLaws.{unended_bad}
+use Rattle.std.specs.Prelude.{Option, Some, None}
+use Rattle.varint.specs.Number.{some_number}
 
 -- s stands in t from the place k on
 pub record Holds (k : ℕ) (s t : List ℕ) : Type 0 where
@@ -23,40 +26,41 @@ pub record Holds (k : ℕ) (s t : List ℕ) : Type 0 where
 -- where s ends too soon, t is free
 
 -- a varint; `full`: s has all the bytes that it may take
-abbrev AlikeVarint : Bool → ℕ → Varint → Varint → Type 0
-AlikeVarint full k (Varint.Number v next) y = y ≡ Varint.Number v (k + next)
-AlikeVarint true k Varint.Bad y = y ≡ Varint.Bad
-AlikeVarint false k Varint.Bad y = Unit {0}
+abbrev AlikeVarint : Bool → ℕ → Option Number → Option Number → Type 0
+AlikeVarint full k (Some r) y = y ≡ some_number r.value (k + r.next)
+AlikeVarint true k None y = y ≡ None
+AlikeVarint false k None y = Unit {0}
 
-abbrev AlikeNumber : ℕ → Number → Number → Type 0
-AlikeNumber k (Number.Value v next) y = y ≡ Number.Value v (k + next)
-AlikeNumber k Number.Short y = Unit {0}
-AlikeNumber k Number.Bad y = y ≡ Number.Bad
+abbrev AlikeNumber : ℕ → NumberResult → NumberResult → Type 0
+AlikeNumber k (Ok n) y = y ≡ Ok (record { value = n.value; next = k + n.next })
+AlikeNumber k (Err Short) y = Unit {0}
+AlikeNumber k (Err Bad) y = y ≡ Err Bad
 
-abbrev Alike : ℕ → Record → Record → Type 0
-Alike k (Record.Whole start len report next) y = y ≡ Record.Whole (k + start) len report (k + next)
-Alike k Record.Short y = Unit {0}
-Alike k Record.Bad y = y ≡ Record.Bad
+abbrev Alike : ℕ → RecordResult → RecordResult → Type 0
+Alike k (Ok r) y = y ≡ whole_record (k + r.start) r.len r.report (k + r.next)
+Alike k (Err Short) y = Unit {0}
+Alike k (Err Bad) y = y ≡ Err Bad
 
 -- ---- varints
 
-onto_alike : (full : Bool) (k low : ℕ) (x y : Varint) → AlikeVarint full k x y →
+onto_alike : (full : Bool) (k low : ℕ) (x y : Option Number) → AlikeVarint full k x y →
     AlikeVarint full k (onto low 128 x) (onto low 128 y)
-onto_alike full k low (Varint.Number v next) y e = ap (onto low 128) e
-onto_alike true k low Varint.Bad y e = ap (onto low 128) e
-onto_alike false k low Varint.Bad y e = tt
+onto_alike full k low (Some r) y e = ap (onto low 128) e
+onto_alike true k low None y e = ap (onto low 128) e
+onto_alike false k low None y e = tt
 
-low64_alike : (full : Bool) (k : ℕ) (x y : Varint) → AlikeVarint full k x y → AlikeVarint full k (low64 x) (low64 y)
-low64_alike full k (Varint.Number v next) y e = ap low64 e
-low64_alike true k Varint.Bad y e = ap low64 e
-low64_alike false k Varint.Bad y e = tt
+low64_alike : (full : Bool) (k : ℕ) (x y : Option Number) → AlikeVarint full k x y →
+    AlikeVarint full k (low64 x) (low64 y)
+low64_alike full k (Some r) y e = ap low64 e
+low64_alike true k None y e = ap low64 e
+low64_alike false k None y e = tt
 
-bad_alike : (full : Bool) (k : ℕ) → AlikeVarint full k Varint.Bad Varint.Bad
+bad_alike : (full : Bool) (k : ℕ) → AlikeVarint full k None None
 bad_alike true k = refl
 bad_alike false k = tt
 
 -- s ends here, so it is not full
-end_alike : (full : Bool) (k : ℕ) (y : Varint) → (full ≡ true → ⊥) → AlikeVarint full k Varint.Bad y
+end_alike : (full : Bool) (k : ℕ) (y : Option Number) → (full ≡ true → ⊥) → AlikeVarint full k None y
 end_alike true k y h = absurd (h refl)
 end_alike false k y h = tt
 
@@ -75,8 +79,8 @@ module _ (k : ℕ) (s t : List ℕ) (h : Holds k s t) where
     where
       both-alike : (b : Bool) →
           AlikeVarint full k
-          (cond b (Varint.Number (get_or s at 0) (at + 1)) (onto (get_or s at 0 % 128) 128 (groups n s (at + 1))))
-          (cond b (Varint.Number (get_or s at 0) (k + (at + 1)))
+          (cond b (some_number (get_or s at 0) (at + 1)) (onto (get_or s at 0 % 128) 128 (groups n s (at + 1))))
+          (cond b (some_number (get_or s at 0) (k + (at + 1)))
           (onto (get_or s at 0 % 128) 128 (groups n t (k + (at + 1)))))
       both-alike true = refl
       both-alike false = onto_alike full k (get_or s at 0 % 128) (groups n s (at + 1)) (groups n t (k + (at + 1))) rest
@@ -104,15 +108,15 @@ module _ (k : ℕ) (s t : List ℕ) (h : Holds k s t) where
   -- ---- numbers
 
   -- s has fewer than ten bytes here
-  part-alike : (at : ℕ) → ltb (length s) (at + 10) ≡ true → (x y : Varint) → AlikeVarint false k x y →
+  part-alike : (at : ℕ) → ltb (length s) (at + 10) ≡ true → (x y : Option Number) → AlikeVarint false k x y →
       AlikeNumber k (number_of s at x) (number_of t (k + at) y)
-  part-alike at e (Varint.Number v next) y f = ap (number_of t (k + at)) f
-  part-alike at e Varint.Bad y f = rw e tt
+  part-alike at e (Some r) y f = ap (number_of t (k + at)) f
+  part-alike at e None y f = rw e tt
 
-  full-alike : (at : ℕ) → ltb (length s) (at + 10) ≡ false → (x y : Varint) → AlikeVarint true k x y →
+  full-alike : (at : ℕ) → ltb (length s) (at + 10) ≡ false → (x y : Option Number) → AlikeVarint true k x y →
       AlikeNumber k (number_of s at x) (number_of t (k + at) y)
-  full-alike at e (Varint.Number v next) y f = ap (number_of t (k + at)) f
-  full-alike at e Varint.Bad y f =
+  full-alike at e (Some r) y f = ap (number_of t (k + at)) f
+  full-alike at e None y f =
       rw e
       (ap (number_of t (k + at)) f
       ∙ sym (unended_bad t (k + at) (omega (arith, h.room, ltb-false (length s) (at + 10) e))))
@@ -132,13 +136,14 @@ module _ (k : ℕ) (s t : List ℕ) (h : Holds k s t) where
           (low64_alike true k (groups 10 s at) (groups 10 t (k + at))
           (groups-alike true 10 at (λ y. ltb-false (length s) (at + 10) e)))
 
-  then-alike : (x y : Number) (more more' : ℕ → ℕ → Record) → AlikeNumber k x y →
+  then-alike : (x y : NumberResult) (more more' : ℕ → ℕ → RecordResult) → AlikeNumber k x y →
       ((v next : ℕ) → Alike k (more v next) (more' v (k + next))) → Alike k (and_then x more) (and_then y more')
-  then-alike (Number.Value v next) y more more' e f = rw e (f v next)
-  then-alike Number.Short y more more' e f = tt
-  then-alike Number.Bad y more more' e f = ap (λ (z : Number). and_then z more') e
+  then-alike (Ok n) y more more' e f = rw e (f n.value n.next)
+  then-alike (Err Short) y more more' e f = tt
+  then-alike (Err Bad) y more more' e f = ap (λ (z : NumberResult). and_then z more') e
 
-  either-alike : (b : Bool) (x y x' y' : Record) → Alike k x x' → Alike k y y' → Alike k (cond b x y) (cond b x' y')
+  either-alike : (b : Bool) (x y x' y' : RecordResult) → Alike k x x' → Alike k y y' →
+      Alike k (cond b x y) (cond b x' y')
   either-alike true x y x' y' e f = e
   either-alike false x y x' y' e f = f
 
@@ -147,11 +152,11 @@ module _ (k : ℕ) (s t : List ℕ) (h : Holds k s t) where
   module _ (start len : ℕ) where
     -- a number ends the record
     last-alike : (report : ℕ → Report) (at : ℕ) →
-        Alike k (and_then (number_at s at) (λ v next. Record.Whole start len (report v) next))
-        (and_then (number_at t (k + at)) (λ v next. Record.Whole (k + start) len (report v) next))
+        Alike k (and_then (number_at s at) (λ v next. whole_record start len (report v) next))
+        (and_then (number_at t (k + at)) (λ v next. whole_record (k + start) len (report v) next))
     last-alike report at =
-        then-alike (number_at s at) (number_at t (k + at)) (λ v next. Record.Whole start len (report v) next)
-        (λ v next. Record.Whole (k + start) len (report v) next) (number-alike at) (λ v next. refl)
+        then-alike (number_at s at) (number_at t (k + at)) (λ v next. whole_record start len (report v) next)
+        (λ v next. whole_record (k + start) len (report v) next) (number-alike at) (λ v next. refl)
 
     prepared-alike : (at : ℕ) → Alike k (prepared_at s start len at) (prepared_at t (k + start) len (k + at))
     unfolding prepared_at
@@ -174,7 +179,7 @@ module _ (k : ℕ) (s t : List ℕ) (h : Holds k s t) where
     report-alike : (kind at : ℕ) → Alike k (report_at s start len kind at) (report_at t (k + start) len kind (k + at))
     unfolding report_at
     report-alike kind at =
-        either-alike (ltb max_kind kind) Record.Bad (known s start at) Record.Bad (known t (k + start) (k + at)) refl
+        either-alike (ltb max_kind kind) (Err Bad) (known s start at) (Err Bad) (known t (k + start) (k + at)) refl
         (either-alike (eqb kind prepared) (prepared_at s start len at) (unprepared s start at)
         (prepared_at t (k + start) len (k + at)) (unprepared t (k + start) (k + at)) (prepared-alike at)
         (either-alike (eqb kind result) (result_at s start len at) (unresulting s start at)
@@ -182,16 +187,16 @@ module _ (k : ℕ) (s t : List ℕ) (h : Holds k s t) where
         (either-alike (eqb kind failed) (failed_at s start len at) (bare start at)
         (failed_at t (k + start) len (k + at)) (bare (k + start) (k + at)) (failed-alike at) refl)))
       where
-        bare : ℕ → ℕ → Record
-        bare from p = Record.Whole from len (bare_report kind) p
+        bare : ℕ → ℕ → RecordResult
+        bare from p = whole_record from len (bare_report kind) p
 
-        unresulting : List ℕ → ℕ → ℕ → Record
+        unresulting : List ℕ → ℕ → ℕ → RecordResult
         unresulting l from p = cond (eqb kind failed) (failed_at l from len p) (bare from p)
 
-        unprepared : List ℕ → ℕ → ℕ → Record
+        unprepared : List ℕ → ℕ → ℕ → RecordResult
         unprepared l from p = cond (eqb kind result) (result_at l from len p) (unresulting l from p)
 
-        known : List ℕ → ℕ → ℕ → Record
+        known : List ℕ → ℕ → ℕ → RecordResult
         known l from p = cond (eqb kind prepared) (prepared_at l from len p) (unprepared l from p)
 
     behind-frame : k + start + len ≡ k + (start + len)
@@ -208,14 +213,14 @@ module _ (k : ℕ) (s t : List ℕ) (h : Holds k s t) where
     frame-alike : Alike k (frame_at s len start) (frame_at t len (k + start))
     unfolding frame_at
     frame-alike =
-        either-alike (ltb max_frame len) Record.Bad (there s start) Record.Bad (there t (k + start)) refl
+        either-alike (ltb max_frame len) (Err Bad) (there s start) (Err Bad) (there t (k + start)) refl
         (go (ltb (length s) (start + len)) refl)
       where
-        there : List ℕ → ℕ → Record
-        there l from = cond (ltb (length l) (from + len)) Record.Short (kind_at l from len)
+        there : List ℕ → ℕ → RecordResult
+        there l from = cond (ltb (length l) (from + len)) (Err Short) (kind_at l from len)
 
         go : (b : Bool) → ltb (length s) (start + len) ≡ b →
-            Alike k (cond (ltb (length s) (start + len)) Record.Short (kind_at s start len)) (there t (k + start))
+            Alike k (cond (ltb (length s) (start + len)) (Err Short) (kind_at s start len)) (there t (k + start))
         go true e = rw e tt
         go false e =
             rw (e, le-ltb (length t) (k + start + len) (omega (arith, h.room, ltb-false (length s) (start + len) e)))
@@ -241,12 +246,12 @@ pub reads_alike : ReadsAlike
 reads_alike before s behind at whole-there =
     go (record_at s at) (record-alike (length before) s (before ++ s ++ behind) (held before s behind) at) whole-there
   where
-    go : (x : Record) → Alike (length before) x (record_at (before ++ s ++ behind) (length before + at)) →
-        (x ≡ Record.Short → ⊥) →
+    go : (x : RecordResult) → Alike (length before) x (record_at (before ++ s ++ behind) (length before + at)) →
+        (x ≡ Err Short → ⊥) →
         record_at (before ++ s ++ behind) (length before + at) ≡ shifted (length before) x
-    go (Record.Whole start len report next) e f = e
-    go Record.Short e f = absurd (f refl)
-    go Record.Bad e f = e
+    go (Ok r) e f = e
+    go (Err Short) e f = absurd (f refl)
+    go (Err Bad) e f = e
 
 pub frames_alike : FrameAlike
 frames_alike before s behind start len h =

@@ -5,10 +5,11 @@ use Rattle.prelude.proofs.Basics.{ap, ◌∙◌, ◌⊎◌, inl, inr, ⊎_elim, 
 use Rattle.prelude.proofs.Basics.{take, drop, length-append, length-drop, length-take, drop-append-le, length-take-le}
 use Rattle.prelude.proofs.Basics.{take_at, leb}
 use Rattle.encode.proofs.PutLaws.{drop_written}
-use Rattle.trace_line.proofs.Names.{groups, Session, written, length_written, step_of, Report, line_of, end_text}
+use Rattle.trace_line.proofs.Names.{RecordResult, Result, Ok, Err, RecordError, Short, Bad, whole_record}
+use Rattle.trace_line.proofs.Names.{groups, Session, written, length_written, step_of, line_of, end_text}
 use Rattle.trace_line.proofs.Names.{Lines, header, no_line, also, number_behind, Behind, on_record, lines_from}
 use Rattle.trace_line.proofs.Names.{first_of, stands_first, max_line, lines_within, print_of, number_at, record_at}
-use Rattle.trace_line.proofs.Names.{Within, shifted, line_after, reply_buffer, First, Printer, Record}
+use Rattle.trace_line.proofs.Names.{Within, shifted, line_after, reply_buffer, Printer, Record}
 use Rattle.trace_line.specs.Output.{line_then, lines_of, output_of}
 use Rattle.trace_line.specs.Printer.{held_by, taken_count}
 use Rattle.trace_line.specs.Chunks.{Call, Printing, called, calls, begun, printing, written_by, held_then, Ended}
@@ -18,14 +19,13 @@ use Rattle.trace_line.proofs.AlikeLaws.{reads_alike, frames_alike}
 
 -- ---- a record with more bytes behind it
 
-shifted_none : (x : Record) → shifted 0 x ≡ x
-shifted_none (Record.Whole start len report next) =
-    ap (λ (i : ℕ). Record.Whole i len report (0 + next)) (zero-add start)
-    ∙ ap (λ (i : ℕ). Record.Whole start len report i) (zero-add next)
-shifted_none Record.Short = refl
-shifted_none Record.Bad = refl
+shifted_none : (x : RecordResult) → shifted 0 x ≡ x
+shifted_none (Ok r) =
+    ap (λ (i : ℕ). whole_record i r.len r.report (0 + r.next)) (zero-add r.start)
+    ∙ ap (λ (i : ℕ). whole_record r.start r.len r.report i) (zero-add r.next)
+shifted_none (Err e) = refl
 
-pub more_behind : (s more : List ℕ) → (record_at s 0 ≡ Record.Short → ⊥) → record_at (s ++ more) 0 ≡ record_at s 0
+pub more_behind : (s more : List ℕ) → (record_at s 0 ≡ Err Short → ⊥) → record_at (s ++ more) 0 ≡ record_at s 0
 more_behind s more h = reads_alike [] s more 0 h ∙ shifted_none (record_at s 0)
 
 frame_behind : (s more : List ℕ) (start len : ℕ) → start + len ≤ length s →
@@ -33,15 +33,15 @@ frame_behind : (s more : List ℕ) (start len : ℕ) → start + len ≤ length 
 frame_behind s more start len h =
     ap (λ (i : ℕ). take len (drop i (s ++ more))) (sym (zero-add start)) ∙ frames_alike [] s more start len h
 
-not_short : {x : Record} {start len next : ℕ} {report : Report} → x ≡ Record.Whole start len report next →
-    x ≡ Record.Short → ⊥
-not_short {start = start} {len = len} {next = next} {report = report} e f =
-    let z : Record.Whole start len report next ≡ Record.Short = sym e ∙ f in
+not_short : {x : RecordResult} {r : Record} → x ≡ Ok r → x ≡ Err Short → ⊥
+not_short {r = r} e f =
+    let z : ◌≡◌ {A = RecordResult} (Ok r) (Err Short) = sym e ∙ f in
     let y : ◌≡◌ {A = ℕ} 0 1 = cc in omega arith
 
-bad_not_short : {x : Record} → x ≡ Record.Bad → x ≡ Record.Short → ⊥
+bad_not_short : {x : RecordResult} → x ≡ Err Bad → x ≡ Err Short → ⊥
 bad_not_short e f =
-    let z : Record.Bad ≡ Record.Short = sym e ∙ f in let y : ◌≡◌ {A = ℕ} 0 1 = cc in omega arith
+    let z : ◌≡◌ {A = RecordResult} (Err Bad) (Err Short) = sym e ∙ f in
+    let y : ◌≡◌ {A = ℕ} 0 1 = cc in omega arith
 
 -- ---- as many records as there are: more does not matter
 
@@ -51,11 +51,10 @@ also_also xs ys z =
     (sym (append_assoc xs ys z.lines))
 
 -- no record is whole
-none_whole : (rest : Behind) (session : Session) (n : ℕ) (s : List ℕ) (x : Record) → Within s 0 x → length s ≤ 0 →
-    on_record rest session n s x ≡ no_line session n s
-none_whole rest session n s (Record.Whole start len report next) w h = absurd (omega (arith, w.0, w.1, w.2))
-none_whole rest session n s Record.Short w h = refl
-none_whole rest session n s Record.Bad w h = refl
+none_whole : (rest : Behind) (session : Session) (n : ℕ) (s : List ℕ) (x : RecordResult) → Within s 0 x →
+    length s ≤ 0 → on_record rest session n s x ≡ no_line session n s
+none_whole rest session n s (Ok r) w h = absurd (omega (arith, w.0, w.1, w.2))
+none_whole rest session n s (Err e) w h = refl
 
 no_bytes : (k : ℕ) (session : Session) (n : ℕ) (s : List ℕ) → length s ≤ 0 →
     lines_from k session n s ≡ no_line session n s
@@ -71,18 +70,17 @@ enough zero j session n s h g = sym (no_bytes j session n s h)
 enough (suc k) zero session n s h g = no_bytes (suc k) session n s g
 enough (suc k) (suc j) session n s h g = go (record_at s 0) (records_within s 0) (enough k j)
   where
-    go : (x : Record) → Within s 0 x →
+    go : (x : RecordResult) → Within s 0 x →
         ((session : Session) (n : ℕ) (s : List ℕ) → length s ≤ k → length s ≤ j →
         lines_from k session n s ≡ lines_from j session n s) →
         on_record (λ line. lines_from k) session n s x ≡ on_record (λ line. lines_from j) session n s x
-    go (Record.Whole start len report next) w same =
-        let t = step_of session (take len (drop start s)) report reply_buffer in
-        let l = length-drop next s in
+    go (Ok r) w same =
+        let t = step_of session (take r.len (drop r.start s)) r.report reply_buffer in
+        let l = length-drop r.next s in
         ap (also (line_of (line_after n t)))
-        (same t.session (number_behind n) (drop next s) (omega (arith, w.0, w.1, w.2, l))
+        (same t.session (number_behind n) (drop r.next s) (omega (arith, w.0, w.1, w.2, l))
         (omega (arith, w.0, w.1, w.2, l)))
-    go Record.Short w same = refl
-    go Record.Bad w same = refl
+    go (Err e) w same = refl
 
 -- ---- more bytes come
 
@@ -98,30 +96,30 @@ module _ (more : List ℕ) where
   stays session n s k j h g = enough k j session n (s ++ more) h g
 
   -- one record, and then the others
-  one_more : (rest : Behind) (session : Session) (n : ℕ) (s : List ℕ) (start len next : ℕ) (report : Report) →
-      record_at s 0 ≡ Record.Whole start len report next → Within s 0 (Record.Whole start len report next) →
-      let t = step_of session (take len (drop start s)) report reply_buffer in
+  one_more : (rest : Behind) (session : Session) (n : ℕ) (s : List ℕ) (r : Record) → record_at s 0 ≡ Ok r →
+      Within s 0 (Ok r) →
+      let t = step_of session (take r.len (drop r.start s)) r.report reply_buffer in
       let line = line_of (line_after n t) in
-      Continues t.session (number_behind n) (drop next s) (rest line t.session (number_behind n) (drop next s)) →
-      Continues session n s (on_record rest session n s (Record.Whole start len report next))
+      Continues t.session (number_behind n) (drop r.next s) (rest line t.session (number_behind n) (drop r.next s)) →
+      Continues session n s (on_record rest session n s (Ok r))
   unfolding lines_from
-  one_more rest session n s start len next report e w on zero j h g =
+  one_more rest session n s r e w on zero j h g =
       absurd (omega (arith, length-append s more, w.0, w.1, w.2))
-  one_more rest session n s start len next report e w on (suc k) j h g =
-      let t = step_of session (take len (drop start s)) report reply_buffer in
+  one_more rest session n s r e w on (suc k) j h g =
+      let t = step_of session (take r.len (drop r.start s)) r.report reply_buffer in
       let line = line_of (line_after n t) in
-      let x = rest line t.session (number_behind n) (drop next s) in
+      let x = rest line t.session (number_behind n) (drop r.next s) in
       let after : Lines = lines_from j x.session x.n (x.left ++ more) in
       ap (on_record (λ line. lines_from k) session n (s ++ more)) (more_behind s more (not_short e) ∙ e)
       ∙ ap (λ (f : List ℕ).
-      line_then (λ line. lines_from k) n (drop next (s ++ more)) (step_of session f report reply_buffer))
-      (frame_behind s more start len (omega (arith, w.1, w.2)))
+      line_then (λ line. lines_from k) n (drop r.next (s ++ more)) (step_of session f r.report reply_buffer))
+      (frame_behind s more r.start r.len (omega (arith, w.1, w.2)))
       ∙ ap (λ (l : List ℕ). also line (lines_from k t.session (number_behind n) l))
-      (drop-append-le next s more w.2)
+      (drop-append-le r.next s more w.2)
       ∙ ap (also line) (on k j fewer g)
       ∙ also_also line x.lines after
     where
-      fewer : length (drop next s ++ more) ≤ k
+      fewer : length (drop r.next s ++ more) ≤ k
       fewer = rw (length-append, length-drop) (omega (arith, length-append s more, w.0, w.1, w.2))
 
   pub continues : (m room : ℕ) (session : Session) (n : ℕ) (s : List ℕ) →
@@ -134,17 +132,16 @@ module _ (more : List ℕ) where
       rest : Behind
       rest line = lines_within m (room - length line)
 
-      go : (b : Bool) (x : Record) → record_at s 0 ≡ x → Within s 0 x →
+      go : (b : Bool) (x : RecordResult) → record_at s 0 ≡ x → Within s 0 x →
           ((line : List ℕ) (session : Session) (n : ℕ) (s : List ℕ) →
           Continues session n s (lines_within m (room - length line) session n s)) →
           Continues session n s (cond b (on_record rest session n s x) (no_line session n s))
       go false x e w on = stays session n s
-      go true (Record.Whole start len report next) e w on =
-          let t = step_of session (take len (drop start s)) report reply_buffer in
+      go true (Ok r) e w on =
+          let t = step_of session (take r.len (drop r.start s)) r.report reply_buffer in
           let line = line_of (line_after n t) in
-          one_more rest session n s start len next report e w (on line t.session (number_behind n) (drop next s))
-      go true Record.Short e w on = stays session n s
-      go true Record.Bad e w on = stays session n s
+          one_more rest session n s r e w (on line t.session (number_behind n) (drop r.next s))
+      go true (Err error) e w on = stays session n s
 
 -- what is left is no more than there was
 pub left_within : (m room : ℕ) (session : Session) (n : ℕ) (s : List ℕ) →
@@ -157,17 +154,16 @@ left_within (suc m) room session n s =
     rest : Behind
     rest line = lines_within m (room - length line)
 
-    go : (b : Bool) (x : Record) →
+    go : (b : Bool) (x : RecordResult) →
         ((line : List ℕ) (session : Session) (n : ℕ) (s : List ℕ) →
         length (lines_within m (room - length line) session n s).left ≤ length s) →
         length (cond b (on_record rest session n s x) (no_line session n s)).left ≤ length s
     go false x on = omega arith
-    go true (Record.Whole start len report next) on =
-        let t = step_of session (take len (drop start s)) report reply_buffer in
+    go true (Ok r) on =
+        let t = step_of session (take r.len (drop r.start s)) r.report reply_buffer in
         let line = line_of (line_after n t) in
-        omega (arith, length-drop next s, on line t.session (number_behind n) (drop next s))
-    go true Record.Short on = omega arith
-    go true Record.Bad on = omega arith
+        omega (arith, length-drop r.next s, on line t.session (number_behind n) (drop r.next s))
+    go true (Err e) on = omega arith
 
 -- ---- one call
 
@@ -271,41 +267,39 @@ calls_traces (c ∷ cs) x h = calls_traces cs (called c x) (called_traces c x h)
 
 -- ---- the end
 
-nothing_short : record_at [] 0 ≡ Record.Short
+nothing_short : record_at [] 0 ≡ Err Short
 unfolding record_at number_at groups
 nothing_short = refl
 
-pub first_short : (s : List ℕ) → stands_first s ≡ First.Short → record_at s 0 ≡ Record.Short
+pub first_short : (s : List ℕ) → stands_first s ≡ Err Short → record_at s 0 ≡ Err Short
 unfolding stands_first
 first_short s e = go (record_at s 0) e
   where
-    go : (x : Record) → first_of x ≡ First.Short → x ≡ Record.Short
-    go (Record.Whole start len report next) f = absurd (let z : ◌≡◌ {A = ℕ} 0 1 = cc in omega arith)
-    go Record.Short f = refl
-    go Record.Bad f = absurd (let z : ◌≡◌ {A = ℕ} 0 1 = cc in omega arith)
+    go : (x : RecordResult) → first_of x ≡ Err Short → x ≡ Err Short
+    go (Ok r) f = absurd (let z : ◌≡◌ {A = ℕ} 0 1 = cc in omega arith)
+    go (Err e) f = cc
 
-first_bad : (s : List ℕ) → stands_first s ≡ First.Bad → record_at s 0 ≡ Record.Bad
+first_bad : (s : List ℕ) → stands_first s ≡ Err Bad → record_at s 0 ≡ Err Bad
 unfolding stands_first
 first_bad s e = go (record_at s 0) e
   where
-    go : (x : Record) → first_of x ≡ First.Bad → x ≡ Record.Bad
-    go (Record.Whole start len report next) f = absurd (let z : ◌≡◌ {A = ℕ} 0 1 = cc in omega arith)
-    go Record.Short f = absurd (let z : ◌≡◌ {A = ℕ} 0 1 = cc in omega arith)
-    go Record.Bad f = refl
+    go : (x : RecordResult) → first_of x ≡ Err Bad → x ≡ Err Bad
+    go (Ok r) f = absurd (let z : ◌≡◌ {A = ℕ} 0 1 = cc in omega arith)
+    go (Err e) f = cc
 
-none_printed : (rest : Behind) (session : Session) (n : ℕ) (s : List ℕ) (x : Record) →
-    (x ≡ Record.Short) ⊎ (x ≡ Record.Bad) → on_record rest session n s x ≡ no_line session n s
+none_printed : (rest : Behind) (session : Session) (n : ℕ) (s : List ℕ) (x : RecordResult) →
+    (x ≡ Err Short) ⊎ (x ≡ Err Bad) → on_record rest session n s x ≡ no_line session n s
 none_printed rest session n s x = ⊎_elim (λ e. rw e refl) (λ e. rw e refl)
 
 none_from : (k : ℕ) (session : Session) (n : ℕ) (s : List ℕ) →
-    (record_at s 0 ≡ Record.Short) ⊎ (record_at s 0 ≡ Record.Bad) →
+    (record_at s 0 ≡ Err Short) ⊎ (record_at s 0 ≡ Err Bad) →
     lines_from k session n s ≡ no_line session n s
 unfolding lines_from
 none_from zero session n s e = refl
 none_from (suc k) session n s e = none_printed (λ line. lines_from k) session n s (record_at s 0) e
 
 -- a bad record has a byte, so `cut` is written whatever stands behind it
-cut_alike : (s more : List ℕ) → record_at s 0 ≡ Record.Bad → end_text (length s) ≡ end_text (length (s ++ more))
+cut_alike : (s more : List ℕ) → record_at s 0 ≡ Err Bad → end_text (length s) ≡ end_text (length (s ++ more))
 unfolding end_text
 cut_alike [] more e = absurd (bad_not_short e nothing_short)
 cut_alike (b ∷ s) more e = refl
@@ -324,7 +318,7 @@ module _ (x : Printing) (h : Traces x) where
 
   -- no whole record is held: nothing is printed of what is held and what was not taken
   none-behind : (more : List ℕ) →
-      (record_at (held_then x ++ more) 0 ≡ Record.Short) ⊎ (record_at (held_then x ++ more) 0 ≡ Record.Bad) →
+      (record_at (held_then x ++ more) 0 ≡ Err Short) ⊎ (record_at (held_then x ++ more) 0 ≡ Err Bad) →
       lines_of (x.taken ++ more) ≡ also x.lines (no_line x.session x.printer.n (held_then x ++ more))
   none-behind more e =
       h.whole more
@@ -334,7 +328,7 @@ module _ (x : Printing) (h : Traces x) where
   ended : (untaken : List ℕ) → Ended x untaken → written_by x ≡ output_of (x.taken ++ untaken)
   ended untaken = ⊎_elim short bad
     where
-      short : (stands_first (held_then x) ≡ First.Short) × (untaken ≡ []) → written_by x ≡ output_of (x.taken ++ untaken)
+      short : (stands_first (held_then x) ≡ Err Short) × (untaken ≡ []) → written_by x ≡ output_of (x.taken ++ untaken)
       short e =
           let same : held_then x ++ untaken ≡ held_then x =
           ap (λ (l : List ℕ). held_then x ++ l) e.1 ∙ append-nil (held_then x) in
@@ -342,7 +336,7 @@ module _ (x : Printing) (h : Traces x) where
           (none-behind untaken (inl (ap (λ (l : List ℕ). record_at l 0) same ∙ first_short (held_then x) e.0)))
           (ap end_text (sym held-length ∙ ap length (sym same)))
 
-      bad : stands_first (held_then x) ≡ First.Bad → written_by x ≡ output_of (x.taken ++ untaken)
+      bad : stands_first (held_then x) ≡ Err Bad → written_by x ≡ output_of (x.taken ++ untaken)
       bad e =
           let b = first_bad (held_then x) e in
           output_as x (x.taken ++ untaken) (held_then x ++ untaken)

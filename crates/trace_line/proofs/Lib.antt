@@ -1,7 +1,6 @@
 mod Names
 pub mod AlikeLaws
 pub mod ChunkLaws
-pub mod EndLaws
 pub mod LineLaws
 pub mod MarkLaws
 pub mod PrintLaws

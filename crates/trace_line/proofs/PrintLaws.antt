@@ -3,7 +3,7 @@ use Rattle.prelude.proofs.Basics.{ℕ, ◌+◌, ◌-◌, ◌≤◌, min, arith, 
 use Rattle.prelude.proofs.Basics.{take, drop, length-append, length-drop, length-take, take-append-drop, drop_at}
 use Rattle.prelude.proofs.Basics.{length-take-le, take-add, take_at, le-leb}
 use Rattle.trace_line.proofs.Names.{Session, written, put_fits, length_written, Lines, stands_first, lines_within}
-use Rattle.trace_line.proofs.Names.{print_of, First, Printer, Walk}
+use Rattle.trace_line.proofs.Names.{print_of, Printer, Walk, Result, RecordError}
 use Rattle.trace_line.specs.declared.printer.Printed.{Printed}
 use Rattle.trace_line.specs.private.Walk.{Walks}
 use Rattle.trace_line.specs.Printer.{Print}
@@ -31,7 +31,7 @@ abbrev pub Gives : Printed → Session → List ℕ → List ℕ → List ℕ �
 Gives r session store out after x =
     (r ≡ x.answer) × ((session ≡ x.session) × ((store ≡ x.store) × (after ≡ written out 0 x.lines)))
 
-abbrev answer : ℕ → ℕ → ℕ → ℕ → First → Printed
+abbrev answer : ℕ → ℕ → ℕ → ℕ → Result (Unit {0}) RecordError → Printed
 answer n held taken put first =
     record { printer = record { n = n; held = held }; taken = taken; put = put; first = first }
 
@@ -88,7 +88,7 @@ module _ (p : Printer) (session : Session) (store chunk out : List ℕ) where
           length-append (have p store chunk) (came p store chunk),
         )
 
-    gives_all : {first : First} {store₂ : List ℕ} →
+    gives_all : {first : Result (Unit {0}) RecordError} {store₂ : List ℕ} →
         first ≡ stands_first (take (end - w.at) (drop w.at store₁)) →
         store₂ ≡ written store₁ 0 (take (end - w.at) (drop w.at store₁)) →
         Gives (answer w.n (end - w.at) (length (came p store chunk)) w.to first) session₁ store₂ out out₁
@@ -113,7 +113,8 @@ module _ (p : Printer) (session : Session) (store chunk out : List ℕ) where
         fits = omega (arith, g.room)
 
   -- the same in the code's words
-  pub printed : {h k : ℕ} {stored after : List ℕ} {w : Walk} {session₁ : Session} {out₁ : List ℕ} {first : First} →
+  pub printed : {h k : ℕ} {stored after : List ℕ} {w : Walk} {session₁ : Session} {out₁ : List ℕ}
+      {first : Result (Unit {0}) RecordError} →
       h ≡ min p.held (length store) → k ≡ min (length chunk) (length store - h) →
       stored ≡ written store h (take k chunk) →
       Walks (take (h + k) stored) out

@@ -1,81 +1,75 @@
 -- Records, case by case. Assumes nothing.
-use Rattle.prelude.proofs.Basics.{ℕ, ◌+◌, ◌≤◌, ◌<◌, cond, ◌≡◌, refl, sym, ap, ◌∙◌, List, length, ltb, le-ltb, lt-ltb}
-use Rattle.prelude.proofs.Basics.{ne_eqb, yes, no as without}
-use Rattle.trace_line.proofs.Names.{varint_at, Varint, prepared, result, failed, Report, number_of, number_at}
-use Rattle.trace_line.proofs.Names.{and_then, max_frame, max_kind, bare_report, prepared_at, failed_at, rows_at}
-use Rattle.trace_line.proofs.Names.{result_at, report_at, kind_at, frame_at, Number, Record}
+use Rattle.prelude.proofs.Basics.{ℕ, ◌+◌, ◌≤◌, Bool, true, false, cond, ◌≡◌, refl, ap, ◌∙◌, List, length, ltb, le-ltb}
+use Rattle.prelude.proofs.Basics.{eqb, no as without}
+use Rattle.trace_line.proofs.Names.{NumberResult, RecordResult, Result, Ok, Err}
+use Rattle.trace_line.proofs.Names.{prepared, result, failed, Report, number_at}
+use Rattle.trace_line.proofs.Names.{and_then, max_frame, max_kind, prepared_report, result_report}
+use Rattle.trace_line.proofs.Names.{failed_report, whole_record, prepared_at, failed_at, rows_at, result_at, report_at}
+use Rattle.trace_line.proofs.Names.{kind_at, frame_at, Number, Record, RecordError, Short, Bad}
 use Rattle.trace_line.specs.Record.{unended}
-use Rattle.trace_line.specs.private.Last.{last_at}
+use Rattle.trace_line.specs.declared.record.Told.{Told}
+use Rattle.trace_line.specs.private.Told.{then_told, last_told, told_at}
 
 -- ---- numbers
 
 module _ (s : List ℕ) (at : ℕ) where
-  pub unended_short : length s < at + 10 → Number.Short ≡ unended s at
-  unended_short h = yes Number.Short Number.Bad (lt-ltb (length s) (at + 10) h)
+  pub unended_bad : at + 10 ≤ length s → Err Bad ≡ unended s at
+  unended_bad h = without (Err Short) (Err Bad) (le-ltb (length s) (at + 10) h)
 
-  pub unended_bad : at + 10 ≤ length s → Number.Bad ≡ unended s at
-  unended_bad h = without Number.Short Number.Bad (le-ltb (length s) (at + 10) h)
+-- ---- the frame in front of a report
 
-  pub number_is : {x : Varint} → x ≡ varint_at s at → number_of s at x ≡ number_at s at
-  unfolding number_at
-  number_is e = ap (number_of s at) e
+abbrev pub with_frame : ℕ → ℕ → Result Told RecordError → RecordResult
+with_frame start len (Ok t) = whole_record start len t.report t.next
+with_frame start len (Err e) = Err e
 
--- ---- a number, and what it leads to
+module _ (s : List ℕ) (start len : ℕ) where
+  either_framed : (b : Bool) (x y : Result Told RecordError) {x' y' : RecordResult} →
+      with_frame start len x ≡ x' → with_frame start len y ≡ y' → with_frame start len (cond b x y) ≡ cond b x' y'
+  either_framed true x y e f = e
+  either_framed false x y e f = f
 
-pub then_is : (more : ℕ → ℕ → Record) {r x y : Number} → r ≡ x → r ≡ y → and_then x more ≡ and_then y more
-then_is more e f = ap (λ (z : Number). and_then z more) (sym e ∙ f)
+  last_framed : (report : ℕ → Report) (x : NumberResult) →
+      with_frame start len (then_told x (last_told report))
+      ≡ and_then x (λ v next. whole_record start len (report v) next)
+  last_framed report (Ok n) = refl
+  last_framed report (Err e) = refl
 
-pub whole_as : {start len next : ℕ} {x y : Report} {z : Record} → x ≡ y → Record.Whole start len y next ≡ z →
-    Record.Whole start len x next ≡ z
-whole_as {start} {len} {next} e f = ap (λ (w : Report). Record.Whole start len w next) e ∙ f
+  rows_framed : (x : NumberResult) →
+      with_frame start len
+      (then_told x (λ columns. then_told (number_at s columns.next) (last_told (result_report columns.value))))
+      ≡ and_then x (λ columns p. rows_at s start len columns p)
+  unfolding rows_at
+  rows_framed (Ok n) = last_framed (result_report n.value) (number_at s n.next)
+  rows_framed (Err e) = refl
 
--- ---- a report, by its kind
-
-pub report_bad : (s : List ℕ) (start len kind at : ℕ) → max_kind < kind → Record.Bad ≡ report_at s start len kind at
-unfolding report_at
-report_bad s start len kind at h = rw (lt-ltb max_kind kind h)
-
-module _ (s : List ℕ) (start len at : ℕ) where
-  pub report_prepared : {kind : ℕ} → kind ≡ prepared → last_at s start len prepared 0 at ≡ report_at s start len kind at
-  unfolding report_at prepared_at last_at
-  report_prepared e = rw e
-
-  pub report_result : {kind : ℕ} → kind ≡ result → result_at s start len at ≡ report_at s start len kind at
-  unfolding report_at
-  report_result e = rw e
-
-  pub report_failed : {kind : ℕ} → kind ≡ failed → last_at s start len failed 0 at ≡ report_at s start len kind at
-  unfolding report_at failed_at last_at
-  report_failed e = rw e
-
-  pub last_rows : (columns : ℕ) → last_at s start len result columns at ≡ rows_at s start len columns at
-  unfolding last_at rows_at
-  last_rows columns = refl
-
-pub report_bare : (s : List ℕ) (start len kind at : ℕ) → kind ≤ max_kind → (kind ≡ prepared → ⊥) → (kind ≡ result → ⊥) →
-    (kind ≡ failed → ⊥) → Record.Whole start len (bare_report kind) at ≡ report_at s start len kind at
-unfolding report_at
-report_bare s start len kind at h a b c =
-    rw (le-ltb max_kind kind h, ne_eqb kind prepared a, ne_eqb kind result b, ne_eqb kind failed c)
+  report_framed : (kind at : ℕ) → with_frame start len (told_at s kind at) ≡ report_at s start len kind at
+  unfolding told_at report_at prepared_at failed_at result_at
+  report_framed kind at =
+      either_framed (ltb max_kind kind) _ _ refl
+      (either_framed (eqb kind prepared) _ _ (last_framed prepared_report (number_at s at))
+      (either_framed (eqb kind result) _ _ (rows_framed (number_at s at))
+      (either_framed (eqb kind failed) _ _ (last_framed failed_report (number_at s at)) refl)))
 
 -- ---- a frame
 
 module _ (s : List ℕ) (len start : ℕ) where
-  abbrev there : Record
-  there = cond (ltb (length s) (start + len)) Record.Short (kind_at s start len)
+  abbrev there : RecordResult
+  there = cond (ltb (length s) (start + len)) (Err Short) (kind_at s start len)
 
-  pub frame_bad : max_frame < len → Record.Bad ≡ frame_at s len start
-  unfolding frame_at
-  frame_bad h = yes Record.Bad there (lt-ltb max_frame len h)
-
-  pub frame_short : len ≤ max_frame → length s < start + len → Record.Short ≡ frame_at s len start
-  unfolding frame_at
-  frame_short h g =
-      yes Record.Short (kind_at s start len) (lt-ltb (length s) (start + len) g)
-      ∙ without Record.Bad there (le-ltb max_frame len h)
-
-  pub frame_whole : len ≤ max_frame → start + len ≤ length s → kind_at s start len ≡ frame_at s len start
+  frame_whole : len ≤ max_frame → start + len ≤ length s → kind_at s start len ≡ frame_at s len start
   unfolding frame_at
   frame_whole h g =
-      without Record.Short (kind_at s start len) (le-ltb (length s) (start + len) g)
-      ∙ without Record.Bad there (le-ltb max_frame len h)
+      without (Err Short) (kind_at s start len) (le-ltb (length s) (start + len) g)
+      ∙ without (Err Bad) there (le-ltb max_frame len h)
+
+  -- what stands behind the frame: its kind first
+  kind_is : {x : NumberResult} → len ≤ max_frame → start + len ≤ length s →
+      x ≡ number_at s (start + len) → and_then x (report_at s start len) ≡ frame_at s len start
+  unfolding kind_at
+  kind_is h g e = ap (λ (y : NumberResult). and_then y (report_at s start len)) e ∙ frame_whole h g
+
+  pub report_is : {kind : Number} {x : Result Told RecordError} → len ≤ max_frame → start + len ≤ length s →
+      Ok kind ≡ number_at s (start + len) → x ≡ told_at s kind.value kind.next →
+      with_frame start len x ≡ frame_at s len start
+  report_is {kind} h g e f =
+      ap (with_frame start len) f ∙ report_framed s start len kind.value kind.next ∙ kind_is h g e

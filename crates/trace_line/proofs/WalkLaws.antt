@@ -1,14 +1,15 @@
 -- Lines put one behind the other: where the loop stands. Assumes nothing.
 use Rattle.prelude.proofs.Basics.{ℕ, zero, suc, ◌+◌, ◌-◌, ◌≤◌, ◌<◌, arith, Bool, true, false, cond, ◌≡◌, refl, sym, ap}
-use Rattle.prelude.proofs.Basics.{subst, ◌∙◌, ◌⊎◌, ⊎_elim, List, [], ◌++◌, append-nil, length, take, drop}
+use Rattle.prelude.proofs.Basics.{subst, ◌∙◌, List, [], ◌++◌, append-nil, length, take, drop}
 use Rattle.prelude.proofs.Basics.{length-append, length-drop, drop-drop, take_all, leb, le-leb, lt-leb}
-use Rattle.encode.specs.Put.{place_behind}
+use Rattle.std.specs.Prelude.{unwrap_or}
 use Rattle.encode.specs.Puts.{Puts}
 use Rattle.encode.proofs.PutsLaws.{puts_nothing}
-use Rattle.trace_line.proofs.Names.{Session, put_at, written, Put, put_fits, length_written, puts_then, Step}
-use Rattle.trace_line.proofs.Names.{step_of, Report, line_of, Lines, no_line, also, number_behind, Behind, on_record}
+use Rattle.trace_line.proofs.Names.{RecordResult, Result, Ok, Err, RecordError}
+use Rattle.trace_line.proofs.Names.{Session, put_at, written, Option, put_fits, length_written, puts_then, Step}
+use Rattle.trace_line.proofs.Names.{step_of, line_of, Lines, no_line, also, number_behind, Behind, on_record}
 use Rattle.trace_line.proofs.Names.{max_line, lines_within, record_at, Within, line_after, reply_buffer, trace_of}
-use Rattle.trace_line.proofs.Names.{trace_at, RecordEnd, Traced, Walk, Record}
+use Rattle.trace_line.proofs.Names.{trace_at, Traced, Walk, Record}
 use Rattle.trace_line.specs.private.Walk.{Walks}
 use Rattle.trace_line.proofs.LineLaws.{line_within}
 use Rattle.trace_line.proofs.TraceLaws.{Gives}
@@ -16,11 +17,11 @@ use Rattle.trace_line.proofs.WithinLaws.{records_within}
 use Rattle.trace_line.proofs.ChunkLaws.{also_also}
 
 -- bytes that have room: the place behind them
-puts_behind : {b bs b₁ : List ℕ} {at : ℕ} {p : Put} → at + length bs ≤ length b → p ≡ put_at b at bs →
-    b₁ ≡ written b at bs → (place_behind p ≡ at + length bs) × Puts b at bs (place_behind p) b₁
+puts_behind : {b bs b₁ : List ℕ} {at : ℕ} {p : Option ℕ} → at + length bs ≤ length b → p ≡ put_at b at bs →
+    b₁ ≡ written b at bs → (unwrap_or p 0 ≡ at + length bs) × Puts b at bs (unwrap_or p 0) b₁
 puts_behind {b} {bs} {b₁} {at} {p} h e g =
     let w = put_fits b at bs h in
-    let end : place_behind p ≡ at + length bs = ap place_behind (e ∙ sym w.0) in
+    let end : unwrap_or p 0 ≡ at + length bs = ap (λ (o : Option ℕ). unwrap_or o 0) (e ∙ sym w.0) in
     (end, record { behind = omega arith; stored = g ∙ sym w.1 })
 
 -- ---- lines within some room, one record at a time
@@ -31,13 +32,12 @@ unfolding lines_within
 none_within zero room session n s h = refl
 none_within (suc m) room session n s h = go (leb max_line room) (record_at s 0) (records_within s 0)
   where
-    go : (b : Bool) (x : Record) → Within s 0 x →
+    go : (b : Bool) (x : RecordResult) → Within s 0 x →
         cond b (on_record (λ line. lines_within m (room - length line)) session n s x) (no_line session n s)
         ≡ no_line session n s
     go false x w = refl
-    go true (Record.Whole start len report next) w = absurd (omega (arith, w.0, w.1, w.2))
-    go true Record.Short w = refl
-    go true Record.Bad w = refl
+    go true (Ok r) w = absurd (omega (arith, w.0, w.1, w.2))
+    go true (Err e) w = refl
 
 full_within : (m room : ℕ) (session : Session) (n : ℕ) (s : List ℕ) → room < max_line →
     lines_within m room session n s ≡ no_line session n s
@@ -56,6 +56,16 @@ one_within (suc m) room session n s h g =
   where
     before : (m : ℕ) → m ≡ suc m - 1
     before m = omega arith
+
+-- ---- what was traced, and what was not
+
+ok_is : {t u : Traced} → ◌≡◌ {A = Result Traced RecordError} (Ok t) (Ok u) → t ≡ u
+ok_is e = cc
+
+err_not_ok : {e : RecordError} {r : Result Traced RecordError} {t : Traced} → r ≡ Err e → r ≡ Ok t → ⊥
+err_not_ok {e} {r} {t} f g =
+    let z : ◌≡◌ {A = Result Traced RecordError} (Err e) (Ok t) = sym f ∙ g in
+    let y : ◌≡◌ {A = ℕ} 0 1 = cc in omega arith
 
 -- ---- where the loop stands
 
@@ -143,47 +153,32 @@ module _ {session₀ session : Session} {first n at to : ℕ} {s out₀ out : Li
           (sym is)
 
       -- the record is not whole
-      pub walk_stops : {r : Traced} {session₁ : Session} {out₁ : List ℕ} →
-          Gives r session₁ out₁ (trace_at session n part 0 out to) →
-          (r.place ≡ RecordEnd.Short) ⊎ (r.place ≡ RecordEnd.Bad) → Walks s out₀ all (walk n at to) session₁ out₁
+      pub walk_stops : {e : RecordError} {r : Result Traced RecordError} {session₁ : Session} {out₁ : List ℕ} →
+          r ≡ Err e → Gives r session₁ out₁ (trace_at session n part 0 out to) → Walks s out₀ all (walk n at to) session₁ out₁
       unfolding trace_at
-      walk_stops {r} {session₁} {out₁} g e = go (record_at part 0) rest-is g
+      walk_stops {e} {r} {session₁} {out₁} f g = go (record_at part 0) rest-is g
         where
-          go : (x : Record) →
+          go : (x : RecordResult) →
               lines_within w.most (length out₀ - to) session n (drop at s)
               ≡ on_record rest session n (drop at s) x →
               Gives r session₁ out₁ (trace_of session n part out to x) → Walks s out₀ all (walk n at to) session₁ out₁
-          go (Record.Whole start len report next) f d =
-              let p : r.place ≡ RecordEnd.Next next = ap (λ (t : Traced). t.place) d.0 in
-              absurd
-              (⊎_elim
-              (λ q.
-              let z : RecordEnd.Next next ≡ RecordEnd.Short = sym p ∙ q in
-              let y : ◌≡◌ {A = ℕ} 0 1 = cc in
-              omega arith)
-              (λ q.
-              let z : RecordEnd.Next next ≡ RecordEnd.Bad = sym p ∙ q in
-              let y : ◌≡◌ {A = ℕ} 0 1 = cc in
-              omega arith)
-              e)
-          go Record.Short f d = rw (d.1.0, d.1.1) (rest-nothing f)
-          go Record.Bad f d = rw (d.1.0, d.1.1) (rest-nothing f)
+          go (Ok x) q d = absurd (err_not_ok f d.0)
+          go (Err e') q d = rw (d.1.0, d.1.1) (rest-nothing q)
 
       -- a line was put
-      module _ {r : Traced} {session₁ : Session} {out₁ : List ℕ} where
-        line-put : (start len next : ℕ) (report : Report) → Within part 0 (Record.Whole start len report next) →
-            lines_within w.most (length out₀ - to) session n (drop at s)
-            ≡ on_record rest session n (drop at s)
-            (Record.Whole start len report next) →
-            Gives r session₁ out₁ (trace_of session n part out to (Record.Whole start len report next)) →
-            Walking session₀ first s out₀ session₁ (number_behind n) (at + next) (place_behind r.put) out₁
-        line-put start len next report q f d =
-            let t = step_of session (take len (drop start (drop at s))) report reply_buffer in
-            let u = step_of session (take len (drop start part)) report reply_buffer in
-            let same : u ≡ t = ap (λ (l : List ℕ). step_of session (take len (drop start l)) report reply_buffer) is in
+      module _ {t : Traced} {session₁ : Session} {out₁ : List ℕ} where
+        line-put : (x : Record) → Within part 0 (Ok x) →
+            lines_within w.most (length out₀ - to) session n (drop at s) ≡ on_record rest session n (drop at s) (Ok x) →
+            Gives (Ok t) session₁ out₁ (trace_of session n part out to (Ok x)) →
+            Walking session₀ first s out₀ session₁ (number_behind n) (at + x.next) (unwrap_or t.put 0) out₁
+        line-put x q f d =
+            let v = step_of session (take x.len (drop x.start (drop at s))) x.report reply_buffer in
+            let u = step_of session (take x.len (drop x.start part)) x.report reply_buffer in
+            let same : u ≡ v =
+            ap (λ (l : List ℕ). step_of session (take x.len (drop x.start l)) x.report reply_buffer) is in
             let line = line_of (line_after n u) in
             let fits : to + length line ≤ length out = omega (arith, line_within (line_after n u), w.kept, w.room) in
-            let p = puts_behind fits (ap (λ (t : Traced). t.put) d.0) d.1.1 in
+            let p = puts_behind fits (ap (λ (t : Traced). t.put) (ok_is d.0)) d.1.1 in
             let longer = length-append w.lines line in
             record {
               most = w.most - 1;
@@ -202,90 +197,60 @@ module _ {session₀ session : Session} {first n at to : ℕ} {s out₀ out : Li
                   also w.lines
                   (also l
                   (lines_within (w.most - 1) (length out₀ - to - length l) v.session (number_behind n)
-                  (drop next (drop at s)))))
+                  (drop x.next (drop at s)))))
                   (sym same)
                   ∙ also_also w.lines line
                   (lines_within (w.most - 1) (length out₀ - to - length line) u.session (number_behind n)
-                  (drop next (drop at s)))
+                  (drop x.next (drop at s)))
                   ∙ ap (λ (l : List ℕ).
                   also (w.lines ++ line)
                   (lines_within (w.most - 1) (length out₀ - to - length line) u.session (number_behind n) l))
-                  (drop-drop next at s)
+                  (drop-drop x.next at s)
                   ∙ ap (λ (k : ℕ).
                   also (w.lines ++ line)
-                  (lines_within (w.most - 1) k u.session (number_behind n) (drop (at + next) s)))
-                  (left-room (length out₀) to (length line) (place_behind r.put) p.0)
+                  (lines_within (w.most - 1) k u.session (number_behind n) (drop (at + x.next) s)))
+                  (left-room (length out₀) to (length line) (unwrap_or t.put 0) p.0)
                   ∙ ap (λ (v : Session).
                   also (w.lines ++ line)
-                  (lines_within (w.most - 1) (length out₀ - place_behind r.put) v (number_behind n)
-                  (drop (at + next) s)))
+                  (lines_within (w.most - 1) (length out₀ - unwrap_or t.put 0) v (number_behind n)
+                  (drop (at + x.next) s)))
                   (sym d.1.0);
             }
           where
             left-room : (size to long q : ℕ) → q ≡ to + long → size - to - long ≡ size - q
             left-room size to long q h = omega arith
 
-        pub walk_on : {next : ℕ} → r.place ≡ RecordEnd.Next next →
+        pub walk_on : {r : Result Traced RecordError} → r ≡ Ok t →
             Gives r session₁ out₁ (trace_at session n part 0 out to) →
-            Walking session₀ first s out₀ session₁ (number_behind n) (at + next) (place_behind r.put) out₁
+            Walking session₀ first s out₀ session₁ (number_behind n) (at + t.next) (unwrap_or t.put 0) out₁
         unfolding trace_at
-        walk_on {next} e g = go (record_at part 0) (records_within part 0) rest-is g
+        walk_on {r} e g = go (record_at part 0) (records_within part 0) rest-is (rw e at g)
           where
-            go : (x : Record) → Within part 0 x →
-                lines_within w.most (length out₀ - to) session n (drop at s)
-                ≡ on_record rest session n (drop at s) x →
-                Gives r session₁ out₁ (trace_of session n part out to x) →
-                Walking session₀ first s out₀ session₁ (number_behind n) (at + next) (place_behind r.put) out₁
-            go (Record.Whole start len report next') q f d =
-                let p : RecordEnd.Next next' ≡ RecordEnd.Next next = sym (ap (λ (t : Traced). t.place) d.0) ∙ e in
-                let same : next' ≡ next = cc in
+            go : (x : RecordResult) → Within part 0 x →
+                lines_within w.most (length out₀ - to) session n (drop at s) ≡ on_record rest session n (drop at s) x →
+                Gives (Ok t) session₁ out₁ (trace_of session n part out to x) →
+                Walking session₀ first s out₀ session₁ (number_behind n) (at + t.next) (unwrap_or t.put 0) out₁
+            go (Ok x) q f d =
                 subst (λ (k : ℕ).
-                Walking session₀ first s out₀ session₁ (number_behind n) (at + k) (place_behind r.put) out₁)
-                same (line-put start len next' report q f d)
-            go Record.Short q f d =
-                absurd
-                (let p : RecordEnd.Short ≡ RecordEnd.Next next = sym (ap (λ (t : Traced). t.place) d.0) ∙ e in
-                let y : ◌≡◌ {A = ℕ} 0 1 = cc in omega arith)
-            go Record.Bad q f d =
-                absurd
-                (let p : RecordEnd.Bad ≡ RecordEnd.Next next = sym (ap (λ (t : Traced). t.place) d.0) ∙ e in
-                let y : ◌≡◌ {A = ℕ} 0 1 = cc in omega arith)
+                Walking session₀ first s out₀ session₁ (number_behind n) (at + k) (unwrap_or t.put 0) out₁)
+                (sym (ap (λ (y : Traced). y.next) (ok_is d.0))) (line-put x q f d)
+            go (Err e') q f d = absurd (err_not_ok refl (sym d.0))
 
       -- the place behind a record lies past its first byte and within the bytes
-      pub place_within : {r : Traced} {session₁ : Session} {out₁ : List ℕ} {next : ℕ} → r.place ≡ RecordEnd.Next next →
-          Gives r session₁ out₁ (trace_at session n part 0 out to) → (0 < next) × (at + next ≤ length s)
+      pub place_within : {r : Result Traced RecordError} {t : Traced} {session₁ : Session} {out₁ : List ℕ} → r ≡ Ok t →
+          Gives r session₁ out₁ (trace_at session n part 0 out to) → (0 < t.next) × (at + t.next ≤ length s)
       unfolding trace_at
-      place_within {r} {session₁} {out₁} {next} e g = go (record_at part 0) (records_within part 0) g
+      place_within {r} {t} {session₁} {out₁} e g = go (record_at part 0) (records_within part 0) (rw e at g)
         where
-          go : (x : Record) → Within part 0 x → Gives r session₁ out₁ (trace_of session n part out to x) →
-              (0 < next) × (at + next ≤ length s)
-          go (Record.Whole start len report next') q d =
-              let p : RecordEnd.Next next' ≡ RecordEnd.Next next = sym (ap (λ (t : Traced). t.place) d.0) ∙ e in
-              let same : next' ≡ next = cc in (
+          go : (x : RecordResult) → Within part 0 x →
+              Gives (Ok t) session₁ out₁ (trace_of session n part out to x) → (0 < t.next) × (at + t.next ≤ length s)
+          go (Ok x) q d =
+              let same : t.next ≡ x.next = ap (λ (y : Traced). y.next) (ok_is d.0) in (
                 omega (arith, same, q.0, q.1),
                 omega (arith, same, q.2, ap length is, length-drop at s, w.within),
               )
-          go Record.Short q d =
-              absurd (let p : RecordEnd.Short ≡ RecordEnd.Next next = sym (ap (λ (t : Traced). t.place) d.0) ∙ e in
-              let y : ◌≡◌ {A = ℕ} 0 1 = cc in omega arith)
-          go Record.Bad q d =
-              absurd (let p : RecordEnd.Bad ≡ RecordEnd.Next next = sym (ap (λ (t : Traced). t.place) d.0) ∙ e in
-              let y : ◌≡◌ {A = ℕ} 0 1 = cc in omega arith)
+          go (Err e') q d = absurd (err_not_ok refl (sym d.0))
 
 -- the rest of a list, to its end
 pub to_end : (s : List ℕ) (at : ℕ) → take (length s - at) (drop at s) ≡ drop at s
 to_end s at = take_all (length s - at) (drop at s) (rw length-drop (omega arith))
-
--- the buffer keeps its length
-pub traced_length : (session : Session) (n : ℕ) (part out : List ℕ) (to : ℕ) {r : Traced} {session₁ : Session}
-    {out₁ : List ℕ} →
-    Gives r session₁ out₁ (trace_at session n part 0 out to) → length out₁ ≡ length out
-unfolding trace_at
-traced_length session n part out to {r} {session₁} {out₁} g = go (record_at part 0) g
-  where
-    go : (x : Record) → Gives r session₁ out₁ (trace_of session n part out to x) → length out₁ ≡ length out
-    go (Record.Whole start len report next) d =
-        let t = step_of session (take len (drop start part)) report reply_buffer in
-        ap length d.1.1 ∙ length_written out to (line_of (line_after n t))
-    go Record.Short d = ap length d.1.1
-    go Record.Bad d = ap length d.1.1

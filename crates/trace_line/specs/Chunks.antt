@@ -1,9 +1,9 @@
 -- "How the input is cut into pieces makes no difference" (X8): every list of calls of a printer writes the whole output
 -- of the bytes that it took.
-use Rattle.std.specs.Prelude.{◌≡◌, ℕ, ◌+◌, ◌≤◌, ◌⊎◌, List, [], ◌∷◌, ◌++◌, length, take}
+use Rattle.std.specs.Prelude.{◌≡◌, ℕ, ◌+◌, ◌≤◌, ◌⊎◌, List, [], ◌∷◌, ◌++◌, length, take, Ok, Err}
 use Rattle.session.specs.Session.{Session}
 use Rattle.session.specs.Tables.{fresh}
-use Rattle.trace_line.specs.declared.printer.First.{First}
+use Rattle.trace_line.specs.declared.record.RecordError.TheVariants.{Short, Bad}
 use Rattle.trace_line.specs.declared.printer.Printer.{Printer}
 use Rattle.trace_line.specs.End.{end_text}
 use Rattle.trace_line.specs.Output.{header, output_of}
@@ -58,7 +58,7 @@ held_then x = held_by x.store x.printer
 -- does not matter what was not taken
 abbrev pub Ended : Printing → List ℕ → Type 0
 Ended x untaken =
-    ((stands_first (held_then x) ≡ First.Short) × (untaken ≡ [])) ⊎ (stands_first (held_then x) ≡ First.Bad)
+    ((stands_first (held_then x) ≡ Err Short) × (untaken ≡ [])) ⊎ (stands_first (held_then x) ≡ Err Bad)
 
 abbrev pub AnyChunks : Type 0
 AnyChunks =
@@ -74,10 +74,10 @@ max_record = 65576
 -- one call, with room for a record in the store and for a line in the buffer
 pub record Goes (p : Printer) (store chunk : List ℕ) (after : Print) : Type 0 where
   -- a whole record that stands first is printed
-  pub prints : stands_first (held_by store p) ≡ First.Whole → 1 ≤ length after.lines
+  pub prints : stands_first (held_by store p) ≡ Ok tt → 1 ≤ length after.lines
   -- where one is cut short, more of the chunk is taken: all of it, if there is room for that beside a record
-  pub takes : stands_first (held_by store p) ≡ First.Short → 1 ≤ length chunk → 1 ≤ after.answer.taken
-  pub takes_all : stands_first (held_by store p) ≡ First.Short → length chunk + max_record ≤ length store →
+  pub takes : stands_first (held_by store p) ≡ Err Short → 1 ≤ length chunk → 1 ≤ after.answer.taken
+  pub takes_all : stands_first (held_by store p) ≡ Err Short → length chunk + max_record ≤ length store →
       after.answer.taken ≡ length chunk
 
 abbrev pub GoesOn : Type 0

@@ -1,12 +1,13 @@
 -- The whole output of the trace printer, as a definition of the whole input (X2, X4 to X7).
-use Rattle.std.specs.Prelude.{ℕ, zero, suc, ◌+◌, ◌%◌, ◌^◌, List, [], ◌++◌, length, take, drop}
+use Rattle.std.specs.Prelude.{ℕ, zero, suc, ◌+◌, ◌%◌, ◌^◌, List, [], ◌++◌, length, take, drop, Result, Ok, Err}
 use Rattle.session.specs.Session.{Session}
 use Rattle.session.specs.Tables.{fresh}
 use Rattle.reply.specs.Text.{ascii}
 use Rattle.rules.specs.Step.{Step, step_of}
 use Rattle.trace_line.specs.declared.record.Record.{Record}
+use Rattle.trace_line.specs.declared.record.RecordError.{RecordError}
 use Rattle.trace_line.specs.Line.{line_of}
-use Rattle.trace_line.specs.Record.{record_at}
+use Rattle.trace_line.specs.Record.{RecordResult, record_at}
 use Rattle.trace_line.specs.Trace.{line_after, reply_buffer}
 use Rattle.trace_line.specs.End.{end_text}
 
@@ -44,11 +45,10 @@ abbrev pub line_then : Behind → ℕ → List ℕ → Step → Lines
 line_then rest n behind t =
     let line = line_of (line_after n t) in also line (rest line t.session (number_behind n) behind)
 
-abbrev pub on_record : Behind → Session → ℕ → List ℕ → Record → Lines
-on_record rest session n s (Record.Whole start len report next) =
-    line_then rest n (drop next s) (step_of session (take len (drop start s)) report reply_buffer)
-on_record rest session n s Record.Short = no_line session n s
-on_record rest session n s Record.Bad = no_line session n s
+abbrev pub on_record : Behind → Session → ℕ → List ℕ → RecordResult → Lines
+on_record rest session n s (Ok r) =
+    line_then rest n (drop r.next s) (step_of session (take r.len (drop r.start s)) r.report reply_buffer)
+on_record rest session n s (Err e) = no_line session n s
 
 -- at most so many records
 unfoldable pub lines_from : ℕ → Session → ℕ → List ℕ → Lines

@@ -1,22 +1,21 @@
 -- A printer takes the input in chunks: what it has not printed yet stands at the front of a lent store, and lines go to
 -- the front of a lent buffer (X8).
-use Rattle.std.specs.Prelude.{ℕ, zero, suc, ◌-◌, min, cond, List, ◌++◌, length, take, nat_le}
+use Rattle.std.specs.Prelude.{ℕ, zero, suc, ◌-◌, min, cond, List, ◌++◌, length, take, nat_le, Result, Ok, Err}
 use Rattle.encode.specs.Put.{written}
 use Rattle.session.specs.Session.{Session}
 use Rattle.trace_line.specs.declared.record.Record.{Record}
-use Rattle.trace_line.specs.declared.printer.First.{First}
+use Rattle.trace_line.specs.declared.record.RecordError.{RecordError}
 use Rattle.trace_line.specs.declared.printer.Printer.{Printer}
 use Rattle.trace_line.specs.declared.printer.Printed.{Printed}
-use Rattle.trace_line.specs.Record.{record_at}
+use Rattle.trace_line.specs.Record.{RecordResult, record_at}
 use Rattle.trace_line.specs.Output.{Lines, no_line, first_number, on_record}
 
--- what stands first among some bytes
-abbrev pub first_of : Record → First
-first_of (Record.Whole start len report next) = First.Whole
-first_of Record.Short = First.Short
-first_of Record.Bad = First.Bad
+-- whether a whole record stands first among some bytes, or why none does
+abbrev pub first_of : RecordResult → Result (Unit {0}) RecordError
+first_of (Ok r) = Ok tt
+first_of (Err e) = Err e
 
-unfoldable pub stands_first : List ℕ → First
+unfoldable pub stands_first : List ℕ → Result (Unit {0}) RecordError
 stands_first bytes = first_of (record_at bytes 0)
 
 -- ---- lines, as far as there is room

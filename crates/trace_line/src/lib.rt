@@ -1,55 +1,44 @@
 // The trace printer's work: a record in, a line out.
 #![tactic(auto)]
 
-ghost use Rattle.std.specs.Prelude.{◌≡◌};
+ghost use Rattle.std.specs.Prelude.{◌≡◌, Ok};
 ghost use Rattle.session.specs.Words.{session_of};
 ghost use Rattle.rules.specs.Step.{step_of};
 ghost use Rattle.trace_line.specs.Trace.{line_to, reply_buffer, trace_at};
 
-use encode::put::Put;
 use line::Line;
-use record::Record;
-use rules::Report;
+use record::{Record, RecordError};
 use session::WORDS;
 
 pub mod line;
 pub mod printer;
 pub mod record;
 
-// The place behind a record; or its bytes end before it does, or it has a bad number.
-#[derive(Clone, Copy)]
-pub enum RecordEnd {
-    Next(usize),
-    Short,
-    Bad,
-}
-
 // The place behind a record, and the place behind its line.
 #[derive(Clone, Copy)]
 pub struct Traced {
-    pub place: RecordEnd,
-    pub put: Put,
+    pub next: usize,
+    pub put: Option<usize>,
 }
 
-// The step on a record's frame, and its line put at the place `to`.
+// The step on the frame of the n-th record, and its line put at the place `to`.
 fn trace_frame(
     words: &mut [u32; WORDS],
     n: u64,
     frame: &[u8],
-    report: Report,
-    next: usize,
+    whole: Record,
     out: &mut [u8],
     to: usize,
 ) -> Traced
-    ensures answer { result ≡ (line_to n next out.old to
-        (step_of (session_of words.old) frame.now report reply_buffer)).back }
-    ensures session { session_of words.new ≡ (line_to n next out.old to
-        (step_of (session_of words.old) frame.now report reply_buffer)).session }
-    ensures out { out.new ≡ (line_to n next out.old to
-        (step_of (session_of words.old) frame.now report reply_buffer)).out }
+    ensures answer { Ok result ≡ (line_to n whole.next out.old to
+        (step_of (session_of words.old) frame.now whole.report reply_buffer)).back }
+    ensures session { session_of words.new ≡ (line_to n whole.next out.old to
+        (step_of (session_of words.old) frame.now whole.report reply_buffer)).session }
+    ensures out { out.new ≡ (line_to n whole.next out.old to
+        (step_of (session_of words.old) frame.now whole.report reply_buffer)).out }
 {
     let mut reply = [0u8; rules::MIN_BUFFER];
-    let answer = keeper::step::step(words, frame, report, &mut reply);
+    let answer = keeper::step::step(words, frame, whole.report, &mut reply);
     let line = Line {
         n,
         reason: answer.reason,
@@ -62,13 +51,14 @@ fn trace_frame(
     };
     let put = line::write_line(out, to, line);
     Traced {
-        place: RecordEnd::Next(next),
+        next: whole.next,
         put,
     }
 }
 
 // The n-th record, at the place `at` of s: a step on its frame, and its line put at the place `to` of
 // the output, where it fits. Where no whole record stands, nothing changes.
+#[tactic(auto, using(crate::proofs::TraceLaws::whole_within), unfolding(crate::specs::Trace::trace_at))]
 pub fn trace_record(
     words: &mut [u32; WORDS],
     n: u64,
@@ -76,7 +66,7 @@ pub fn trace_record(
     at: usize,
     out: &mut [u8],
     to: usize,
-) -> Traced
+) -> Result<Traced, RecordError>
     ensures answer { result ≡
         (trace_at (session_of words.old) n s.now at out.old to).back }
     ensures session { session_of words.new ≡
@@ -84,23 +74,7 @@ pub fn trace_record(
     ensures out { out.new ≡
         (trace_at (session_of words.old) n s.now at out.old to).out }
 {
-    match record::read_record(s, at) {
-        Record::Whole {
-            start,
-            len,
-            report,
-            next,
-        } => {
-            let end = start + len;
-            trace_frame(words, n, &s[start..end], report, next, out, to)
-        }
-        Record::Short => Traced {
-            place: RecordEnd::Short,
-            put: Put::Next(to),
-        },
-        Record::Bad => Traced {
-            place: RecordEnd::Bad,
-            put: Put::Next(to),
-        },
-    }
+    let record = record::read_record(s, at)?;
+    let end = record.start + record.len;
+    Ok(trace_frame(words, n, &s[record.start..end], record, out, to))
 }

@@ -4,12 +4,12 @@ ghost use Rattle.encode.specs.Put.{put_at, written};
 ghost use Rattle.encode.specs.Puts.{Puts};
 ghost use Rattle.trace_line.specs.Line.{column, letter_of, line_of, mark_of};
 
-use encode::put::{Put, put_byte, write_bytes};
+use encode::put::{put_byte, write_bytes};
 use message::head::LENGTH_BYTES;
 use protocol::server;
 use reply::decimal::put_decimal;
 
-// What a line prints, in this order.
+// What a line prints, in this order. The mark is a letter of the text, not a code for something else.
 #[derive(Clone, Copy)]
 pub struct Line {
     pub n: u64,
@@ -37,6 +37,7 @@ fn letter_of(kind: u8) -> u8
 }
 
 // The mark of a reply of n bytes, by the type of its first frame.
+#[tactic(auto, unfolding(crate::specs::Line::mark_of))]
 pub fn mark_of(reply: &[u8; rules::MIN_BUFFER], n: usize) -> u8
     ensures { result ≡ mark_of reply.now n }
 {
@@ -54,7 +55,8 @@ fn put_column(t: &mut [u8], at: usize, v: u64) -> usize
     put_byte(t, p, b' ')
 }
 
-// The line at the front. Answers its length.
+// The line at the front. Answers its length. Not by `write!`, which promises its text only where it answers `Ok`:
+// `write_line` promises the line wherever it fits.
 fn put_line(t: &mut [u8], l: Line) -> usize
     ensures { Puts t.old 0 (line_of l) result t.new }
 {
@@ -71,7 +73,7 @@ fn put_line(t: &mut [u8], l: Line) -> usize
 }
 
 // The line put at the place `at`, where it fits; else the buffer stays as it was.
-pub fn write_line(buf: &mut [u8], at: usize, l: Line) -> Put
+pub fn write_line(buf: &mut [u8], at: usize, l: Line) -> Option<usize>
     ensures { (result ≡ put_at buf.old at (line_of l))
         × (buf.new ≡ written buf.old at (line_of l)) }
 {

@@ -7,9 +7,9 @@ ghost use Rattle.trace_line.specs.End.{end_text};
 ghost use Rattle.trace_line.specs.Output.{header};
 ghost use Rattle.trace_line.specs.Printer.{from_start, lines_within, print_of, stands_first};
 
-use crate::RecordEnd;
-use crate::record::Record;
-use encode::put::{Put, lesser, place_behind, write_bytes};
+use crate::record;
+use crate::record::RecordError;
+use encode::put::write_bytes;
 use encode::shift::move_front;
 use session::WORDS;
 
@@ -19,29 +19,22 @@ pub const MAX_LINE: usize = 149;
 // The longest record: 65,536 bytes of frame and four numbers of ten bytes.
 pub const MAX_RECORD: usize = 65576;
 
-// The next record is the n-th, and the first `held` bytes of the store are not printed yet.
+// The next record is the n-th, and the first `held` bytes of the store are not printed yet. The caller lends the store
+// (fixed memory), and gets back a printer to keep beside it.
 #[derive(Clone, Copy)]
 pub struct Printer {
     pub n: u64,
     pub held: usize,
 }
 
-// What stands first among the bytes held: a whole record, one that more bytes may complete, or a bad one.
-#[derive(Clone, Copy)]
-pub enum First {
-    Whole,
-    Short,
-    Bad,
-}
-
 // The printer after a call; how many bytes of the chunk were taken, and how many bytes of lines were put; and
-// what stands first in the store then.
+// whether a whole record stands first in the store then.
 #[derive(Clone, Copy)]
 pub struct Printed {
     pub printer: Printer,
     pub taken: usize,
     pub put: usize,
-    pub first: First,
+    pub first: Result<(), RecordError>,
 }
 
 // Behind some lines: the number of the next record, its place, and the place behind the lines.
@@ -59,7 +52,8 @@ pub fn start() -> Printer
 }
 
 // The header put at the place `at`, where it fits.
-pub fn put_header(out: &mut [u8], at: usize) -> Put
+#[tactic(auto, unfolding(crate::specs::Output::header))]
+pub fn put_header(out: &mut [u8], at: usize) -> Option<usize>
     ensures { (result ≡ put_at out.old at header)
         × (out.new ≡ written out.old at header) }
 {
@@ -67,7 +61,8 @@ pub fn put_header(out: &mut [u8], at: usize) -> Put
 }
 
 // The end's text put at the place `at`, where it fits: `cut` if a record is held that is not whole.
-pub fn put_end(p: Printer, out: &mut [u8], at: usize) -> Put
+#[tactic(auto, unfolding(crate::specs::End::end_text))]
+pub fn put_end(p: Printer, out: &mut [u8], at: usize) -> Option<usize>
     ensures { (result ≡ put_at out.old at (end_text p.held))
         × (out.new ≡ written out.old at (end_text p.held)) }
 {
@@ -77,19 +72,13 @@ pub fn put_end(p: Printer, out: &mut [u8], at: usize) -> Put
     write_bytes(out, at, b"cut\n")
 }
 
-fn stands_first(s: &[u8]) -> First
+// A whole record, or why none stands first.
+#[tactic(auto, unfolding(crate::specs::Printer::stands_first))]
+fn stands_first(s: &[u8]) -> Result<(), RecordError>
     ensures { result ≡ stands_first s.now }
 {
-    match crate::record::read_record(s, 0) {
-        Record::Whole {
-            start: _,
-            len: _,
-            report: _,
-            next: _,
-        } => First::Whole,
-        Record::Short => First::Short,
-        Record::Bad => First::Bad,
-    }
+    record::read_record(s, 0)?;
+    Ok(())
 }
 
 // The lines of the records in s, each begun where the longest line fits.
@@ -105,17 +94,13 @@ fn put_lines(words: &mut [u32; WORDS], first: u64, s: &[u8], out: &mut [u8]) -> 
         if out.len() - to < MAX_LINE {
             return Walk { n, at, to };
         }
-        let t = crate::trace_record(words, n, &s[at..], 0, out, to);
-        let place = t.place;
-        let put = t.put;
-        match place {
-            RecordEnd::Next(next) => {
+        match crate::trace_record(words, n, &s[at..], 0, out, to) {
+            Ok(traced) => {
                 n = std::num::wrapping_add_u64(n, 1);
-                at += next;
-                to = place_behind(put);
+                at += traced.next;
+                to = traced.put.unwrap_or(0);
             }
-            RecordEnd::Short => return Walk { n, at, to },
-            RecordEnd::Bad => return Walk { n, at, to },
+            Err(_) => return Walk { n, at, to },
         }
     }
     Walk { n, at, to }
@@ -140,8 +125,8 @@ pub fn print_chunk(
     ensures out { out.new ≡ written out.old 0 (print_of p (session_of words.old)
         store.old chunk.now (length out.old)).lines }
 {
-    let have = lesser(p.held, store.len());
-    let count = lesser(chunk.len(), store.len() - have);
+    let have = p.held.min(store.len());
+    let count = chunk.len().min(store.len() - have);
     write_bytes(store, have, &chunk[..count]);
     let end = have + count;
     let w = put_lines(words, p.n, &store[..end], out);

@@ -3,10 +3,12 @@ use Rattle.prelude.proofs.Basics.{ℕ, zero, suc, ◌+◌, ◌%◌, ◌≤◌, �
 use Rattle.prelude.proofs.Basics.{less_or_not}
 use Rattle.varint.specs.Varint.{onto, groups, low64, varint_at}
 use Rattle.varint.specs.Past.{Past}
-use Rattle.varint.specs.declared.Varint.{Varint}
+use Rattle.varint.specs.declared.Number.{Number}
 use Rattle.varint.proofs.GroupLaws.{groups_none, groups_last, groups_more}
 use Rattle.varint.proofs.PastLaws.{groups_past}
 use Rattle.varint.proofs.ShortestLaws.{below_or_not}
+use Rattle.std.specs.Prelude.{Option, Some, None}
+use Rattle.varint.specs.Number.{some_number}
 
 -- s and t have the same bytes from p to before m
 pub record Agree (s t : List ℕ) (p m : ℕ) : Type 0 where
@@ -19,23 +21,23 @@ agree_later {s} {t} {p} {m} a q h =
     record { here = a.here; there = a.there; same = λ i g l. a.same i (omega arith) l }
 
 -- a number that ends by m is the same
-abbrev pub KeepsVarint : ℕ → Varint → Varint → Type 0
-KeepsVarint m (Varint.Number v next) y = next ≤ m → y ≡ Varint.Number v next
-KeepsVarint m Varint.Bad y = Unit {0}
+abbrev pub KeepsVarint : ℕ → Option Number → Option Number → Type 0
+KeepsVarint m (Some r) y = r.next ≤ m → y ≡ some_number r.value r.next
+KeepsVarint m None y = Unit {0}
 
 module _ (m : ℕ) where
-  onto-keeps : (low w : ℕ) (x y : Varint) → KeepsVarint m x y → KeepsVarint m (onto low w x) (onto low w y)
-  onto-keeps low w (Varint.Number v next) y k = λ h. ap (onto low w) (k h)
-  onto-keeps low w Varint.Bad y k = tt
+  onto-keeps : (low w : ℕ) (x y : Option Number) → KeepsVarint m x y → KeepsVarint m (onto low w x) (onto low w y)
+  onto-keeps low w (Some r) y k = λ h. ap (onto low w) (k h)
+  onto-keeps low w None y k = tt
 
-  low64-keeps : (x y : Varint) → KeepsVarint m x y → KeepsVarint m (low64 x) (low64 y)
-  low64-keeps (Varint.Number v next) y k = λ h. ap low64 (k h)
-  low64-keeps Varint.Bad y k = tt
+  low64-keeps : (x y : Option Number) → KeepsVarint m x y → KeepsVarint m (low64 x) (low64 y)
+  low64-keeps (Some r) y k = λ h. ap low64 (k h)
+  low64-keeps None y k = tt
 
   -- nothing that begins at m or behind it ends by m
-  past-keeps : (p end : ℕ) → m ≤ p → (x y : Varint) → Past p end x → KeepsVarint m x y
-  past-keeps p end h (Varint.Number v next) y g = λ l. absurd (omega arith)
-  past-keeps p end h Varint.Bad y g = tt
+  past-keeps : (p end : ℕ) → m ≤ p → (x y : Option Number) → Past p end x → KeepsVarint m x y
+  past-keeps p end h (Some r) y g = λ l. absurd (omega arith)
+  past-keeps p end h None y g = tt
 
 groups_keeps : (n : ℕ) {s t : List ℕ} {p m : ℕ} → Agree s t p m → KeepsVarint m (groups n s p) (groups n t p)
 groups_keeps zero {s} {t} {p} {m} a = rw (groups_none s p) tt

@@ -8,31 +8,32 @@ use lib.Seq.{take-suc}
 use Rattle.varint.specs.Varint.{onto, groups, low64, varint_at}
 use Rattle.varint.specs.Padded.{is_padded}
 use Rattle.varint.specs.private.Behind.{behind_first, padded_first, padded_behind, padded_tenth}
-use Rattle.varint.specs.declared.Varint.{Varint}
-use Rattle.varint.specs.declared.Varint.TheVariants.{Number, Bad}
+use Rattle.varint.specs.declared.Number.{Number}
 use Rattle.varint.proofs.PaddedLaws.{tops, tops_one, tops_more, needless, needed, another}
+use Rattle.std.specs.Prelude.{Option, Some, None}
+use Rattle.varint.specs.Number.{some_number}
 
 zero_times : (w d : ℕ) → d ≤ 0 → d * w ≡ 0
 zero_times w zero h = omega arith
 zero_times w (suc d) h = absurd (omega arith)
 
-pub onto_onto : (a w b : ℕ) (x : Varint) → onto a w (onto b 128 x) ≡ onto (a + b * w) (w * 128) x
-onto_onto a w b (Number v next) =
-    ap (λ (m : ℕ). Number m next) (omega (arith, mul-add w b (128 * v), mul_assoc w 128 v, mul_comm w b))
-onto_onto a w b Bad = refl
+pub onto_onto : (a w b : ℕ) (x : Option Number) → onto a w (onto b 128 x) ≡ onto (a + b * w) (w * 128) x
+onto_onto a w b (Some r) =
+    ap (λ (m : ℕ). some_number m r.next) (omega (arith, mul-add w b (128 * r.value), mul_assoc w 128 r.value, mul_comm w b))
+onto_onto a w b None = refl
 
-pub groups_none : (s : List ℕ) (at : ℕ) → groups 0 s at ≡ Bad
+pub groups_none : (s : List ℕ) (at : ℕ) → groups 0 s at ≡ None
 unfolding groups
 groups_none s at = refl
 
 -- at the end of the bytes there is no group
-pub groups_end : (n : ℕ) (s : List ℕ) (at : ℕ) → length s ≤ at → groups n s at ≡ Bad
+pub groups_end : (n : ℕ) (s : List ℕ) (at : ℕ) → length s ≤ at → groups n s at ≡ None
 unfolding groups
 groups_end zero s at h = refl
 groups_end (suc n) s at h = simp (le-ltb at (length s) h)
 
 module _ (n : ℕ) (s : List ℕ) (at : ℕ) (in-s : at < length s) where
-  pub groups_last : get_or s at 0 < 128 → groups (suc n) s at ≡ Number (get_or s at 0) (at + 1)
+  pub groups_last : get_or s at 0 < 128 → groups (suc n) s at ≡ some_number (get_or s at 0) (at + 1)
   unfolding groups
   groups_last h = simp (lt-ltb at (length s) in-s, lt-ltb (get_or s at 0) 128 h)
 
@@ -91,7 +92,7 @@ module _ {first : ℕ} {s : List ℕ} {at value weight i k : ℕ} (r : Reading f
     one_more : (j : ℕ) → j ≡ 10 - k → groups j s i ≡ groups (suc (9 - k)) s i
     one_more j e = ap (λ (m : ℕ). groups m s i) (omega arith)
 
-    pub whole_end : length s ≤ i → Bad ≡ behind_first first s at
+    pub whole_end : length s ≤ i → None ≡ behind_first first s at
     whole_end h = ap low64 (sym (ap (onto value weight) (groups_end (10 - k) s i h)) ∙ r.whole)
 
     -- a group's part of the number stays below 2 ^ 63
@@ -102,9 +103,9 @@ module _ {first : ℕ} {s : List ℕ} {at value weight i k : ℕ} (r : Reading f
     room b h = omega (arith, product b h, light, r.small)
 
     pub whole_last : i < length s → get_or s i 0 < 128 →
-        Number (value + get_or s i 0 * weight) (i + 1) ≡ behind_first first s at
+        some_number (value + get_or s i 0 * weight) (i + 1) ≡ behind_first first s at
     whole_last h b =
-        ap (λ (m : ℕ). Number m (i + 1))
+        ap (λ (m : ℕ). some_number m (i + 1))
         (sym (mod-eq_of_lt {m = 2 ^ 64} (omega (arith, room (get_or s i 0) b)))
         ∙ ap (λ (m : ℕ). (value + m) % 2 ^ 64) (mul_comm (get_or s i 0) weight))
         ∙ ap low64
@@ -179,16 +180,16 @@ module _ {first : ℕ} {s : List ℕ} {at value weight i k : ℕ} (r : Reading f
         ∙ r.whole)
 
 module _ (low : ℕ) (s : List ℕ) (at : ℕ) (in-s : at < length s) where
-  pub tenth_more : 128 ≤ get_or s at 0 → Bad ≡ low64 (onto low (2 ^ 63) (groups 1 s at))
+  pub tenth_more : 128 ≤ get_or s at 0 → None ≡ low64 (onto low (2 ^ 63) (groups 1 s at))
   tenth_more h =
-      ap (λ (x : Varint). low64 (onto low (2 ^ 63) x))
+      ap (λ (x : Option Number). low64 (onto low (2 ^ 63) x))
       (sym (groups_more 0 s at in-s h ∙ ap (onto (get_or s at 0 % 128) 128) (groups_none s (at + 1))))
 
   pub tenth_last : get_or s at 0 < 128 → low < 2 ^ 63 →
-      Number (low + get_or s at 0 % 2 * 2 ^ 63) (at + 1) ≡ low64 (onto low (2 ^ 63) (groups 1 s at))
+      some_number (low + get_or s at 0 % 2 * 2 ^ 63) (at + 1) ≡ low64 (onto low (2 ^ 63) (groups 1 s at))
   tenth_last h l =
-      ap (λ (m : ℕ). Number m (at + 1)) (omega arith)
-      ∙ ap (λ (x : Varint). low64 (onto low (2 ^ 63) x)) (sym (groups_last 0 s at in-s h))
+      ap (λ (m : ℕ). some_number m (at + 1)) (omega arith)
+      ∙ ap (λ (x : Option Number). low64 (onto low (2 ^ 63) x)) (sym (groups_last 0 s at in-s h))
 
   pub tenth_over : 128 ≤ get_or s at 0 → padded_tenth s at ≡ false
   tenth_over h = simp (lt-ltb at (length s) in-s, le-ltb (get_or s at 0) 128 h)
@@ -202,7 +203,7 @@ tenth_none s at h = simp (le-ltb at (length s) h)
 -- of a tenth group just the value 1 is written
 module _ {first : ℕ} {s : List ℕ} {at value weight i k : ℕ} (r : Reading first s at value weight i k) (nine : 9 ≤ k)
     (m : 128 ≤ first) where
-  told : (x : Varint) → x ≡ low64 (onto value (2 ^ 63) (groups 1 s i)) →
+  told : (x : Option Number) → x ≡ low64 (onto value (2 ^ 63) (groups 1 s i)) →
       padded_first first s at x ≡ padded_behind first s at
   unfolding padded_behind
   told x e = ap (padded_first first s at) (e ∙ whole_tenth r nine)
@@ -253,37 +254,37 @@ module _ {first : ℕ} {s : List ℕ} {at value weight i k : ℕ} (r : Reading f
       (λ b.
       simp (lt-ltb i (length s) h, lt-ltb (get_or s i 0) 128 b)
       (unfold bytes in (tenth-flag h b)
-      ∙ told (Number (value + get_or s i 0 % 2 * 2 ^ 63) (i + 1)) (tenth_last value s i h b (below_top r nine))))
+      ∙ told (some_number (value + get_or s i 0 % 2 * 2 ^ 63) (i + 1)) (tenth_last value s i h b (below_top r nine))))
       (λ b.
-      simp (lt-ltb i (length s) h, le-ltb (get_or s i 0) 128 b) (told Bad (tenth_more value s i h b))))
+      simp (lt-ltb i (length s) h, le-ltb (get_or s i 0) 128 b) (told None (tenth_more value s i h b))))
       (λ h.
       simp (le-ltb i (length s) h)
-      (told Bad (ap (λ (x : Varint). low64 (onto value (2 ^ 63) x)) (sym (groups_end 1 s i h)))))
+      (told None (ap (λ (x : Option Number). low64 (onto value (2 ^ 63) x)) (sym (groups_end 1 s i h)))))
 
 -- a varint of one byte, and none at the end of the bytes
 pub varint_one : (s : List ℕ) (at : ℕ) → at < length s → get_or s at 0 < 128 →
-    Number (get_or s at 0) (at + 1) ≡ varint_at s at
+    some_number (get_or s at 0) (at + 1) ≡ varint_at s at
 varint_one s at h b =
-    ap (λ (m : ℕ). Number m (at + 1)) (sym (mod-eq_of_lt {m = 2 ^ 64} (omega arith)))
+    ap (λ (m : ℕ). some_number m (at + 1)) (sym (mod-eq_of_lt {m = 2 ^ 64} (omega arith)))
     ∙ ap low64 (sym (groups_last 9 s at h b))
 
-pub varint_none : (s : List ℕ) (at : ℕ) → length s ≤ at → Bad ≡ varint_at s at
+pub varint_none : (s : List ℕ) (at : ℕ) → length s ≤ at → None ≡ varint_at s at
 varint_none s at h = ap low64 (sym (groups_end 10 s at h))
 
 -- a first byte that has another behind it
 module _ (s : List ℕ) (at low : ℕ) (inside : at < length s) (is : low ≡ get_or s at 0) (more : 128 ≤ low) where
-  pub varint_cut : length s - at < 2 → Bad ≡ varint_at s at
+  pub varint_cut : length s - at < 2 → None ≡ varint_at s at
   varint_cut h =
       ap low64
       (sym (groups_more 9 s at inside (omega arith)
       ∙ ap (onto (get_or s at 0 % 128) 128) (groups_end 9 s (at + 1) (omega arith))))
 
   pub varint_two : (high : ℕ) → high ≡ get_or s (at + 1) 0 → 2 ≤ length s - at → high < 128 →
-      Number (low % 128 + high * 128) (at + 2) ≡ varint_at s at
+      some_number (low % 128 + high * 128) (at + 2) ≡ varint_at s at
   varint_two high e h b =
       let value : low % 128 + high * 128 ≡ (get_or s at 0 % 128 + 128 * get_or s (at + 1) 0) % 2 ^ 64 = omega arith in
       let next : at + 2 ≡ at + 1 + 1 = omega arith in
-      ap₂ Number value next
+      ap₂ some_number value next
       ∙ ap low64
       (sym (groups_more 9 s at inside (omega arith)
       ∙ ap (onto (get_or s at 0 % 128) 128) (groups_last 8 s (at + 1) (omega arith) (omega arith))))

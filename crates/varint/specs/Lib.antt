@@ -1,5 +1,6 @@
 pub mod Past
 pub mod Shortest
+pub mod Number
 pub mod Varint
 pub mod Padded
 pub mod VarintRules

@@ -3,7 +3,8 @@
 use Rattle.std.specs.Prelude.{ℕ, ◌-◌, Bool, true, false, not, ◌&&◌, List, [], ◌∷◌, take, drop, eqb}
 use Rattle.varint.specs.Varint.{varint_at}
 use Rattle.varint.specs.Shortest.{varint_bytes}
-use Rattle.varint.specs.declared.Varint.{Varint}
+use Rattle.varint.specs.declared.Number.{Number}
+use Rattle.std.specs.Prelude.{Option, Some, None}
 
 -- two byte strings are the same
 unfoldable pub same_bytes : List ℕ → List ℕ → Bool
@@ -16,9 +17,9 @@ same_bytes (x ∷ xs) (y ∷ ys) = eqb x y && same_bytes xs ys
 abbrev pub is_padded : List ℕ → ℕ → Bool
 is_padded bytes v = not (same_bytes bytes (varint_bytes v))
 
-abbrev pub padded_by : List ℕ → ℕ → Varint → Bool
-padded_by s at (Varint.Number v next) = is_padded (take (next - at) (drop at s)) v
-padded_by s at Varint.Bad = false
+abbrev pub padded_by : List ℕ → ℕ → Option Number → Bool
+padded_by s at (Some r) = is_padded (take (r.next - at) (drop at s)) r.value
+padded_by s at None = false
 
 -- the varint at the place `at` of s is padded; where there is none, nothing is
 unfoldable pub padded_at : List ℕ → ℕ → Bool

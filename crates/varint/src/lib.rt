@@ -8,124 +8,108 @@ ghost use Rattle.varint.specs.Varint.{groups, low64, onto, varint_at};
 ghost use Rattle.varint.specs.Padded.{padded_at};
 ghost use Rattle.varint.specs.private.Behind.{behind_first, padded_behind, padded_tenth};
 
-// What stands at a place: a number and the place behind it, or no varint.
+// A number that was read, and the place behind it.
 #[derive(Clone, Copy)]
-pub enum Varint {
-    Number { value: u64, next: usize },
-    Bad,
+pub struct Number {
+    pub value: u64,
+    pub next: usize,
 }
 
 // With a short way for a number of one byte, which most are. The slice is lent anew to the long way, so that the short
 // one keeps its place and length in registers.
-pub fn read_varint(s: &[u8], at: usize, padded: &mut bool) -> Varint
+pub fn read_varint(s: &[u8], at: usize, padded: &mut bool) -> Option<Number>
     ensures answer { result ≡ varint_at s.now at }
     ensures told { padded.new ≡ (padded.old || padded_at s.now at) }
 {
     let n = s.len();
     if n <= at {
-        return Varint::Bad;
+        return None;
     }
-    let b = wide(s[at]);
+    let b = u64::from(s[at]);
     if b < 128 {
-        return Varint::Number {
+        return Some(Number {
             value: b,
             next: at + 1,
-        };
+        });
     }
     read_behind(&s[..n], at + 1, s[at], padded)
 }
 
-// The same, with short ways for one byte and for two, which ids and counts of rows mostly have.
-pub fn read_short(s: &[u8], at: usize, padded: &mut bool) -> Varint
+// The same, with short ways for one byte and for two, which ids and counts of rows mostly have. Of the two functions
+// one has the shorter code, which its callers take in.
+pub fn read_short(s: &[u8], at: usize, padded: &mut bool) -> Option<Number>
     ensures answer { result ≡ varint_at s.now at }
     ensures told { padded.new ≡ (padded.old || padded_at s.now at) }
 {
     let n = s.len();
     if n <= at {
-        return Varint::Bad;
+        return None;
     }
-    let low = octet(s[at]);
+    let low = u64::from(s[at]);
     if low < 128 {
-        return Varint::Number {
+        return Some(Number {
             value: low,
             next: at + 1,
-        };
+        });
     }
     if n - at < 2 {
-        return Varint::Bad;
+        return None;
     }
-    let high = wide(s[at + 1]);
+    let high = u64::from(s[at + 1]);
     if high < 128 {
         mark(high == 0, padded);
-        return Varint::Number {
+        return Some(Number {
             value: low % 128 + high * 128,
             next: at + 2,
-        };
+        });
     }
     read_behind(&s[..n], at + 1, s[at], padded)
-}
-
-// A byte as a number; a cast in a place of its own asks nothing of its caller.
-pub fn wide(b: u8) -> u64
-    ensures { result ≡ b }
-{
-    b as u64
 }
 
 // The long way, from the second byte on: `first` has others behind it. Of a first byte that has none the flag says
 // nothing.
-pub fn read_behind(s: &[u8], at: usize, first: u8, padded: &mut bool) -> Varint
+pub fn read_behind(s: &[u8], at: usize, first: u8, padded: &mut bool) -> Option<Number>
     ensures answer { result ≡ behind_first first s.now at }
     ensures told { 128 ≤ first → padded.new ≡ (padded.old || padded_behind first s.now at) }
 {
-    let mut value: u64 = octet(first) % 128;
+    let mut value: u64 = u64::from(first) % 128;
     let mut weight: u64 = 128;
     let mut i = at;
-    let mut k: usize = 1;
-    while k < 9 {
+    for _ in 1..9usize {
         if s.len() <= i {
-            return Varint::Bad;
+            return None;
         }
-        let b = octet(s[i]);
+        let b = u64::from(s[i]);
         i += 1;
         if b < 128 {
             let v = value + b * weight;
             mark(v < weight, padded);
-            return Varint::Number { value: v, next: i };
+            return Some(Number { value: v, next: i });
         }
         value += b % 128 * weight;
         weight *= 128;
-        k += 1;
     }
     last_group(s, i, value, padded)
 }
 
 // The tenth group, on top of the 63 bits of the first nine: only its lowest bit is kept.
-fn last_group(s: &[u8], at: usize, low: u64, padded: &mut bool) -> Varint
+fn last_group(s: &[u8], at: usize, low: u64, padded: &mut bool) -> Option<Number>
     requires { low < 2 ^ 63 }
     ensures answer { result ≡ low64 (onto low (2 ^ 63) (groups 1 s.now at)) }
     ensures told { padded.new ≡ (padded.old || padded_tenth s.now at) }
 {
     if s.len() <= at {
-        return Varint::Bad;
+        return None;
     }
-    let b = wide(s[at]);
+    let b = u64::from(s[at]);
     if 128 <= b {
-        return Varint::Bad;
+        return None;
     }
     mark(b != 1, padded);
-    Varint::Number {
+    Some(Number {
         value: low + b % 2 * 0x8000_0000_0000_0000,
         next: at + 1,
-    }
-}
-
-// A byte as a number, with its range.
-fn octet(b: u8) -> u64
-    ensures answer { result ≡ b }
-    ensures small { result < 256 }
-{
-    b as u64
+    })
 }
 
 // The flag goes on.

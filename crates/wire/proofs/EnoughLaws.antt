@@ -1,33 +1,34 @@
 -- Fuel that is enough for the bytes left makes no difference to a group. Assumes nothing.
 use Rattle.prelude.proofs.Basics.{ℕ, zero, suc, ◌+◌, ◌≤◌, ◌<◌, arith, cond, ◌≡◌, refl, sym, ap, ◌∙◌, List, length, eqb}
 use Rattle.wire.proofs.Names.{tag_at, skip_value, and_then, group_field, group_fields, group_end, PastTag, PastSkip}
-use Rattle.wire.proofs.Names.{Skip, Tag}
+use Rattle.wire.proofs.Names.{Tag}
 use Rattle.wire.specs.GroupRules.{EnoughFields}
 use Rattle.wire.proofs.PastLaws.{tag_past, skip_past, group_past}
 use Rattle.wire.proofs.GroupLaws.{fields_end}
+use Rattle.std.specs.Prelude.{Option, Some, None}
 
 -- ways on that agree from here on
-then_same : (p end : ℕ) (x : Skip) → PastSkip p end x → (f g : ℕ → Skip) → ((q : ℕ) → p ≤ q → f q ≡ g q) →
+then_same : (p end : ℕ) (x : Option ℕ) → PastSkip p end x → (f g : ℕ → Option ℕ) → ((q : ℕ) → p ≤ q → f q ≡ g q) →
     and_then x f ≡ and_then x g
-then_same p end (Skip.At q) h f g e = e q h.0
-then_same p end Skip.Bad h f g e = refl
+then_same p end (Some q) h f g e = e q h.0
+then_same p end None h f g e = refl
 
-module _ (inner : ℕ → ℕ → Skip) (s : List ℕ) (number : ℕ)
+module _ (inner : ℕ → ℕ → Option ℕ) (s : List ℕ) (number : ℕ)
     (inner-past : (n p : ℕ) → PastSkip p (length s) (inner n p)) where
-  field_same : (at : ℕ) (t : Tag) → PastTag at (length s) t → (f g : ℕ → Skip) → ((q : ℕ) → at < q → f q ≡ g q) →
+  field_same : (at : ℕ) (t : Option Tag) → PastTag at (length s) t → (f g : ℕ → Option ℕ) → ((q : ℕ) → at < q → f q ≡ g q) →
       group_field inner f s number t ≡ group_field inner g s number t
-  field_same at (Tag.Field n w next) h f g e =
-      ap (λ (x : Skip). ended (cond (eqb w 3) x (and_then (skip_value s w next) f)))
-      (on (inner n next) (inner-past n next))
-      ∙ ap (λ (x : Skip). ended (cond (eqb w 3) (and_then (inner n next) g) x))
-      (on (skip_value s w next) (skip_past s w next))
+  field_same at (Some r) h f g e =
+      ap (λ (x : Option ℕ). ended (cond (eqb r.wire 3) x (and_then (skip_value s r.wire r.next) f)))
+      (on (inner r.number r.next) (inner-past r.number r.next))
+      ∙ ap (λ (x : Option ℕ). ended (cond (eqb r.wire 3) (and_then (inner r.number r.next) g) x))
+      (on (skip_value s r.wire r.next) (skip_past s r.wire r.next))
     where
-      ended : Skip → Skip
-      ended x = cond (eqb w 4) (cond (eqb n number) (Skip.At next) Skip.Bad) x
+      ended : Option ℕ → Option ℕ
+      ended x = cond (eqb r.wire 4) (cond (eqb r.number number) (Some r.next) None) x
 
-      on : (x : Skip) → PastSkip next (length s) x → and_then x f ≡ and_then x g
-      on x p = then_same next (length s) x p f g (λ q i. e q (omega (arith, h.0)))
-  field_same at Tag.Bad h f g e = refl
+      on : (x : Option ℕ) → PastSkip r.next (length s) x → and_then x f ≡ and_then x g
+      on x p = then_same r.next (length s) x p f g (λ q i. e q (omega (arith, h.0)))
+  field_same at None h f g e = refl
 
   fields_same : (m n at : ℕ) → length s ≤ at + m → length s ≤ at + n →
       group_fields inner m s at number ≡ group_fields inner n s at number

@@ -2,15 +2,18 @@
 use Rattle.prelude.proofs.Basics.{ℕ, zero, suc, ◌+◌, ◌-◌, ◌≤◌, ◌<◌, arith, ◌≡◌, refl, sym, ap, subst, ◌∙◌, List, length}
 use Rattle.prelude.proofs.Basics.{take, take-length, eq-eqb, ne_eqb, before_suc}
 use Rattle.wire.proofs.Names.{low64, groups_end, tag_of, tag_at, skip_value, and_then, group_field, group_fields}
-use Rattle.wire.proofs.Names.{group_end, PastTag, PastSkip, Skip, Tag}
+use Rattle.wire.proofs.Names.{group_end, PastTag, PastSkip, Tag}
 use Rattle.wire.proofs.PastLaws.{tag_past, skip_past, group_past}
+use Rattle.std.specs.Prelude.{Option, None}
+use Rattle.wire.specs.Tag.{some_tag}
+use Rattle.std.specs.Prelude.{Option, Some, None}
 
 -- at the end of the bytes there is no tag
-pub tag_end : (s : List ℕ) (at : ℕ) → length s ≤ at → tag_at s at ≡ Tag.Bad
+pub tag_end : (s : List ℕ) (at : ℕ) → length s ≤ at → tag_at s at ≡ None
 tag_end s at h = ap (λ x. tag_of (low64 x)) (groups_end 10 s at h)
 
 -- the fields of a group with `depth - 1` groups left for those in it
-abbrev pub rest : ℕ → ℕ → List ℕ → ℕ → ℕ → Skip
+abbrev pub rest : ℕ → ℕ → List ℕ → ℕ → ℕ → Option ℕ
 rest depth most s p number = group_fields (λ n q. group_end (depth - 1) s q n) most s p number
 
 -- where the loop stands: what is left at p answers for the whole group
@@ -20,7 +23,7 @@ pub record Skipping (depth : ℕ) (s : List ℕ) (at number p : ℕ) : Type 0 wh
   pub enough : length s ≤ p + most
   pub whole : rest depth most s p number ≡ group_end depth s at number
 
-pub shut : (s : List ℕ) (at number : ℕ) → group_end 0 s at number ≡ Skip.Bad
+pub shut : (s : List ℕ) (at number : ℕ) → group_end 0 s at number ≡ None
 unfolding group_end
 shut s at number = refl
 
@@ -35,7 +38,7 @@ pub starts : (depth : ℕ) (s : List ℕ) (at number : ℕ) → 0 < depth → Sk
 starts depth s at number h =
     record { deep = h; most = length s; enough = omega arith; whole = opened depth s at number h }
 
-unroll : (inner : ℕ → ℕ → Skip) (most : ℕ) (s : List ℕ) (p number : ℕ) → 0 < most →
+unroll : (inner : ℕ → ℕ → Option ℕ) (most : ℕ) (s : List ℕ) (p number : ℕ) → 0 < most →
     group_fields inner most s p number ≡ group_field inner (λ q. group_fields inner (most - 1) s q number) s number
     (tag_at s p)
 unfolding group_fields
@@ -43,28 +46,28 @@ unroll inner zero s p number h = absurd (omega arith)
 unroll inner (suc m) s p number h =
     ap (λ (k : ℕ). group_field inner (λ q. group_fields inner k s q number) s number (tag_at s p)) (before_suc m)
 
-pub fields_end : (inner : ℕ → ℕ → Skip) (most : ℕ) (s : List ℕ) (p number : ℕ) → length s ≤ p →
-    group_fields inner most s p number ≡ Skip.Bad
+pub fields_end : (inner : ℕ → ℕ → Option ℕ) (most : ℕ) (s : List ℕ) (p number : ℕ) → length s ≤ p →
+    group_fields inner most s p number ≡ None
 unfolding group_fields
 fields_end inner zero s p number h = refl
 fields_end inner (suc m) s p number h = rw (tag_end s p h)
 
 pub unended : {depth : ℕ} {s : List ℕ} {at number p : ℕ} → Skipping depth s at number p → length s ≤ p →
-    Skip.Bad ≡ group_end depth s at number
+    None ≡ group_end depth s at number
 unended {depth} {s} {at} {number} {p} k h =
     sym (fields_end (λ n q. group_end (depth - 1) s q n) k.most s p number h) ∙ k.whole
 
 -- one turn: what stands at the place is read as a tag
-pub record Turn (depth : ℕ) (s : List ℕ) (at number p : ℕ) (t : Tag) : Type 0 where
+pub record Turn (depth : ℕ) (s : List ℕ) (at number p : ℕ) (t : Option Tag) : Type 0 where
   pub state : Skipping depth s at number p
   pub inside : p < length s
   pub tag : tag_at s p ≡ t
 
-abbrev inner : ℕ → List ℕ → ℕ → ℕ → Skip
+abbrev inner : ℕ → List ℕ → ℕ → ℕ → Option ℕ
 inner depth s n q = group_end (depth - 1) s q n
 
-module _ {depth : ℕ} {s : List ℕ} {at number p : ℕ} {t : Tag} (r : Turn depth s at number p t) where
-  abbrev more : ℕ → Skip
+module _ {depth : ℕ} {s : List ℕ} {at number p : ℕ} {t : Option Tag} (r : Turn depth s at number p t) where
+  abbrev more : ℕ → Option ℕ
   more q = rest depth (r.state.most - 1) s q number
 
   answers : group_field (inner depth s) more s number t ≡ group_end depth s at number
@@ -74,15 +77,15 @@ module _ {depth : ℕ} {s : List ℕ} {at number p : ℕ} {t : Tag} (r : Turn de
       ∙ ap (group_field (inner depth s) more s number) r.tag)
       ∙ r.state.whole
 
-pub no_tag : {depth : ℕ} {s : List ℕ} {at number p : ℕ} → Turn depth s at number p Tag.Bad →
-    Skip.Bad ≡ group_end depth s at number
+pub no_tag : {depth : ℕ} {s : List ℕ} {at number p : ℕ} → Turn depth s at number p None →
+    None ≡ group_end depth s at number
 no_tag r = answers r
 
-module _ {depth : ℕ} {s : List ℕ} {at number p n w next : ℕ} (r : Turn depth s at number p (Tag.Field n w next)) where
-  pub ended : w ≡ 4 → n ≡ number → Skip.At next ≡ group_end depth s at number
+module _ {depth : ℕ} {s : List ℕ} {at number p n w next : ℕ} (r : Turn depth s at number p (some_tag n w next)) where
+  pub ended : w ≡ 4 → n ≡ number → Some next ≡ group_end depth s at number
   ended h g = sym (simp (eq-eqb w 4 h, eq-eqb n number g)) ∙ answers r
 
-  pub misended : w ≡ 4 → (n ≡ number → ⊥) → Skip.Bad ≡ group_end depth s at number
+  pub misended : w ≡ 4 → (n ≡ number → ⊥) → None ≡ group_end depth s at number
   misended h g = sym (simp (eq-eqb w 4 h, ne_eqb n number g)) ∙ answers r
 
   next_past : p < next
@@ -92,7 +95,7 @@ module _ {depth : ℕ} {s : List ℕ} {at number p n w next : ℕ} (r : Turn dep
       tag-inside = rw r.tag (λ h. h.0)
 
   -- what was skipped from the tag's end on, a group or a value, answers for the group
-  pub record Skipped (x : Skip) : Type 0 where
+  pub record Skipped (x : Option ℕ) : Type 0 where
     pub whole : and_then x (more r) ≡ group_end depth s at number
     pub past : PastSkip next (length s) x
 
@@ -107,30 +110,30 @@ module _ {depth : ℕ} {s : List ℕ} {at number p n w next : ℕ} (r : Turn dep
   over h g = record { whole = sym (simp (ne_eqb w 4 h, ne_eqb w 3 g)) ∙ answers r; past = skip_past s w next }
 
   -- the bytes were lent anew, and are the same
-  lent : (f : List ℕ → Skip) {x : Skip} → Skipped (f s) → x ≡ f (take (length s) s) → Skipped x
+  lent : (f : List ℕ → Option ℕ) {x : Option ℕ} → Skipped (f s) → x ≡ f (take (length s) s) → Skipped x
   lent f k e = subst Skipped (sym (e ∙ ap f (take-length s))) k
 
-  pub group_lent : (w ≡ 4 → ⊥) → w ≡ 3 → {x : Skip} → x ≡ inner depth (take (length s) s) n next → Skipped x
+  pub group_lent : (w ≡ 4 → ⊥) → w ≡ 3 → {x : Option ℕ} → x ≡ inner depth (take (length s) s) n next → Skipped x
   group_lent h g = lent (λ (l : List ℕ). inner depth l n next) (into h g)
 
-  pub value_lent : (w ≡ 4 → ⊥) → (w ≡ 3 → ⊥) → {x : Skip} → x ≡ skip_value (take (length s) s) w next → Skipped x
+  pub value_lent : (w ≡ 4 → ⊥) → (w ≡ 3 → ⊥) → {x : Option ℕ} → x ≡ skip_value (take (length s) s) w next → Skipped x
   value_lent h g = lent (λ (l : List ℕ). skip_value l w next) (over h g)
 
   -- a bad one, or the loop's next place
-  module _ {x : Skip} (k : Skipped x) where
-    onward : {y : Skip} → x ≡ y → and_then y (more r) ≡ group_end depth s at number
-    onward e = ap (λ (y : Skip). and_then y (more r)) (sym e) ∙ k.whole
+  module _ {x : Option ℕ} (k : Skipped x) where
+    onward : {y : Option ℕ} → x ≡ y → and_then y (more r) ≡ group_end depth s at number
+    onward e = ap (λ (y : Option ℕ). and_then y (more r)) (sym e) ∙ k.whole
 
-    pub stops : x ≡ Skip.Bad → Skip.Bad ≡ group_end depth s at number
+    pub stops : x ≡ None → None ≡ group_end depth s at number
     stops e = onward e
 
-    pub advances : {q : ℕ} → x ≡ Skip.At q → p < q
+    pub advances : {q : ℕ} → x ≡ Some q → p < q
     advances {q} e = go (rw e at k.past)
       where
-        go : PastSkip next (length s) (Skip.At q) → p < q
+        go : PastSkip next (length s) (Some q) → p < q
         go g = omega (arith, next_past)
 
-    pub goes_on_lem : {q : ℕ} → x ≡ Skip.At q → Skipping depth s at number q
+    pub goes_on_lem : {q : ℕ} → x ≡ Some q → Skipping depth s at number q
     goes_on_lem e =
         record {
           deep = r.state.deep;

@@ -3,30 +3,34 @@ use Rattle.prelude.proofs.Basics.{ℕ, ◌+◌, ◌-◌, ◌≤◌, ◌<◌, ari
 use Rattle.prelude.proofs.Basics.{◌∙◌, List, ◌++◌, length, take, drop, List·getD-append, length-append, length-drop}
 use Rattle.prelude.proofs.Basics.{drop-append-le, drop-drop, take-append-le, eqb, eqb-true}
 use Rattle.varint.specs.Padded.{is_padded, padded_by}
-use Rattle.wire.proofs.Names.{Past, varint_at, padded_at, Varint, varint_past, KeepsVarint, varint_keeps, tag_of}
+use Rattle.wire.proofs.Names.{Past, varint_at, padded_at, Number, varint_past, KeepsVarint, varint_keeps, tag_of}
 use Rattle.wire.proofs.Names.{tag_at, of_varint, of_length, of_value, field_of, field_at, value_padded, behind_tag}
-use Rattle.wire.proofs.Names.{field_padded, Field, Tag, Value}
+use Rattle.wire.proofs.Names.{field_padded, Tag, Value}
 use Rattle.wire.proofs.FieldLaws.{field_tagged}
 use Rattle.wire.proofs.PaddedLaws.{field_flag}
 use Rattle.wire.proofs.MovedLaws.{moved_varint, moved_tag, varint_moved, tag_moved, Tail, Stands}
+use Rattle.std.specs.Prelude.{Option, Some, None}
+use Rattle.varint.specs.Number.{some_number}
+use Rattle.wire.specs.Field.{some_field}
+use Rattle.wire.specs.Tag.{some_tag}
 
 -- ---- where the bytes stand
 
 module _ {s : List ℕ} {d : ℕ} {t : List ℕ} (k : Tail s d t) where
-  by-varint : (at : ℕ) (x : Varint) → padded_by s (d + at) (moved_varint d x) ≡ padded_by t at x
-  by-varint at (Varint.Number v next) =
-      let e : d + next - (d + at) ≡ next - at = omega arith in
-      ap₂ (λ (n : ℕ) (l : List ℕ). is_padded (take n l) v) e (sym (drop-drop at d s) ∙ ap (drop at) k.is)
-  by-varint at Varint.Bad = refl
+  by-varint : (at : ℕ) (x : Option Number) → padded_by s (d + at) (moved_varint d x) ≡ padded_by t at x
+  by-varint at (Some r) =
+      let e : d + r.next - (d + at) ≡ r.next - at = omega arith in
+      ap₂ (λ (n : ℕ) (l : List ℕ). is_padded (take n l) r.value) e (sym (drop-drop at d s) ∙ ap (drop at) k.is)
+  by-varint at None = refl
 
   padded-moved : (at : ℕ) → padded_at s (d + at) ≡ padded_at t at
   unfolding padded_at
   padded-moved at = ap (padded_by s (d + at)) (varint_moved k at) ∙ by-varint at (varint_at t at)
 
-  behind_moved : (x : Tag) → behind_tag s (moved_tag d x) ≡ behind_tag t x
-  behind_moved (Tag.Field number wire next) =
-      ap (λ (b : Bool). cond (eqb wire 0) b (cond (eqb wire 2) b false)) (padded-moved next)
-  behind_moved Tag.Bad = refl
+  behind_moved : (x : Option Tag) → behind_tag s (moved_tag d x) ≡ behind_tag t x
+  behind_moved (Some r) =
+      ap (λ (b : Bool). cond (eqb r.wire 0) b (cond (eqb r.wire 2) b false)) (padded-moved r.next)
+  behind_moved None = refl
 
   pub field_flag_moved : (at : ℕ) → field_padded s (d + at) ≡ field_padded t at
   unfolding field_padded
@@ -35,8 +39,8 @@ module _ {s : List ℕ} {d : ℕ} {t : List ℕ} (k : Tail s d t) where
 -- ---- what stands behind them
 
 module _ (s q : List ℕ) where
-  varint-longer : (at : ℕ) {v next : ℕ} → varint_at s at ≡ Varint.Number v next →
-      (varint_at (s ++ q) at ≡ Varint.Number v next) × (at < next) × (next ≤ length s)
+  varint-longer : (at : ℕ) {v next : ℕ} → varint_at s at ≡ some_number v next →
+      (varint_at (s ++ q) at ≡ some_number v next) × (at < next) × (next ≤ length s)
   varint-longer at {v} {next} e =
       go
       (varint_keeps {p = at}
@@ -48,10 +52,10 @@ module _ (s q : List ℕ) where
       (varint_past s at)
     where
       go : KeepsVarint (length s) (varint_at s at) (varint_at (s ++ q) at) → Past at (length s) (varint_at s at) →
-          (varint_at (s ++ q) at ≡ Varint.Number v next) × (at < next) × (next ≤ length s)
+          (varint_at (s ++ q) at ≡ some_number v next) × (at < next) × (next ≤ length s)
       go = rw e (λ k p. (k p.1, p.0, p.1))
 
-  padded-longer : (at : ℕ) {v next : ℕ} → varint_at s at ≡ Varint.Number v next → padded_at (s ++ q) at ≡ padded_at s at
+  padded-longer : (at : ℕ) {v next : ℕ} → varint_at s at ≡ some_number v next → padded_at (s ++ q) at ≡ padded_at s at
   unfolding padded_at
   padded-longer at {v} {next} e =
       let f = varint-longer at e in
@@ -62,25 +66,25 @@ module _ (s q : List ℕ) where
       ∙ sym (ap (padded_by s at) e)
 
   -- a value that begins with a varint has one
-  begins : (g : Varint → Value) → g Varint.Bad ≡ Value.Bad → (number wire at : ℕ) {n w v st ln next : ℕ} →
-      of_value number wire (g (varint_at s at)) ≡ Field.Good n w v st ln next → padded_at (s ++ q) at ≡ padded_at s at
+  begins : (g : Option Number → Option Value) → g None ≡ None → (number wire at : ℕ) {n w v st ln next : ℕ} →
+      of_value number wire (g (varint_at s at)) ≡ some_field n w v st ln next → padded_at (s ++ q) at ≡ padded_at s at
   begins g z number wire at {n} {w} {v} {st} {ln} {next} e = go (varint_at s at) refl
     where
-      go : (x : Varint) → varint_at s at ≡ x → padded_at (s ++ q) at ≡ padded_at s at
-      go (Varint.Number v next) f = padded-longer at f
-      go Varint.Bad f =
+      go : (x : Option Number) → varint_at s at ≡ x → padded_at (s ++ q) at ≡ padded_at s at
+      go (Some r) f = padded-longer at f
+      go None f =
           absurd
-          (let bad : Field.Bad ≡ Field.Good n w v st ln next =
-          sym (ap (λ (x : Varint). of_value number wire (g x)) f ∙ ap (of_value number wire) z) ∙ e in
+          (let bad : None ≡ some_field n w v st ln next =
+          sym (ap (λ (x : Option Number). of_value number wire (g x)) f ∙ ap (of_value number wire) z) ∙ e in
           let y : ◌≡◌ {A = ℕ} 0 1 = cc in
           omega arith)
 
   value-longer : (number wire at : ℕ) {n w v st ln next : ℕ} →
-      field_of s number wire at ≡ Field.Good n w v st ln next →
+      field_of s number wire at ≡ some_field n w v st ln next →
       value_padded (s ++ q) wire at ≡ value_padded s wire at
   value-longer number wire at {n} {w} {v} {st} {ln} {next} e = go (eqb wire 0) refl (eqb wire 2) refl
     where
-      with-wire : {i : ℕ} → wire ≡ i → field_of s number i at ≡ Field.Good n w v st ln next
+      with-wire : {i : ℕ} → wire ≡ i → field_of s number i at ≡ some_field n w v st ln next
       with-wire {i} f = ap (λ (i : ℕ). field_of s number i at) (sym f) ∙ e
 
       go : (a : Bool) → eqb wire 0 ≡ a → (b : Bool) → eqb wire 2 ≡ b →
@@ -90,34 +94,34 @@ module _ (s q : List ℕ) where
       go false f true h = begins (of_length s) refl number 2 at (with-wire (eqb-true wire 2 h))
       go false f false h = refl
 
-  field-flag-longer : (at : ℕ) {n w v st ln next : ℕ} → field_at s at ≡ Field.Good n w v st ln next →
+  field-flag-longer : (at : ℕ) {n w v st ln next : ℕ} → field_at s at ≡ some_field n w v st ln next →
       field_padded (s ++ q) at ≡ field_padded s at
   field-flag-longer at {n} {w} {v} {st} {ln} {next} e = by-varint (varint_at s at) refl
     where
-      by-tag : (g here : ℕ) → varint_at s at ≡ Varint.Number g here → (y : Tag) → tag_of (Varint.Number g here) ≡ y →
+      by-tag : (g here : ℕ) → varint_at s at ≡ some_number g here → (y : Option Tag) → tag_of (some_number g here) ≡ y →
           field_padded (s ++ q) at ≡ field_padded s at
-      by-tag g here f (Tag.Field number wire at') h =
-          let y = Tag.Field number wire at' in
+      by-tag g here f (Some r) h =
+          let y = some_tag r.number r.wire r.next in
           sym (field_flag (s ++ q) at y (ap tag_of (varint-longer at f).0 ∙ h))
           ∙ ap₂ ◌||◌ (padded-longer at f)
-          (value-longer number wire at' (sym (field_tagged s at y (ap tag_of f ∙ h)) ∙ e))
+          (value-longer r.number r.wire r.next (sym (field_tagged s at y (ap tag_of f ∙ h)) ∙ e))
           ∙ field_flag s at y (ap tag_of f ∙ h)
-      by-tag g here f Tag.Bad h =
+      by-tag g here f None h =
           absurd
-          (let bad = sym (field_tagged s at Tag.Bad (ap tag_of f ∙ h)) ∙ e in
+          (let bad = sym (field_tagged s at None (ap tag_of f ∙ h)) ∙ e in
           let y : ◌≡◌ {A = ℕ} 0 1 = cc in
           omega arith)
 
-      by-varint : (x : Varint) → varint_at s at ≡ x → field_padded (s ++ q) at ≡ field_padded s at
-      by-varint (Varint.Number g here) f = by-tag g here f (tag_of (Varint.Number g here)) refl
-      by-varint Varint.Bad f =
+      by-varint : (x : Option Number) → varint_at s at ≡ x → field_padded (s ++ q) at ≡ field_padded s at
+      by-varint (Some r) f = by-tag r.value r.next f (tag_of (some_number r.value r.next)) refl
+      by-varint None f =
           absurd
-          (let bad = sym (field_tagged s at Tag.Bad (ap tag_of f)) ∙ e in
+          (let bad = sym (field_tagged s at None (ap tag_of f)) ∙ e in
           let y : ◌≡◌ {A = ℕ} 0 1 = cc in
           omega arith)
 
 -- a field of bytes that stand somewhere
 pub field_flag_stands : {s : List ℕ} {d : ℕ} {t q : List ℕ} → Stands s d t q → (at : ℕ) {n w v st ln next : ℕ} →
-    field_at t at ≡ Field.Good n w v st ln next → field_padded s (d + at) ≡ field_padded t at
+    field_at t at ≡ some_field n w v st ln next → field_padded s (d + at) ≡ field_padded t at
 field_flag_stands {t = t} {q = q} k at e =
     field_flag_moved (record { within = k.within; is = k.there }) at ∙ field-flag-longer t q at e

@@ -7,43 +7,47 @@ use Rattle.varint.proofs.GroupLaws.{groups_none, groups_last, groups_more}
 use Rattle.varint.proofs.ShortestLaws.{below_or_not}
 pub use Rattle.varint.proofs.TailLaws.{Tail, tail_length, Stands, stands_length, stands_take}
 use Rattle.varint.proofs.TailLaws.{chosen_alike, leb_add, tail_byte}
-use Rattle.scalar.specs.declared.fixed.Fixed.{Fixed}
-use Rattle.wire.proofs.Names.{low64, varint_at, Varint, groups_end, little, tag_of, tag_at, of_varint, of_fixed}
+use Rattle.wire.proofs.Names.{low64, varint_at, Number, groups_end, little, tag_of, tag_at, of_varint, of_fixed}
 use Rattle.wire.proofs.Names.{as_fixed, of_length, value_at, behind, skip_value, group_end, max_depth, of_value}
-use Rattle.wire.proofs.Names.{of_group, of_tag, field_at, Field, Skip, Tag, Value}
+use Rattle.wire.proofs.Names.{of_group, of_tag, field_at, Field, Tag, Value}
 use Rattle.wire.proofs.FieldLaws.{field_tagged}
 use Rattle.wire.proofs.GroupLaws.{Skipping, Turn, Skipped, starts, shut, unended, no_tag, ended, misended, into}
 use Rattle.wire.proofs.GroupLaws.{over, stops, advances, goes_on_lem}
+use Rattle.std.specs.Prelude.{Option, Some, None}
+use Rattle.varint.specs.Number.{some_number}
+use Rattle.wire.specs.Field.{some_field}
+use Rattle.wire.specs.Tag.{some_tag}
+use Rattle.wire.specs.Value.{some_value}
 
-abbrev pub moved_varint : ℕ → Varint → Varint
-moved_varint d (Varint.Number v next) = Varint.Number v (d + next)
-moved_varint d Varint.Bad = Varint.Bad
+abbrev pub moved_varint : ℕ → Option Number → Option Number
+moved_varint d (Some r) = some_number r.value (d + r.next)
+moved_varint d None = None
 
-abbrev pub moved_tag : ℕ → Tag → Tag
-moved_tag d (Tag.Field n w next) = Tag.Field n w (d + next)
-moved_tag d Tag.Bad = Tag.Bad
+abbrev pub moved_tag : ℕ → Option Tag → Option Tag
+moved_tag d (Some r) = some_tag r.number r.wire (d + r.next)
+moved_tag d None = None
 
-abbrev pub moved_value : ℕ → Value → Value
-moved_value d (Value.Good v start len next) = Value.Good v (d + start) len (d + next)
-moved_value d Value.Bad = Value.Bad
+abbrev pub moved_value : ℕ → Option Value → Option Value
+moved_value d (Some r) = some_value r.number (d + r.start) r.len (d + r.next)
+moved_value d None = None
 
-abbrev pub moved_skip : ℕ → Skip → Skip
-moved_skip d (Skip.At next) = Skip.At (d + next)
-moved_skip d Skip.Bad = Skip.Bad
+abbrev pub moved_skip : ℕ → Option ℕ → Option ℕ
+moved_skip d (Some next) = Some (d + next)
+moved_skip d None = None
 
-abbrev pub moved_field : ℕ → Field → Field
-moved_field d (Field.Good n w v start len next) = Field.Good n w v (d + start) len (d + next)
-moved_field d Field.Bad = Field.Bad
+abbrev pub moved_field : ℕ → Option Field → Option Field
+moved_field d (Some r) = some_field r.number r.wire r.value (d + r.start) r.len (d + r.next)
+moved_field d None = None
 
 -- ---- numbers
 
-onto_moved : (d a w : ℕ) (x : Varint) → onto a w (moved_varint d x) ≡ moved_varint d (onto a w x)
-onto_moved d a w (Varint.Number v next) = refl
-onto_moved d a w Varint.Bad = refl
+onto_moved : (d a w : ℕ) (x : Option Number) → onto a w (moved_varint d x) ≡ moved_varint d (onto a w x)
+onto_moved d a w (Some r) = refl
+onto_moved d a w None = refl
 
-low64_moved : (d : ℕ) (x : Varint) → low64 (moved_varint d x) ≡ moved_varint d (low64 x)
-low64_moved d (Varint.Number v next) = refl
-low64_moved d Varint.Bad = refl
+low64_moved : (d : ℕ) (x : Option Number) → low64 (moved_varint d x) ≡ moved_varint d (low64 x)
+low64_moved d (Some r) = refl
+low64_moved d None = refl
 
 module _ {s : List ℕ} {d : ℕ} {t : List ℕ} (k : Tail s d t) where
   groups-moved : (n at : ℕ) → groups n s (d + at) ≡ moved_varint d (groups n t at)
@@ -77,21 +81,21 @@ module _ {s : List ℕ} {d : ℕ} {t : List ℕ} (k : Tail s d t) where
 
   -- ---- tags and values
 
-  tag_of_moved : (x : Varint) → tag_of (moved_varint d x) ≡ moved_tag d (tag_of x)
-  tag_of_moved (Varint.Number v next) =
-      chosen_alike (moved_tag d) (ltb v 4294967296)
-      (chosen_alike (moved_tag d) (ltb v 8) refl (chosen_alike (moved_tag d) (ltb (v % 8) 6) refl refl))
+  tag_of_moved : (x : Option Number) → tag_of (moved_varint d x) ≡ moved_tag d (tag_of x)
+  tag_of_moved (Some r) =
+      chosen_alike (moved_tag d) (ltb r.value 4294967296)
+      (chosen_alike (moved_tag d) (ltb r.value 8) refl (chosen_alike (moved_tag d) (ltb (r.value % 8) 6) refl refl))
       refl
-  tag_of_moved Varint.Bad = refl
+  tag_of_moved None = refl
 
   pub tag_moved : (at : ℕ) → tag_at s (d + at) ≡ moved_tag d (tag_at t at)
   tag_moved at = ap tag_of (varint_moved at) ∙ tag_of_moved (varint_at t at)
 
-  number-moved : (at : ℕ) (x : Varint) → of_varint (d + at) (moved_varint d x) ≡ moved_value d (of_varint at x)
-  number-moved at (Varint.Number v next) =
-      let e : d + next - (d + at) ≡ next - at = omega arith in
-      ap (λ (n : ℕ). Value.Good v (d + at) n (d + next)) e
-  number-moved at Varint.Bad = refl
+  number-moved : (at : ℕ) (x : Option Number) → of_varint (d + at) (moved_varint d x) ≡ moved_value d (of_varint at x)
+  number-moved at (Some r) =
+      let e : d + r.next - (d + at) ≡ r.next - at = omega arith in
+      ap (λ (n : ℕ). some_value r.value (d + at) n (d + r.next)) e
+  number-moved at None = refl
 
   fixed_moved : (n at : ℕ) → as_fixed n s (d + at) ≡ moved_value d (as_fixed n t at)
   fixed_moved n at =
@@ -99,17 +103,17 @@ module _ {s : List ℕ} {d : ℕ} {t : List ℕ} (k : Tail s d t) where
       rw (e, tail_length k, leb_add d (at + n) (length t), little-moved n at) (go (leb (at + n) (length t)))
     where
       go : (b : Bool) →
-          of_fixed n (d + at) (cond b (Fixed.Number (little n t at) (d + (at + n))) Fixed.Bad)
-          ≡ moved_value d (of_fixed n at (cond b (Fixed.Number (little n t at) (at + n)) Fixed.Bad))
+          of_fixed n (d + at) (cond b (some_number (little n t at) (d + (at + n))) None)
+          ≡ moved_value d (of_fixed n at (cond b (some_number (little n t at) (at + n)) None))
       go true = refl
       go false = refl
 
-  length_moved : (x : Varint) → of_length s (moved_varint d x) ≡ moved_value d (of_length t x)
-  length_moved (Varint.Number n next) =
-      let e : length s - (d + next) ≡ length t - next = omega (arith, tail_length k) in
-      let f : d + next + n ≡ d + (next + n) = omega arith in
-      rw (e, f) (chosen_alike (moved_value d) (ltb (length t - next) n) refl refl)
-  length_moved Varint.Bad = refl
+  length_moved : (x : Option Number) → of_length s (moved_varint d x) ≡ moved_value d (of_length t x)
+  length_moved (Some r) =
+      let e : length s - (d + r.next) ≡ length t - r.next = omega (arith, tail_length k) in
+      let f : d + r.next + r.value ≡ d + (r.next + r.value) = omega arith in
+      rw (e, f) (chosen_alike (moved_value d) (ltb (length t - r.next) r.value) refl refl)
+  length_moved None = refl
 
   pub value_moved : (wire at : ℕ) → value_at s wire (d + at) ≡ moved_value d (value_at t wire at)
   value_moved wire at =
@@ -124,9 +128,9 @@ module _ {s : List ℕ} {d : ℕ} {t : List ℕ} (k : Tail s d t) where
   pub skip_moved : (wire at : ℕ) → skip_value s wire (d + at) ≡ moved_skip d (skip_value t wire at)
   skip_moved wire at = ap behind (value_moved wire at) ∙ go (value_at t wire at)
     where
-      go : (v : Value) → behind (moved_value d v) ≡ moved_skip d (behind v)
-      go (Value.Good v start len next) = refl
-      go Value.Bad = refl
+      go : (v : Option Value) → behind (moved_value d v) ≡ moved_skip d (behind v)
+      go (Some r) = refl
+      go None = refl
 
   -- two walks through the same group, one in each byte string, come to the same end
   module _ (depth at number : ℕ)
@@ -138,14 +142,14 @@ module _ {s : List ℕ} {d : ℕ} {t : List ℕ} (k : Tail s d t) where
     module _ (p : ℕ) (i : p < length t) (f : Skipping depth t at number p)
         (g : Skipping depth s (d + at) number (d + p))
         (on : (q : ℕ) → p < q → Skipping depth t at number q → Skipping depth s (d + at) number (d + q) → Alike) where
-      here : (x : Tag) → tag_at t p ≡ x → Turn depth t at number p x
+      here : (x : Option Tag) → tag_at t p ≡ x → Turn depth t at number p x
       here x e = record { state = f; inside = i; tag = e }
 
-      there : (x : Tag) → tag_at t p ≡ x → Turn depth s (d + at) number (d + p) (moved_tag d x)
+      there : (x : Option Tag) → tag_at t p ≡ x → Turn depth s (d + at) number (d + p) (moved_tag d x)
       there x e = record { state = g; inside = omega (arith, tail_length k); tag = tag_moved p ∙ ap (moved_tag d) e }
 
-      module _ (n w next : ℕ) (r : Turn depth t at number p (Tag.Field n w next))
-          (r' : Turn depth s (d + at) number (d + p) (Tag.Field n w (d + next))) where
+      module _ (n w next : ℕ) (r : Turn depth t at number p (some_tag n w next))
+          (r' : Turn depth s (d + at) number (d + p) (some_tag n w (d + next))) where
         by_number : w ≡ 4 → (b : Bool) → eqb n number ≡ b → Alike
         by_number h4 true b =
             let m = eqb-true n number b in
@@ -154,10 +158,10 @@ module _ {s : List ℕ} {d : ℕ} {t : List ℕ} (k : Tail s d t) where
             let m = eqb-false n number b in
             sym (misended r' h4 m) ∙ ap (moved_skip d) (misended r h4 m)
 
-        by-skip : (y : Skip) {x x' : Skip} → Skipped r x → Skipped r' x' → x' ≡ moved_skip d x → x ≡ y → Alike
-        by-skip (Skip.At q) f f' e b =
+        by-skip : (y : Option ℕ) {x x' : Option ℕ} → Skipped r x → Skipped r' x' → x' ≡ moved_skip d x → x ≡ y → Alike
+        by-skip (Some q) f f' e b =
             on q (advances r f b) (goes_on_lem r f b) (goes_on_lem r' f' (e ∙ ap (moved_skip d) b))
-        by-skip Skip.Bad f f' e b =
+        by-skip None f f' e b =
             sym (stops r' f' (e ∙ ap (moved_skip d) b)) ∙ ap (moved_skip d) (stops r f b)
 
         by-start : (w ≡ 4 → ⊥) → (b : Bool) → eqb w 3 ≡ b → Alike
@@ -172,10 +176,10 @@ module _ {s : List ℕ} {d : ℕ} {t : List ℕ} (k : Tail s d t) where
         by_end true b = by_number (eqb-true w 4 b) (eqb n number) refl
         by_end false b = by-start (eqb-false w 4 b) (eqb w 3) refl
 
-      by-tag : (x : Tag) → tag_at t p ≡ x → Alike
-      by-tag Tag.Bad e = sym (no_tag (there Tag.Bad e)) ∙ ap (moved_skip d) (no_tag (here Tag.Bad e))
-      by-tag (Tag.Field n w next) e =
-          by_end n w next (here (Tag.Field n w next) e) (there (Tag.Field n w next) e) (eqb w 4) refl
+      by-tag : (x : Option Tag) → tag_at t p ≡ x → Alike
+      by-tag None e = sym (no_tag (there None e)) ∙ ap (moved_skip d) (no_tag (here None e))
+      by-tag (Some r) e =
+          by_end r.number r.wire r.next (here (some_tag r.number r.wire r.next) e) (there (some_tag r.number r.wire r.next) e) (eqb r.wire 4) refl
 
     walks : (most p : ℕ) → length t ≤ p + most → Skipping depth t at number p →
         Skipping depth s (d + at) number (d + p) → Alike
@@ -197,22 +201,22 @@ module _ {s : List ℕ} {d : ℕ} {t : List ℕ} (k : Tail s d t) where
 
   -- ---- fields
 
-  of_value_moved : (n w : ℕ) (v : Value) → of_value n w (moved_value d v) ≡ moved_field d (of_value n w v)
-  of_value_moved n w (Value.Good v start len next) = refl
-  of_value_moved n w Value.Bad = refl
+  of_value_moved : (n w : ℕ) (v : Option Value) → of_value n w (moved_value d v) ≡ moved_field d (of_value n w v)
+  of_value_moved n w (Some r) = refl
+  of_value_moved n w None = refl
 
-  of_group_moved : (n at : ℕ) (x : Skip) → of_group n (d + at) (moved_skip d x) ≡ moved_field d (of_group n at x)
-  of_group_moved n at (Skip.At next) =
+  of_group_moved : (n at : ℕ) (x : Option ℕ) → of_group n (d + at) (moved_skip d x) ≡ moved_field d (of_group n at x)
+  of_group_moved n at (Some next) =
       let e : d + next - (d + at) ≡ next - at = omega arith in
-      ap (λ (m : ℕ). Field.Good n 3 0 (d + at) m (d + next)) e
-  of_group_moved n at Skip.Bad = refl
+      ap (λ (m : ℕ). some_field n 3 0 (d + at) m (d + next)) e
+  of_group_moved n at None = refl
 
-  of_tag_moved : (x : Tag) → of_tag s (moved_tag d x) ≡ moved_field d (of_tag t x)
-  of_tag_moved (Tag.Field n w at) =
-      chosen_alike (moved_field d) (eqb w 3)
-      (ap (of_group n (d + at)) (group_moved max_depth at n) ∙ of_group_moved n at (group_end max_depth t at n))
-      (ap (of_value n w) (value_moved w at) ∙ of_value_moved n w (value_at t w at))
-  of_tag_moved Tag.Bad = refl
+  of_tag_moved : (x : Option Tag) → of_tag s (moved_tag d x) ≡ moved_field d (of_tag t x)
+  of_tag_moved (Some r) =
+      chosen_alike (moved_field d) (eqb r.wire 3)
+      (ap (of_group r.number (d + r.next)) (group_moved max_depth r.next r.number) ∙ of_group_moved r.number r.next (group_end max_depth t r.next r.number))
+      (ap (of_value r.number r.wire) (value_moved r.wire r.next) ∙ of_value_moved r.number r.wire (value_at t r.wire r.next))
+  of_tag_moved None = refl
 
   pub field_moved : (at : ℕ) → field_at s (d + at) ≡ moved_field d (field_at t at)
   field_moved at =

@@ -3,7 +3,7 @@
 pub use Rattle.varint.specs.Past.{Past}
 pub use Rattle.varint.specs.Varint.{low64, varint_at}
 unfoldable pub use Rattle.varint.specs.Padded.{padded_at}
-pub use Rattle.varint.specs.declared.Varint.{Varint}
+pub use Rattle.varint.specs.declared.Number.{Number}
 pub use Rattle.varint.proofs.GroupLaws.{groups_end, varint_none}
 pub use Rattle.varint.proofs.PastLaws.{varint_past}
 pub use Rattle.varint.proofs.AgreeLaws.{KeepsVarint, varint_keeps}
@@ -16,6 +16,5 @@ unfoldable pub use Rattle.wire.specs.Field.{max_depth, of_value, of_group, field
 unfoldable pub use Rattle.wire.specs.Padded.{value_padded, behind_tag, field_padded}
 pub use Rattle.wire.specs.Past.{PastTag, PastValue, PastSkip, PastField}
 pub use Rattle.wire.specs.declared.field.Field.{Field}
-pub use Rattle.wire.specs.declared.group.Skip.{Skip}
 pub use Rattle.wire.specs.declared.tag.Tag.{Tag}
 pub use Rattle.wire.specs.declared.value.Value.{Value}

@@ -3,67 +3,46 @@
 ghost use Rattle.std.specs.Prelude.{◌≡◌};
 ghost use Rattle.wire.specs.Group.{group_end, skip_value};
 
-use crate::tag::Tag;
-use crate::value::Value;
 use protocol::wire_type;
 
-// The place behind what was skipped, or a bad field on the way.
-#[derive(Clone, Copy)]
-pub enum Skip {
-    At(usize),
-    Bad,
-}
-
-fn skip_value(s: &[u8], wire: u64, at: usize, unread: &mut bool) -> Skip
+// What skips answers the place behind what was skipped, and none where there is a bad field on the way.
+fn skip_value(s: &[u8], wire: u64, at: usize, unread: &mut bool) -> Option<usize>
     ensures { result ≡ skip_value s.now wire at }
 {
-    match crate::value::read_value(s, wire, at, unread) {
-        Value::Good {
-            number: _,
-            start: _,
-            len: _,
-            next,
-        } => Skip::At(next),
-        Value::Bad => Skip::Bad,
-    }
+    let value = crate::value::read_value(s, wire, at, unread)?;
+    Some(value.next)
 }
 
 // Skips the group `number`, whose start tag ends at `at`, with at most `depth` groups one in another,
 // itself among them.
-pub(crate) fn skip_group(s: &[u8], at: usize, number: u64, depth: u64, unread: &mut bool) -> Skip
+pub(crate) fn skip_group(
+    s: &[u8],
+    at: usize,
+    number: u64,
+    depth: u64,
+    unread: &mut bool,
+) -> Option<usize>
     ensures { result ≡ group_end depth s.now at number }
 {
     if depth == 0 {
-        return Skip::Bad;
+        return None;
     }
     let mut p = at;
+    // No index is counted: the place goes on by what was read.
     while p < s.len() {
-        let Tag::Field {
-            number: n,
-            wire: w,
-            next,
-        } = crate::tag::read_tag(s, p, unread)
-        else {
-            return Skip::Bad;
-        };
-        if w == wire_type::GROUP_END {
-            if n == number {
-                return Skip::At(next);
+        let tag = crate::tag::read_tag(s, p, unread)?;
+        if tag.wire == wire_type::GROUP_END {
+            if tag.number == number {
+                return Some(tag.next);
             }
-            return Skip::Bad;
+            return None;
         }
         let end = s.len();
-        if w == wire_type::GROUP_START {
-            let Skip::At(q) = skip_group(&s[..end], next, n, depth - 1, unread) else {
-                return Skip::Bad;
-            };
-            p = q;
+        if tag.wire == wire_type::GROUP_START {
+            p = skip_group(&s[..end], tag.next, tag.number, depth - 1, unread)?;
         } else {
-            let Skip::At(q) = skip_value(&s[..end], w, next, unread) else {
-                return Skip::Bad;
-            };
-            p = q;
+            p = skip_value(&s[..end], tag.wire, tag.next, unread)?;
         }
     }
-    Skip::Bad
+    None
 }

@@ -5,75 +5,63 @@ ghost use Rattle.wire.specs.Value.{as_length, as_number, of_fixed, value_at};
 ghost use Rattle.wire.specs.Padded.{value_padded};
 
 use protocol::wire_type;
-use scalar::fixed::Fixed;
-use varint::Varint;
+use varint::Number;
 
-// What stands at a place: a number (of bytes that follow, for wire type 2), the place and length of
-// the value's bytes and the place behind them, or no value.
+// A number (of bytes that follow, for wire type 2), the place and length of the value's bytes, and the place behind
+// them.
 #[derive(Clone, Copy)]
-pub enum Value {
-    Good {
-        number: u64,
-        start: usize,
-        len: usize,
-        next: usize,
-    },
-    Bad,
+pub struct Value {
+    pub number: u64,
+    pub start: usize,
+    pub len: usize,
+    pub next: usize,
 }
 
 // A varint.
-pub fn number_value(s: &[u8], at: usize, padded: &mut bool) -> Value
+pub fn number_value(s: &[u8], at: usize, padded: &mut bool) -> Option<Value>
     ensures answer { result ≡ as_number s.now at }
     ensures told { padded.new ≡ (padded.old || padded_at s.now at) }
 {
-    match varint::read_varint(s, at, padded) {
-        Varint::Number { value, next } => Value::Good {
-            number: value,
-            start: at,
-            len: next - at,
-            next,
-        },
-        Varint::Bad => Value::Bad,
-    }
+    let read = varint::read_varint(s, at, padded)?;
+    Some(Value {
+        number: read.value,
+        start: at,
+        len: read.next - at,
+        next: read.next,
+    })
 }
 
 // A length and as many bytes.
-pub fn length_value(s: &[u8], at: usize, padded: &mut bool) -> Value
+pub fn length_value(s: &[u8], at: usize, padded: &mut bool) -> Option<Value>
     ensures answer { result ≡ as_length s.now at }
     ensures told { padded.new ≡ (padded.old || padded_at s.now at) }
 {
-    match varint::read_varint(s, at, padded) {
-        Varint::Number { value, next } => {
-            let len = value as usize;
-            if s.len() - next < len {
-                return Value::Bad;
-            }
-            Value::Good {
-                number: value,
-                start: next,
-                len,
-                next: next + len,
-            }
-        }
-        Varint::Bad => Value::Bad,
+    let length = varint::read_varint(s, at, padded)?;
+    let len = length.value as usize;
+    if s.len() - length.next < len {
+        return None;
     }
+    Some(Value {
+        number: length.value,
+        start: length.next,
+        len,
+        next: length.next + len,
+    })
 }
 
-fn fixed_value(read: Fixed, width: usize, at: usize) -> Value
+fn fixed_value(read: Option<Number>, width: usize, at: usize) -> Option<Value>
     ensures { result ≡ of_fixed width at read }
 {
-    match read {
-        Fixed::Number { value, next } => Value::Good {
-            number: value,
-            start: at,
-            len: width,
-            next,
-        },
-        Fixed::Bad => Value::Bad,
-    }
+    let fixed = read?;
+    Some(Value {
+        number: fixed.value,
+        start: at,
+        len: width,
+        next: fixed.next,
+    })
 }
 
-pub fn read_value(s: &[u8], wire: u64, at: usize, padded: &mut bool) -> Value
+pub fn read_value(s: &[u8], wire: u64, at: usize, padded: &mut bool) -> Option<Value>
     ensures answer { result ≡ value_at s.now wire at }
     ensures told { padded.new ≡ (padded.old || value_padded s.now wire at) }
 {
@@ -89,5 +77,5 @@ pub fn read_value(s: &[u8], wire: u64, at: usize, padded: &mut bool) -> Value
     if wire == wire_type::I32 {
         return fixed_value(scalar::fixed::read_fixed32(s, at), 4, at);
     }
-    Value::Bad
+    None
 }

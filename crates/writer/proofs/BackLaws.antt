@@ -7,12 +7,11 @@ use Rattle.scalar.proofs.FixedLaws.{fixed_whole}
 use Rattle.layout.specs.Table.{rows_of}
 use Rattle.layout.specs.Part.{value_of}
 use Rattle.message.specs.Frame.{of_head}
-use Rattle.message.specs.declared.head.Head.{Head}
 use Rattle.message.specs.Payload.{if_good}
 use Rattle.message.specs.Simple.{reset_frame, session_close_frame, deallocate_frame, close_frame, fetch_in, fetch_frame}
 use Rattle.message.proofs.HeadLaws.{head_whole}
 use Rattle.writer.proofs.Names.{Tail, row_for, no_slots, use_of, fields_at, fields_from, has_required, low32, Use}
-use Rattle.writer.proofs.Names.{Slots, max_length, head_of, payload, frame_in, frame_of, Frame, Request, number_field}
+use Rattle.writer.proofs.Names.{Slots, max_length, framed, head_of, payload, frame_in, frame_of, Frame, Request, number_field}
 use Rattle.writer.proofs.Names.{optional_field, four_bytes, frame, given}
 use Rattle.writer.proofs.FieldLaws.{with_number, reads_number, reads_optional, reads_then, whole_good}
 use Rattle.writer.proofs.WriteLaws.{frame_length}
@@ -27,7 +26,7 @@ module _ (kind : ℕ) (content rest : List ℕ) (fits : length content + 1 ≤ m
   abbrev s : List ℕ
   s = frame kind content ++ rest
 
-  pub head_is : head_of s ≡ Head.Frame kind (4 + (length content + 1))
+  pub head_is : head_of s ≡ framed kind (4 + (length content + 1))
   head_is =
       sym
       (head_whole s {next = 0 + 4}

@@ -4,15 +4,16 @@ use Rattle.prelude.proofs.Basics.{length, ltb, le-ltb}
 use Rattle.args.specs.Value.{argument_in}
 use Rattle.writer.proofs.Names.{field_at, PastField, Field, field_past, is_args, is_good, on_arg, args_from}
 use Rattle.writer.specs.JudgeRules.{EnoughFields}
+use Rattle.std.specs.Prelude.{Option, Some, None}
 
 module _ (s : List ℕ) where
   -- ways on that agree from here on
-  field_same : (at : ℕ) (z : Field) → PastField at (length s) z → (f g : ℕ → Bool) → ((q : ℕ) → at < q → f q ≡ g q) →
+  field_same : (at : ℕ) (z : Option Field) → PastField at (length s) z → (f g : ℕ → Bool) → ((q : ℕ) → at < q → f q ≡ g q) →
       on_arg s f z ≡ on_arg s g z
-  field_same at (Field.Good number wire v start len next) h f g e =
-      ap (λ (x : Bool). cond (is_args number wire v) (cond (is_good (argument_in s start len)) x false) false)
-      (e next h.2)
-  field_same at Field.Bad h f g e = refl
+  field_same at (Some r) h f g e =
+      ap (λ (x : Bool). cond (is_args r.number r.wire r.value) (cond (is_good (argument_in s r.start r.len)) x false) false)
+      (e r.next h.2)
+  field_same at None h f g e = refl
 
   none_left : (m at : ℕ) → length s ≤ at → args_from m s at ≡ true
   unfolding args_from

@@ -1,7 +1,7 @@
 -- A field that is written reads back, wherever it stands; and field lists part by part. Assumes nothing.
 use Rattle.prelude.proofs.Basics.{ℕ, ◌+◌, ◌-◌, ◌*◌, ◌/◌, ◌%◌, ◌^◌, ◌<◌, arith, Bool, true, false, cond, ◌≡◌, refl, sym}
 use Rattle.prelude.proofs.Basics.{ap, subst, ◌∙◌, List, [], ◌++◌, length, length-append, take}
-use Rattle.varint.specs.declared.Varint.{Varint}
+use Rattle.varint.specs.declared.Number.{Number}
 use Rattle.varint.proofs.VarintLaws.{reads_there, varint_length}
 use Rattle.wire.specs.Tag.{tag_of, tag_at}
 use Rattle.wire.specs.Value.{of_varint, of_length}
@@ -20,15 +20,18 @@ use Rattle.layout.proofs.CountLaws.{good_list}
 use Rattle.layout.proofs.KeepsLaws.{parts_kept, one_only}
 use Rattle.encode.proofs.FieldLaws.{number_parts, prefix_parts}
 use Rattle.writer.proofs.Names.{varint_bytes, Tail, tail_length, Stands, stands_length, stands_cut, tail_stands}
-use Rattle.writer.proofs.Names.{stands_first, stands_next, field_at, Field, Tag, no_slots, use_of, noted, fields_at}
+use Rattle.writer.proofs.Names.{stands_first, stands_next, field_at, no_slots, use_of, noted, fields_at}
 use Rattle.writer.proofs.Names.{has_required, embedded, Use, Slots, Listing, goes_on_lem, number_field, optional_field}
 use Rattle.writer.proofs.Names.{bytes_field, bytes_sum}
+use Rattle.std.specs.Prelude.{Option}
+use Rattle.wire.specs.Field.{some_field}
+use Rattle.wire.specs.Tag.{some_tag}
 
 -- ---- one field
 
 pub tag_reads : (g num w at : ℕ) (s q : List ℕ) → g ≡ num * 8 + w → 0 < num → num < 10 → w < 6 →
     Stands s at (varint_bytes g) q →
-    tag_at s at ≡ Tag.Field num w (at + length (varint_bytes g))
+    tag_at s at ≡ some_tag num w (at + length (varint_bytes g))
 tag_reads g num w at s q e a b c k =
     ap tag_of (reads_there g at s q (omega arith) k.there)
     ∙ sym (tag_good g (at + length (varint_bytes g)) (omega arith) (omega arith) (omega arith))
@@ -42,7 +45,7 @@ behind_tag at g = at + length (varint_bytes g)
 
 module _ (num at : ℕ) (s q : List ℕ) (some : 0 < num) (few : num < 10) where
   pub number_reads : (v : ℕ) → v < 2 ^ 64 → Stands s at (number_field num v) q →
-      field_at s at ≡ Field.Good num 0 v (behind_tag at (num * 8)) (length (varint_bytes v))
+      field_at s at ≡ some_field num 0 v (behind_tag at (num * 8)) (length (varint_bytes v))
       (at + length (number_field num v))
   unfolding number_field
   number_reads v h k =
@@ -52,16 +55,16 @@ module _ (num at : ℕ) (s q : List ℕ) (some : 0 < num) (few : num < 10) where
       let e : next - here ≡ length (varint_bytes v) = omega arith in
       let f : next ≡ at + length (varint_bytes g ++ varint_bytes v) = omega
       (arith, length-append (varint_bytes g) (varint_bytes v)) in
-      field_tagged s at (Tag.Field num 0 here)
+      field_tagged s at (some_tag num 0 here)
       (tag_reads g num 0 at s (varint_bytes v ++ q) (omega arith) some few (omega arith)
       (stands_first (varint_bytes g) (varint_bytes v) k))
-      ∙ ap (λ (x : Varint). of_value num 0 (of_varint here x))
+      ∙ ap (λ (x : Option Number). of_value num 0 (of_varint here x))
       (reads_there v here s q h (stands_next (varint_bytes g) (varint_bytes v) k).there)
       ∙ rw (e, f)
 
   pub bytes_reads : (bs : List ℕ) → length bs < 2 ^ 64 → Stands s at (bytes_field num bs) q →
       field_at s at
-      ≡ Field.Good num 2 (length bs) (behind_tag (behind_tag at (num * 8 + 2)) (length bs)) (length bs)
+      ≡ some_field num 2 (length bs) (behind_tag (behind_tag at (num * 8 + 2)) (length bs)) (length bs)
       (at + length (bytes_field num bs))
   unfolding bytes_field
   bytes_reads bs h k =
@@ -72,13 +75,13 @@ module _ (num at : ℕ) (s q : List ℕ) (some : 0 < num) (few : num < 10) where
       let front = stands_first (varint_bytes g ++ varint_bytes n) bs k in
       let f : start + n ≡ at + length (varint_bytes g ++ varint_bytes n ++ bs) =
       omega (arith, length-append (varint_bytes g ++ varint_bytes n) bs, length-append (varint_bytes g) (varint_bytes n)) in
-      field_tagged s at (Tag.Field num 2 here)
+      field_tagged s at (some_tag num 2 here)
       (tag_reads g num 2 at s (varint_bytes n ++ (bs ++ q)) refl some few (omega arith)
       (stands_first (varint_bytes g) (varint_bytes n) front))
-      ∙ ap (λ (x : Varint). of_value num 2 (of_length s x))
+      ∙ ap (λ (x : Option Number). of_value num 2 (of_length s x))
       (reads_there n here s (bs ++ q) h (stands_next (varint_bytes g) (varint_bytes n) front).there)
       ∙ ap (of_value num 2) (sym (length_good s n start (omega (arith, stands_length k))))
-      ∙ ap (λ (m : ℕ). Field.Good num 2 n start n m) f
+      ∙ ap (λ (m : ℕ). some_field num 2 n start n m) f
 
 -- ---- field lists
 

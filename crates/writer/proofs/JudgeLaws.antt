@@ -7,6 +7,8 @@ use Rattle.args.proofs.ArgsFieldLaws.{no_wire}
 use Rattle.message.specs.Operation as Operation
 use Rattle.writer.proofs.Names.{field_at, PastField, Field, field_past, is_args, any_type_of, is_args_lem, no_number}
 use Rattle.writer.proofs.Names.{is_good, on_arg, args_from, good_stretch, is_type, good_prepare, accepted_as}
+use Rattle.std.specs.Prelude.{Option, None}
+use Rattle.wire.specs.Field.{some_field}
 
 -- where the loop stands: what is left at p answers for the whole stretch
 pub record Judging (s : List ℕ) (p : ℕ) : Type 0 where
@@ -33,17 +35,17 @@ unroll (suc m) s p g h =
     simp (lt-ltb p (length s) h) (ap (λ (k : ℕ). on_arg s (λ next. args_from k s next) (field_at s p)) (before_suc m))
 
 module _ {s : List ℕ} {p : ℕ} (k : Judging s p) (inside : p < length s) where
-  turn : (f : Field) → field_at s p ≡ f → on_arg s (λ next. args_from (k.most - 1) s next) f ≡ good_stretch s
+  turn : (f : Option Field) → field_at s p ≡ f → on_arg s (λ next. args_from (k.most - 1) s next) f ≡ good_stretch s
   turn f e =
       sym
       (unroll k.most s p (omega (arith, k.enough)) inside
       ∙ ap (on_arg s (λ next. args_from (k.most - 1) s next)) e)
       ∙ k.whole
 
-  pub no_field : field_at s p ≡ Field.Bad → false ≡ good_stretch s
-  no_field e = turn Field.Bad e
+  pub no_field : field_at s p ≡ None → false ≡ good_stretch s
+  no_field e = turn None e
 
-  module _ {number wire v start len next : ℕ} (e : field_at s p ≡ Field.Good number wire v start len next) where
+  module _ {number wire v start len next : ℕ} (e : field_at s p ≡ some_field number wire v start len next) where
     pub advances : p < next
     advances = go (field_past s p)
       where
@@ -54,7 +56,7 @@ module _ {s : List ℕ} {p : ℕ} (k : Judging s p) (inside : p < length s) wher
     rest = cond (is_good (argument_in s start len)) (args_from (k.most - 1) s next) false
 
     by_args : (b : Bool) → b ≡ is_args number wire v → cond b rest false ≡ good_stretch s
-    by_args b h = ap (λ (c : Bool). cond c rest false) h ∙ turn (Field.Good number wire v start len next) e
+    by_args b h = ap (λ (c : Bool). cond c rest false) h ∙ turn (some_field number wire v start len next) e
 
     pub other_number : (number ≡ 2 → ⊥) → false ≡ good_stretch s
     other_number h = by_args false (no_number number wire v h)

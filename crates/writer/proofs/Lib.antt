@@ -1,7 +1,6 @@
 mod Names
 pub mod SizeLaws
 pub mod JudgeLaws
-pub mod PayloadLaws
 pub mod WriteLaws
 pub mod ArgListLaws
 pub mod FieldLaws

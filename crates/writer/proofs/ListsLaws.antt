@@ -3,29 +3,30 @@ use Rattle.prelude.proofs.Basics.{ℕ, zero, suc, ◌+◌, ◌^◌, ◌≤◌, �
 use Rattle.prelude.proofs.Basics.{◌∙◌, List, [], ◌∷◌, ◌++◌, map, append-nil, append_assoc, length, length-append}
 use Rattle.prelude.proofs.Basics.{ne_eqb}
 use Rattle.args.specs.Value.{argument_in}
-use Rattle.args.specs.Arguments.{arg_place, next_argument}
-use Rattle.args.specs.declared.arguments.ArgPlace.{ArgPlace}
+use Rattle.args.specs.Arguments.{arg_place, next_argument, placed_at, found_argument}
+use Rattle.std.specs.Prelude.{Option, Some, None}
 use Rattle.args.specs.declared.arguments.NextArgument.{NextArgument}
 use Rattle.args.proofs.PlaceLaws.{starts, found, other_number, next_end, next_placed}
 use Rattle.args.proofs.ArgumentsLaws.{from_none as args_none}
 use Rattle.args.proofs.MovedArgLaws.{argument_moved, args_found}
 use Rattle.args.proofs.EnoughLaws.{enough_fields}
 use Rattle.writer.proofs.Names.{Tail, tail_length, Stands, stands_length, tail_stands, stands_first, stands_next}
-use Rattle.writer.proofs.Names.{Argument, field_at, Field, arguments_at, any_type_of, bad_arguments, with_type}
+use Rattle.writer.proofs.Names.{Argument, field_at, arguments_at, any_type_of, bad_arguments, with_type}
 use Rattle.writer.proofs.Names.{arguments_from, together, moved, Arguments, type_good, field_inside, number_field}
 use Rattle.writer.proofs.Names.{optional_field}
 use Rattle.writer.proofs.FieldLaws.{number_reads}
 use Rattle.writer.proofs.StretchLaws.{Stretch, done, more, there}
+use Rattle.wire.specs.Field.{some_field}
 
 -- an args field is the next argument
-pub next_finds : (s : List ℕ) (p : ℕ) {v st ln next : ℕ} → field_at s p ≡ Field.Good 2 2 v st ln next →
-    next_argument s p ≡ NextArgument.Found (argument_in s st ln) next
+pub next_finds : (s : List ℕ) (p : ℕ) {v st ln next : ℕ} → field_at s p ≡ some_field 2 2 v st ln next →
+    next_argument s p ≡ found_argument (argument_in s st ln) next
 next_finds s p {v} {st} {ln} {next} e =
     let inside = field_inside s p e in
-    sym (next_placed s p (ArgPlace.At st ln next) (found (starts s p) (omega arith) e refl refl))
+    sym (next_placed s p (placed_at st ln next) (found (starts s p) (omega arith) e refl refl))
 
 -- any other field is passed over
-pub next_skips : (s : List ℕ) (p : ℕ) {n w v st ln next : ℕ} → (n ≡ 2 → ⊥) → field_at s p ≡ Field.Good n w v st ln next →
+pub next_skips : (s : List ℕ) (p : ℕ) {n w v st ln next : ℕ} → (n ≡ 2 → ⊥) → field_at s p ≡ some_field n w v st ln next →
     next_argument s p ≡ next_argument s next
 next_skips s p {n} {w} {v} {st} {ln} {next} z e =
     let inside = field_inside s p e in
@@ -41,10 +42,10 @@ args_skip : (m : ℕ) (s : List ℕ) (p next : ℕ) → next_argument s p ≡ ne
     arguments_from m s p ≡ arguments_from m s next
 args_skip m s p next e = go m (next_argument s next) refl
   where
-    go : (m : ℕ) (x : NextArgument) → next_argument s next ≡ x → arguments_from m s p ≡ arguments_from m s next
-    go m NextArgument.End f = args_none m s p (e ∙ f) ∙ sym (args_none m s next f)
-    go zero (NextArgument.Found a r) f = args_zero s p ∙ sym (args_zero s next)
-    go (suc m) (NextArgument.Found a r) f = args_found m s p (e ∙ f) ∙ sym (args_found m s next f)
+    go : (m : ℕ) (x : Option NextArgument) → next_argument s next ≡ x → arguments_from m s p ≡ arguments_from m s next
+    go m None f = args_none m s p (e ∙ f) ∙ sym (args_none m s next f)
+    go zero (Some found) f = args_zero s p ∙ sym (args_zero s next)
+    go (suc m) (Some found) f = args_found m s p (e ∙ f) ∙ sym (args_found m s next f)
 
 -- wherever these bytes stand, the arguments from there on are l of the place, and those behind the bytes
 pub record Lists (bs : List ℕ) (l : ℕ → List Argument) : Type 0 where

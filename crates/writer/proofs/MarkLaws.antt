@@ -11,11 +11,14 @@ use Rattle.layout.proofs.PaddedLaws.{flag_end, flag_turn, padded_inside}
 use Rattle.args.specs.Padded.{bound_padded}
 use Rattle.args.proofs.MovedFlagLaws.{argument_flag_moved}
 use Rattle.writer.proofs.Names.{varint_bytes, Tail, tail_length, Stands, stands_length, stands_cut, tail_stands}
-use Rattle.writer.proofs.Names.{stands_first, stands_next, field_at, field_padded, Field, Tag, padded_from, is_args}
+use Rattle.writer.proofs.Names.{stands_first, stands_next, field_at, field_padded, Field, padded_from, is_args}
 use Rattle.writer.proofs.Names.{inside_args, argument_padded, execute_padded, is_args_lem, no_number, field_inside}
 use Rattle.writer.proofs.Names.{number_field, optional_field, bytes_field, stretch_padded}
 use Rattle.writer.proofs.FieldLaws.{tag_reads, behind_tag, number_reads, bytes_reads, stands_inside}
 use Rattle.writer.proofs.StretchLaws.{Stretch, done, more, there}
+use Rattle.std.specs.Prelude.{Option}
+use Rattle.wire.specs.Field.{some_field}
+use Rattle.wire.specs.Tag.{some_tag}
 
 -- ---- one field
 
@@ -23,7 +26,7 @@ use Rattle.writer.proofs.StretchLaws.{Stretch, done, more, there}
 pub field_plain : (g num w at : ℕ) (s q : List ℕ) → g ≡ num * 8 + w → 0 < num → num < 10 → w < 6 →
     Stands s at (varint_bytes g) q → value_padded s w (behind_tag at g) ≡ false → field_padded s at ≡ false
 field_plain g num w at s q e some few c k plain =
-    sym (field_flag s at (Tag.Field num w (behind_tag at g)) (tag_reads g num w at s q e some few c k))
+    sym (field_flag s at (some_tag num w (behind_tag at g)) (tag_reads g num w at s q e some few c k))
     ∙ ap₂ ◌||◌ (plain_there g at s q (omega arith) k.there) plain
 
 module _ (num at : ℕ) (s q : List ℕ) (some : 0 < num) (few : num < 10) where
@@ -48,7 +51,7 @@ module _ (num at : ℕ) (s q : List ℕ) (some : 0 < num) (few : num < 10) where
 
 -- what counts inside a field of a byte string
 abbrev pub Inside : Type 0
-Inside = List ℕ → Field → Bool
+Inside = List ℕ → Option Field → Bool
 
 abbrev pub own_only : Inside
 own_only s = nothing_inside
@@ -112,22 +115,22 @@ module _ {bs : List ℕ} {b : Bool} {s q : List ℕ} {at : ℕ} where
 
 -- ---- one field, and what is behind it
 
-pub one_field : (inside : Field → Bool) (s : List ℕ) (at m : ℕ) {n w v st ln next : ℕ} →
-    field_at s at ≡ Field.Good n w v st ln next → length s ≤ at + m → {own within : Bool} → field_padded s at ≡ own →
-    inside (Field.Good n w v st ln next) ≡ within →
+pub one_field : (inside : Option Field → Bool) (s : List ℕ) (at m : ℕ) {n w v st ln next : ℕ} →
+    field_at s at ≡ some_field n w v st ln next → length s ≤ at + m → {own within : Bool} → field_padded s at ≡ own →
+    inside (some_field n w v st ln next) ≡ within →
     padded_from inside m s at ≡ (own || (within || padded_from inside (m - 1) s next))
 one_field inside s at m {n} {w} {v} {st} {ln} {next} e enough f g =
     let ahead = field_inside s at e in
-    flag_turn inside m s at (omega arith) (omega arith) (Field.Good n w v st ln next) e
+    flag_turn inside m s at (omega arith) (omega arith) (some_field n w v st ln next) e
     ∙ ap₂ (λ (a b : Bool). a || (b || padded_from inside (m - 1) s next)) f g
 
 -- nothing counts inside a field that is no args field
 other_inside : (num : ℕ) → (num ≡ 2 → ⊥) → (s : List ℕ) (w v st ln next : ℕ) →
-    inside_args s (Field.Good num w v st ln next) ≡ false
+    inside_args s (some_field num w v st ln next) ≡ false
 other_inside num z s w v st ln next = sym (without (argument_padded s st ln) false (sym (no_number num w v z)))
 
 module _ (inside : Inside) (num : ℕ) (some : 0 < num) (few : num < 10)
-    (none : (s : List ℕ) (w v st ln next : ℕ) → inside s (Field.Good num w v st ln next) ≡ false) where
+    (none : (s : List ℕ) (w v st ln next : ℕ) → inside s (some_field num w v st ln next) ≡ false) where
   says-plain-number : (v : ℕ) → v < 2 ^ 64 → Says inside (number_field num v) false
   says-plain-number v h =
       record {

@@ -29,7 +29,7 @@ pub use Rattle.args.specs.declared.arguments.Arguments.{Arguments}
 pub use Rattle.args.proofs.ArgumentsLaws.{type_good}
 pub use Rattle.args.proofs.ArgsFieldLaws.{is_args_lem, no_number}
 pub use Rattle.args.proofs.MovedArgLaws.{field_inside}
-pub use Rattle.message.specs.Head.{max_length, head_of}
+pub use Rattle.message.specs.Head.{max_length, framed, head_of}
 pub use Rattle.message.specs.Operation.{field_of}
 pub use Rattle.message.specs.Payload.{payload}
 unfoldable pub use Rattle.message.specs.Execute.{arguments_within}
@@ -41,7 +41,7 @@ pub use Rattle.encode.specs.Field.{prefix_of}
 unfoldable pub use Rattle.encode.specs.Field.{number_field, optional_field, bytes_field}
 pub use Rattle.encode.specs.Frame.{four_bytes, frame}
 pub use Rattle.encode.proofs.PutsLaws.{puts_then, puts_as}
-pub use Rattle.encode.proofs.FieldLaws.{number_short, optional_short, prefix_short, bytes_sum, puts_counted}
+pub use Rattle.encode.proofs.FieldLaws.{number_short, optional_short, optional_told, prefix_short, bytes_sum, puts_counted}
 unfoldable pub use Rattle.writer.specs.Judge.{is_good, on_arg, args_from, good_stretch, is_type, good_body, good_prepare}
 unfoldable pub use Rattle.writer.specs.Judge.{accepted_as, accepted}
 unfoldable pub use Rattle.writer.specs.Payload.{execute_payload, prepare_stmt_payload, prepare_payload}

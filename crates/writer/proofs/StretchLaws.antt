@@ -9,30 +9,32 @@ use Rattle.args.proofs.ArgsFieldLaws.{args_number_lem}
 use Rattle.writer.proofs.Names.{Stands, stands_length, field_at, Field, use_of, noted, Use, Slots, Listing}
 use Rattle.writer.proofs.Names.{goes_on_lem, is_args, any_type_of, field_inside, on_arg, args_from, good_stretch}
 use Rattle.writer.proofs.FieldLaws.{Reads}
+use Rattle.std.specs.Prelude.{Option, Some, None}
+use Rattle.wire.specs.Field.{some_field}
 
 -- good args fields from the place i to the end of a
 pub data Stretch (a : List ℕ) : ℕ → Type 0 where
   done : {i : ℕ} → i ≡ length a → Stretch a i
-  more : {i v st ln next : ℕ} → field_at a i ≡ Field.Good 2 2 v st ln next → (any_type_of (argument_in a st ln) ≡ 0 → ⊥) →
+  more : {i v st ln next : ℕ} → field_at a i ≡ some_field 2 2 v st ln next → (any_type_of (argument_in a st ln) ≡ 0 → ⊥) →
       Stretch a next →
       Stretch a i
 
 module _ (a : List ℕ) where
   -- one field that is judged good
   stretch-on : (m i : ℕ) → ((next : ℕ) → i < next → next ≤ length a → args_from m a next ≡ true → Stretch a next) →
-      (f : Field) → field_at a i ≡ f →
+      (f : Option Field) → field_at a i ≡ f →
       on_arg a (λ next. args_from m a next) f ≡ true → Stretch a i
-  stretch-on m i on Field.Bad e g = absurd (let z : ◌≡◌ {A = ℕ} 0 1 = cc in omega arith)
-  stretch-on m i on (Field.Good n w v st ln next) e g =
-      go (is_args n w v) refl (eqb (any_type_of (argument_in a st ln)) 0) refl g
+  stretch-on m i on None e g = absurd (let z : ◌≡◌ {A = ℕ} 0 1 = cc in omega arith)
+  stretch-on m i on (Some r) e g =
+      go (is_args r.number r.wire r.value) refl (eqb (any_type_of (argument_in a r.start r.len)) 0) refl g
     where
-      go : (b : Bool) → is_args n w v ≡ b → (z : Bool) → eqb (any_type_of (argument_in a st ln)) 0 ≡ z →
-          cond b (cond (not z) (args_from m a next) false) false ≡ true → Stretch a i
+      go : (b : Bool) → is_args r.number r.wire r.value ≡ b → (z : Bool) → eqb (any_type_of (argument_in a r.start r.len)) 0 ≡ z →
+          cond b (cond (not z) (args_from m a r.next) false) false ≡ true → Stretch a i
       go true eb false ez h =
           let inside = field_inside a i e in
-          let two = args_number_lem n w v eb in
-          let args : Field.Good n w v st ln next ≡ Field.Good 2 2 v st ln next = rw (two.0, two.1) in
-          more (e ∙ args) (eqb-false (any_type_of (argument_in a st ln)) 0 ez) (on next inside.1 inside.2 h)
+          let two = args_number_lem r.number r.wire r.value eb in
+          let args : some_field r.number r.wire r.value r.start r.len r.next ≡ some_field 2 2 r.value r.start r.len r.next = rw (two.0, two.1) in
+          more (e ∙ args) (eqb-false (any_type_of (argument_in a r.start r.len)) 0 ez) (on r.next inside.1 inside.2 h)
       go true eb true ez h = absurd (let z : ◌≡◌ {A = ℕ} 0 1 = cc in omega arith)
       go false eb z ez h = absurd (let z : ◌≡◌ {A = ℕ} 0 1 = cc in omega arith)
 
@@ -72,8 +74,8 @@ with_count x l = record { good = x.good; count = l; value = x.value; start = x.s
 
 -- the field at a place of the stretch, where the stretch stands
 module _ {s : List ℕ} {at : ℕ} {a q : List ℕ} (k : Stands s at a q) where
-  pub there : (i : ℕ) {v st ln next : ℕ} → field_at a i ≡ Field.Good 2 2 v st ln next →
-      field_at s (at + i) ≡ Field.Good 2 2 v (at + st) ln (at + next)
+  pub there : (i : ℕ) {v st ln next : ℕ} → field_at a i ≡ some_field 2 2 v st ln next →
+      field_at s (at + i) ≡ some_field 2 2 v (at + st) ln (at + next)
   there i {v} {st} {ln} {next} e =
       field_moved (record { within = k.within; is = k.there }) i
       ∙ ap (moved_field at) (field_longer a q i e)

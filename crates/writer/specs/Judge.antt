@@ -10,16 +10,17 @@ use Rattle.args.specs.Arguments.{is_args, any_type_of}
 use Rattle.message.specs.Operation as Operation
 use Rattle.message.specs.Prepare.{body_in}
 use Rattle.writer.specs.declared.Draft.{Draft}
+use Rattle.std.specs.Prelude.{Option, Some, None}
 
 -- an argument that the reader takes; objects and arrays are well encoded too
 abbrev pub is_good : Argument → Bool
 is_good a = not (eqb (any_type_of a) 0)
 
 -- one field of a stretch: an args field that holds a good argument, and `more` behind it
-abbrev pub on_arg : List ℕ → (ℕ → Bool) → Field → Bool
-on_arg s more (Field.Good number wire v start len next) =
-    cond (is_args number wire v) (cond (is_good (argument_in s start len)) (more next) false) false
-on_arg s more Field.Bad = false
+abbrev pub on_arg : List ℕ → (ℕ → Bool) → Option Field → Bool
+on_arg s more (Some r) =
+    cond (is_args r.number r.wire r.value) (cond (is_good (argument_in s r.start r.len)) (more r.next) false) false
+on_arg s more None = false
 
 -- at most `most` fields from the place `at` on, up to the end of s
 unfoldable pub args_from : ℕ → List ℕ → ℕ → Bool

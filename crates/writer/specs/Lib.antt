@@ -4,3 +4,4 @@ pub mod Write
 pub mod RoundTrip
 pub mod JudgeRules
 pub mod Padded
+pub mod private

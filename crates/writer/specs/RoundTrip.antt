@@ -1,5 +1,6 @@
 -- A written message reads back as itself (C10, D2).
 use Rattle.std.specs.Prelude.{ℕ, ◌^◌, ◌<◌, ◌≡◌, Bool, true, cond, ◌||◌, List, [], ◌++◌, map, length, take, drop, eqb}
+use Rattle.std.specs.Prelude.{Option, Some}
 use Rattle.protocol.specs.Client as Client
 use Rattle.protocol.specs.Reason as Reason
 use Rattle.scalar.specs.declared.argument.Argument.{Argument}
@@ -8,7 +9,6 @@ use Rattle.args.specs.declared.arguments.Arguments.{Arguments}
 use Rattle.message.specs.Operation as Operation
 use Rattle.message.specs.Request.{kind_of, stmt_of, cursor_of, rows_of, compact_of, operation_of, args_of, no_optional}
 use Rattle.message.specs.Frame.{frame_of, body_of, argument_of}
-use Rattle.message.specs.declared.request.Optional.{Optional}
 use Rattle.message.specs.declared.request.Request.{Request}
 use Rattle.message.specs.declared.request.Frame.{Frame}
 use Rattle.writer.specs.declared.Draft.{Draft}
@@ -36,8 +36,8 @@ abbrev pub has_args : ℕ → Bool
 has_args kind = eqb kind Client.execute || eqb kind Client.open'
 
 -- an optional field, present or absent
-abbrev pub given : Bool → ℕ → Optional
-given present value = cond present (record { present = true; value = value }) no_optional
+abbrev pub given : Bool → ℕ → Option ℕ
+given present value = cond present (Some value) no_optional
 
 -- the bytes that hold the arguments: the stretch, or the StmtExecute of a Prepare
 abbrev pub args_bytes : Draft → List ℕ → List ℕ → List ℕ

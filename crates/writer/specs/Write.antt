@@ -1,8 +1,9 @@
 -- Writing a draft into a lent buffer (C6, C8). It is refused, in this order, 6 for a bad stretch, a bad body or an
 -- unlisted type (of the statement or of the message), 2 if the frame passes the limit, 3 exactly if the buffer is too
 -- small, and then nothing is written. Bytes past a written frame stay as they were.
-use Rattle.std.specs.Prelude.{ℕ, ◌+◌, cond, List, length, leb, eqb}
+use Rattle.std.specs.Prelude.{ℕ, ◌+◌, cond, Result, Ok, Err, List, length, leb, eqb}
 use Rattle.protocol.specs.Reason as Reason
+use Rattle.protocol.specs.declared.reason.Reason.{Reason}
 use Rattle.encode.specs.Put.{written}
 use Rattle.encode.specs.Frame.{frame}
 use Rattle.message.specs.Head.{max_length}
@@ -35,6 +36,11 @@ sent reason len = record { reason = reason; len = len }
 -- the answer: the reason, and the length of the frame where it is written
 abbrev pub sent_for : ℕ → ℕ → Sent
 sent_for reason len = sent reason (cond (eqb reason Reason.accepted) len 0)
+
+-- the answer to an outcome: the length, or the reason
+abbrev pub sent_by : Result ℕ Reason → Sent
+sent_by (Ok len) = sent Reason.accepted len
+sent_by (Err reason) = sent (Reason.number_of reason) 0
 
 unfoldable pub sent_of : Draft → List ℕ → List ℕ → ℕ → Sent
 sent_of d body args room = sent_for (write_reason d body args room) (length (frame_bytes d body args))

@@ -1,11 +1,11 @@
-// Whether a draft can be written: its arguments, its body and its types are good.
+// Whether a draft of a kind can be written: its arguments, its body and the type of its statement are good.
 ghost use Rattle.std.specs.Prelude.{◌≡◌};
-ghost use Rattle.writer.specs.Judge.{accepted, good_prepare, good_stretch, is_type};
+ghost use Rattle.writer.specs.Judge.{accepted_as, good_prepare, good_stretch, is_type};
+ghost use Rattle.writer.specs.private.Kind.{type_of};
 
-use crate::Draft;
+use crate::kind::Kind;
 use message::operation;
-use protocol::{anys, client, fields, wire_type};
-use wire::field::Field;
+use protocol::{fields, wire_type};
 
 const ARGS: u64 = fields::ARGS as u64;
 
@@ -16,29 +16,22 @@ fn is_stretch(s: &[u8]) -> bool
     // A flag that nobody looks at: whether a stretch is padded is not asked here.
     let mut unread = false;
     let mut p = 0;
+    // From field to field: no index is counted.
     while p < s.len() {
-        let Field::Good {
-            number,
-            wire,
-            value: _,
-            start,
-            len,
-            next,
-        } = wire::field::long_field(s, p, &mut unread)
-        else {
+        let Some(field) = wire::field::long_field(s, p, &mut unread) else {
             return false;
         };
-        if number != ARGS {
+        if field.number != ARGS {
             return false;
         }
-        if wire != wire_type::LEN {
+        if field.wire != wire_type::LEN {
             return false;
         }
-        let a = args::value::long_argument(s, start, len, &mut unread);
-        if args::arguments::any_type(a) == anys::NONE {
+        let a = args::value::long_argument(s, field.start, field.len, &mut unread);
+        if args::arguments::any_type(a).is_none() {
             return false;
         }
-        p = next;
+        p = field.next;
     }
     true
 }
@@ -47,14 +40,14 @@ fn is_stretch(s: &[u8]) -> bool
 fn is_type(t: u64) -> bool
     ensures { result ≡ is_type t }
 {
-    match t {
-        operation::FIND => true,
-        operation::INSERT => true,
-        operation::UPDATE => true,
-        operation::DELETE => true,
-        operation::STMT_EXECUTE => true,
-        _ => false,
-    }
+    matches!(
+        t,
+        operation::FIND
+            | operation::INSERT
+            | operation::UPDATE
+            | operation::DELETE
+            | operation::STMT_EXECUTE
+    )
 }
 
 // Whether a Prepare's type is listed and its body good.
@@ -68,19 +61,17 @@ fn is_prepare(operation: u64, body: &[u8]) -> bool
     b.good
 }
 
-pub(crate) fn is_accepted(draft: Draft, body: &[u8], args: &[u8]) -> bool
-    ensures { result ≡ accepted draft body.now args.now }
+pub(crate) fn is_accepted(kind: Kind, operation: u64, body: &[u8], args: &[u8]) -> bool
+    ensures { result ≡ accepted_as (type_of kind) operation body.now args.now }
 {
-    let kind = draft.kind;
     match kind {
-        client::RESET => true,
-        client::SESSION_CLOSE => true,
-        client::PREPARE => is_prepare(draft.operation, body),
-        client::EXECUTE => is_stretch(args),
-        client::DEALLOCATE => true,
-        client::OPEN => is_stretch(args),
-        client::CLOSE => true,
-        client::FETCH => true,
-        _ => false,
+        Kind::Prepare => is_prepare(operation, body),
+        Kind::Execute => is_stretch(args),
+        Kind::Open => is_stretch(args),
+        Kind::Reset => true,
+        Kind::SessionClose => true,
+        Kind::Deallocate => true,
+        Kind::Close => true,
+        Kind::Fetch => true,
     }
 }

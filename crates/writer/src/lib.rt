@@ -2,14 +2,19 @@
 #![tactic(auto)]
 
 ghost use Rattle.std.specs.Prelude.{◌≡◌, length};
-ghost use Rattle.writer.specs.Write.{left_of, sent_of};
+ghost use Rattle.writer.specs.Write.{left_of, sent_by, sent_of};
 
 use encode::head::put_head;
+use judge::is_accepted;
+use kind::kind_of;
 use message::head::MAX_LENGTH;
 use message::payload::PAYLOAD;
+use payload::{payload_len, put_payload};
 use protocol::reason;
+use protocol::reason::Reason;
 
 mod judge;
+mod kind;
 mod payload;
 
 // One of the eight client messages. `kind` is its message type. What a kind does not have is ignored:
@@ -37,35 +42,48 @@ pub struct Sent {
     pub len: usize,
 }
 
+impl From<Result<usize, Reason>> for Sent {
+    ghost from_gives = { λ outcome sent. sent ≡ sent_by outcome };
+
+    fn from(outcome: Result<usize, Reason>) -> Sent {
+        match outcome {
+            Ok(len) => Sent {
+                reason: reason::ACCEPTED,
+                len,
+            },
+            Err(reason) => Sent {
+                reason: u64::from(reason),
+                len: 0,
+            },
+        }
+    }
+}
+
 // The draft as a frame at the front of `buf`. `body` is the encoded body of a Prepare, `args` the args
 // fields of an Execute or an Open, tags included; other kinds ignore them.
 pub fn write_message(draft: Draft, body: &[u8], args: &[u8], buf: &mut [u8]) -> Sent
     ensures { (result ≡ sent_of draft body.now args.now (length buf.old))
         × (buf.new ≡ left_of draft body.now args.now buf.old) }
 {
-    if !judge::is_accepted(draft, body, args) {
-        return Sent {
-            reason: reason::BAD_PAYLOAD,
-            len: 0,
-        };
+    Sent::from(write_frame(draft, body, args, buf))
+}
+
+// The same, with the frame's length or the reason as a result.
+fn write_frame(draft: Draft, body: &[u8], args: &[u8], buf: &mut [u8]) -> Result<usize, Reason>
+    ensures { (sent_by result ≡ sent_of draft body.now args.now (length buf.old))
+        × (buf.new ≡ left_of draft body.now args.now buf.old) }
+{
+    let kind = kind_of(draft.kind)?;
+    if !is_accepted(kind, draft.operation, body, args) {
+        return Err(Reason::BadPayload);
     }
-    let n = payload::payload_len(draft, body, args);
+    let n = payload_len(kind, draft, body, args);
     if MAX_LENGTH <= n as u64 {
-        return Sent {
-            reason: reason::BAD_LENGTH,
-            len: 0,
-        };
+        return Err(Reason::BadLength);
     }
     if buf.len() < n + PAYLOAD {
-        return Sent {
-            reason: reason::NO_ROOM,
-            len: 0,
-        };
+        return Err(Reason::NoRoom);
     }
     let at = put_head(buf, 0, n as u64 + 1, (draft.kind % 256) as u8);
-    let end = payload::put_payload(draft, body, args, buf, at);
-    Sent {
-        reason: reason::ACCEPTED,
-        len: end,
-    }
+    Ok(put_payload(kind, draft, body, args, buf, at))
 }

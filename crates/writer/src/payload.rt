@@ -1,17 +1,19 @@
 // The payload of each message: its length, and its fields put at a place of a buffer. What puts answers the place
 // behind it.
-ghost use Rattle.std.specs.Prelude.{◌≡◌, cond, length};
+ghost use Rattle.std.specs.Prelude.{◌≡◌, Some, None, cond, length};
 ghost use Rattle.encode.specs.Puts.{Puts};
 ghost use Rattle.writer.specs.Payload.{execute_payload, open_payload, open_stmt_payload};
-ghost use Rattle.writer.specs.Payload.{fetch_payload, payload_of, prepare_payload, prepare_stmt_payload};
+ghost use Rattle.writer.specs.Payload.{fetch_payload, payload_as, prepare_payload, prepare_stmt_payload};
+ghost use Rattle.writer.specs.private.Kind.{type_of};
 
 use crate::Draft;
+use crate::kind::Kind;
 use encode::field::{
     number_len, optional_len, prefix_len, put_bytes, put_number, put_optional, put_prefix,
 };
 use encode::put::put_slice;
 use message::operation::field_of;
-use protocol::{client, fields};
+use protocol::fields;
 
 // Field numbers as they are put.
 const ID: u32 = fields::ID as u32;
@@ -33,19 +35,29 @@ const FETCH_ROWS: u32 = fields::FETCH_ROWS as u32;
 // The one type of an Open's statement.
 const OPENS_PREPARED: u64 = 0;
 
-// A bool as 0 or 1.
-fn bit(b: bool) -> u64
-    ensures { result ≡ cond b 1 0 }
+// What a draft has by a flag and a value: fetch_rows, and compact_metadata as 1 or 0.
+fn rows_of(draft: Draft) -> Option<u64>
+    ensures { result ≡ cond draft.hasrows (Some draft.rows) None }
 {
-    if b { 1 } else { 0 }
+    if draft.hasrows {
+        return Some(draft.rows);
+    }
+    None
+}
+
+fn compact_of(draft: Draft) -> Option<u64>
+    ensures { result ≡ cond draft.hascompact (Some (cond draft.compact 1 0)) None }
+{
+    if draft.hascompact {
+        return Some(u64::from(draft.compact));
+    }
+    None
 }
 
 fn execute_len(draft: Draft, args: &[u8]) -> usize
     ensures { result ≡ length (execute_payload draft args.now) }
 {
-    number_len(ID, draft.stmt as u64)
-        + args.len()
-        + optional_len(draft.hascompact, COMPACT, bit(draft.compact))
+    number_len(ID, draft.stmt as u64) + args.len() + optional_len(COMPACT, compact_of(draft))
 }
 
 fn open_stmt_len(draft: Draft, args: &[u8]) -> usize
@@ -62,7 +74,7 @@ fn open_len(draft: Draft, args: &[u8]) -> usize
     number_len(ID, draft.cursor as u64)
         + prefix_len(OPEN_STMT, n)
         + n
-        + optional_len(draft.hasrows, OPEN_ROWS, draft.rows)
+        + optional_len(OPEN_ROWS, rows_of(draft))
 }
 
 fn prepare_stmt_len(draft: Draft, body: &[u8]) -> usize
@@ -82,21 +94,21 @@ fn prepare_len(draft: Draft, body: &[u8]) -> usize
 fn fetch_len(draft: Draft) -> usize
     ensures { result ≡ length (fetch_payload draft) }
 {
-    number_len(ID, draft.cursor as u64) + optional_len(draft.hasrows, FETCH_ROWS, draft.rows)
+    number_len(ID, draft.cursor as u64) + optional_len(FETCH_ROWS, rows_of(draft))
 }
 
-pub(crate) fn payload_len(draft: Draft, body: &[u8], args: &[u8]) -> usize
-    ensures { result ≡ length (payload_of draft body.now args.now) }
+pub(crate) fn payload_len(kind: Kind, draft: Draft, body: &[u8], args: &[u8]) -> usize
+    ensures { result ≡ length (payload_as (type_of kind) draft body.now args.now) }
 {
-    let kind = draft.kind;
     match kind {
-        client::PREPARE => prepare_len(draft, body),
-        client::EXECUTE => execute_len(draft, args),
-        client::DEALLOCATE => number_len(ID, draft.stmt as u64),
-        client::OPEN => open_len(draft, args),
-        client::CLOSE => number_len(ID, draft.cursor as u64),
-        client::FETCH => fetch_len(draft),
-        _ => 0,
+        Kind::Prepare => prepare_len(draft, body),
+        Kind::Execute => execute_len(draft, args),
+        Kind::Deallocate => number_len(ID, draft.stmt as u64),
+        Kind::Open => open_len(draft, args),
+        Kind::Close => number_len(ID, draft.cursor as u64),
+        Kind::Fetch => fetch_len(draft),
+        Kind::Reset => 0,
+        Kind::SessionClose => 0,
     }
 }
 
@@ -105,7 +117,7 @@ fn put_execute(draft: Draft, args: &[u8], buf: &mut [u8], at: usize) -> usize
 {
     let p = put_number(buf, at, ID, draft.stmt as u64);
     let q = put_slice(buf, p, args);
-    put_optional(buf, q, draft.hascompact, COMPACT, bit(draft.compact))
+    put_optional(buf, q, COMPACT, compact_of(draft))
 }
 
 fn put_open_stmt(draft: Draft, args: &[u8], buf: &mut [u8], at: usize) -> usize
@@ -122,7 +134,7 @@ fn put_open(draft: Draft, args: &[u8], buf: &mut [u8], at: usize) -> usize
     let p = put_number(buf, at, ID, draft.cursor as u64);
     let q = put_prefix(buf, p, OPEN_STMT, open_stmt_len(draft, args));
     let rows_at = put_open_stmt(draft, args, buf, q);
-    put_optional(buf, rows_at, draft.hasrows, OPEN_ROWS, draft.rows)
+    put_optional(buf, rows_at, OPEN_ROWS, rows_of(draft))
 }
 
 fn put_prepare_stmt(draft: Draft, body: &[u8], buf: &mut [u8], at: usize) -> usize
@@ -145,26 +157,27 @@ fn put_fetch(draft: Draft, buf: &mut [u8], at: usize) -> usize
     ensures { Puts buf.old at (fetch_payload draft) result buf.new }
 {
     let p = put_number(buf, at, ID, draft.cursor as u64);
-    put_optional(buf, p, draft.hasrows, FETCH_ROWS, draft.rows)
+    put_optional(buf, p, FETCH_ROWS, rows_of(draft))
 }
 
 pub(crate) fn put_payload(
+    kind: Kind,
     draft: Draft,
     body: &[u8],
     args: &[u8],
     buf: &mut [u8],
     at: usize,
 ) -> usize
-    ensures { Puts buf.old at (payload_of draft body.now args.now) result buf.new }
+    ensures { Puts buf.old at (payload_as (type_of kind) draft body.now args.now) result buf.new }
 {
-    let kind = draft.kind;
     match kind {
-        client::PREPARE => put_prepare(draft, body, buf, at),
-        client::EXECUTE => put_execute(draft, args, buf, at),
-        client::DEALLOCATE => put_number(buf, at, ID, draft.stmt as u64),
-        client::OPEN => put_open(draft, args, buf, at),
-        client::CLOSE => put_number(buf, at, ID, draft.cursor as u64),
-        client::FETCH => put_fetch(draft, buf, at),
-        _ => at,
+        Kind::Prepare => put_prepare(draft, body, buf, at),
+        Kind::Execute => put_execute(draft, args, buf, at),
+        Kind::Deallocate => put_number(buf, at, ID, draft.stmt as u64),
+        Kind::Open => put_open(draft, args, buf, at),
+        Kind::Close => put_number(buf, at, ID, draft.cursor as u64),
+        Kind::Fetch => put_fetch(draft, buf, at),
+        Kind::Reset => at,
+        Kind::SessionClose => at,
     }
 }

@@ -1,12 +1,14 @@
 -- What a part of a step comes to. For private contracts: what is promised does not cite it.
-use Rattle.std.specs.Prelude.{ℕ, ◌+◌, ◌-◌, ◌≤◌, false, cond, not, ◌||◌, ◌≡◌, List, length, eqb}
-use Rattle.protocol.specs.Reason as Reason
-use Rattle.encode.specs.Put.{place_behind, put_at, written}
+use Rattle.std.specs.Prelude.{ℕ, ◌+◌, ◌-◌, ◌≤◌, false, cond, not, ◌||◌, ◌≡◌, List, length, eqb, unwrap_or, Result, Ok, Err}
+use Rattle.protocol.specs.Reason as Reasons
+use Rattle.protocol.specs.Reason.{number_of}
+use Rattle.protocol.specs.declared.reason.Reason.{Reason}
+use Rattle.encode.specs.Put.{put_at, written}
 use Rattle.args.specs.declared.arguments.Arguments.{Arguments}
 use Rattle.message.specs.Request.{stmt_of, cursor_of, args_of}
 use Rattle.message.specs.declared.request.Frame.{Frame}
 use Rattle.message.specs.declared.request.Request.{Request}
-use Rattle.session.specs.Session.{Session, is_closed}
+use Rattle.session.specs.Session.{Session}
 use Rattle.session.specs.declared.Cursor.{Cursor}
 use Rattle.session.specs.Words.{session_of}
 use Rattle.reply.specs.declared.Refusal.{Refusal}
@@ -16,11 +18,13 @@ use Rattle.reply.specs.ReplyRules.{min_buffer}
 use Rattle.rules.specs.declared.Answer.{Answer}
 use Rattle.rules.specs.declared.Report.{Report}
 use Rattle.rules.specs.Rows.{first_row, row_count, sends_columns}
-use Rattle.rules.specs.Decision.{end_of, reply_to, wire_code}
+use Rattle.rules.specs.Decision.{end_of, reply_to, session_after, wire_code}
+use Rattle.rules.specs.Refusal.{step_reason}
 use Rattle.rules.specs.Read.{Read}
 use Rattle.rules.specs.Step.{Step, step_on}
 use Rattle.keeper.specs.declared.answer.Names.{Names}
 use Rattle.keeper.specs.declared.answer.Sends.{Sends}
+use Rattle.keeper.specs.declared.report.ResultSet.{ResultSet}
 
 -- a step's answer, session and buffer
 pub record Does (step : Step) (answer : Answer) (session : Session) (buffer : List ℕ) : Type 0 where
@@ -35,7 +39,7 @@ Steps used q report answer words buffer words' buffer' =
 
 -- the length told of a reply: 0 where it does not fit
 abbrev pub length_in : List ℕ → Reply → ℕ
-length_in buffer reply = place_behind (put_at buffer 0 (reply_bytes reply))
+length_in buffer reply = unwrap_or (put_at buffer 0 (reply_bytes reply)) 0
 
 -- a reply put at the front of the buffer, and its length told
 pub record Replies (reply : Reply) (before : List ℕ) (n : ℕ) (after : List ℕ) : Type 0 where
@@ -58,7 +62,7 @@ with_length n a =
 abbrev pub accepting : ℕ → Sends → Answer
 accepting used x =
     record {
-      reason = Reason.accepted;
+      reason = Reasons.accepted;
       used = used;
       reply = 0;
       columns = x.columns;
@@ -87,29 +91,24 @@ names_of q = names_by (stmt_of q) (cursor_of q) (args_of q)
 abbrev pub no_names : Names
 no_names = record { stmt = 0; cursor = 0; index = 0; count = 0; kind = 0 }
 
-unfoldable pub number_of : ℕ → Names → ℕ
-number_of reason x =
-    cond (eqb reason Reason.no_stmt) x.stmt
-    (cond (eqb reason Reason.not_scalar) x.index
-    (cond (eqb reason Reason.few_arguments) x.count
-    (cond (eqb reason Reason.no_cursor || eqb reason Reason.all_sent) x.cursor 0)))
+unfoldable pub number_named : ℕ → Names → ℕ
+number_named reason x =
+    cond (eqb reason Reasons.no_stmt) x.stmt
+    (cond (eqb reason Reasons.not_scalar) x.index
+    (cond (eqb reason Reasons.few_arguments) x.count
+    (cond (eqb reason Reasons.no_cursor || eqb reason Reasons.all_sent) x.cursor 0)))
 
 unfoldable pub kind_named : ℕ → Names → ℕ
-kind_named reason x = cond (eqb reason Reason.not_scalar) x.kind 0
+kind_named reason x = cond (eqb reason Reasons.not_scalar) x.kind 0
 
 abbrev pub error_of : ℕ → Names → Report → Refusal
 error_of reason x r =
-    record { reason = reason; code = wire_code r reason; number = number_of reason x; kind = kind_named reason x }
+    record { reason = reason; code = wire_code r reason; number = number_named reason x; kind = kind_named reason x }
 
--- what holds when a request is stepped on: it was read, and there is room; and the session is open
+-- what holds when a request is stepped on: it was read, and there is room
 pub record Readable (q : Request) (buffer : List ℕ) : Type 0 where
   pub room : min_buffer ≤ length buffer
   pub read : Read q
-
-pub record Ready (words : List ℕ) (q : Request) (buffer : List ℕ) : Type 0 where
-  pub room : min_buffer ≤ length buffer
-  pub read : Read q
-  pub unclosed : is_closed (session_of words) ≡ false
 
 -- what an accepted request sends
 abbrev pub sends_of : Session → Request → Report → Sends
@@ -122,19 +121,33 @@ sends_of s q r =
     }
 
 -- by the numbers that it depends on: all rows of a result; the first rows of one; the next rows of a cursor
-abbrev pub sends_all : Report → Sends
-sends_all r =
-    record {
-      columns = not (eqb r.columns 0);
-      first = 0;
-      count = r.rows;
-      reply = cond (not (eqb r.columns 0)) Reply.Done Reply.Executed;
-    }
+abbrev pub sends_all : ResultSet → Sends
+sends_all x =
+    record { columns = x.columns; first = 0; count = x.rows; reply = cond x.columns Reply.Done Reply.Executed }
 
-abbrev pub sends_first : Report → ℕ → Sends
-sends_first r count =
-    record { columns = not (eqb r.columns 0); first = 0; count = count; reply = end_of (r.rows - (0 + count)) }
+abbrev pub sends_first : ResultSet → ℕ → Sends
+sends_first x count =
+    record { columns = x.columns; first = 0; count = count; reply = end_of (x.rows - (0 + count)) }
 
 abbrev pub sends_next : Cursor → ℕ → Sends
 sends_next c count =
     record { columns = false; first = c.sent; count = count; reply = end_of (c.rows - (c.sent + count)) }
+
+-- what a report says of a statement that was run
+abbrev pub result_set : Report → ResultSet
+result_set r = record { columns = not (eqb r.columns 0); rows = r.rows }
+
+-- what is decided on a request, and the session after it: accepted, with what is sent
+pub record Accepts (s : Session) (q : Request) (r : Report) (sends : Sends) (after : Session) : Type 0 where
+  pub passes : Reasons.accepted ≡ step_reason s (Frame.Good 0 q) r
+  pub sent : sends ≡ sends_of s q r
+  pub changed : after ≡ session_after s q r
+
+-- or refused
+pub record Refuses (s : Session) (q : Request) (r : Report) (reason : Reason) (after : Session) : Type 0 where
+  pub fails : number_of reason ≡ step_reason s (Frame.Good 0 q) r
+  pub kept : after ≡ s
+
+abbrev pub Decides : Session → Request → Report → Result Sends Reason → Session → Type 0
+Decides s q r (Ok sends) after = Accepts s q r sends after
+Decides s q r (Err reason) after = Refuses s q r reason after

@@ -16,7 +16,7 @@ pub returns-then-b-ge128 : goal.returns-then-b-ge128
 returns-then-b-ge128 c =
     let inside = c.if-s-at.false in
     let over : 128 ≤ get_or c.args.s.now c.args.at 0 =
-    omega (arith, c.wide-b.ensures, c.if-b-ge128.true) in record {
+    omega (arith, c.from-b.ensures, c.if-b-ge128.true) in record {
       answer =
           tenth_more c.args.low c.args.s.now c.args.at inside over;
       told =
@@ -25,7 +25,7 @@ returns-then-b-ge128 c =
 
 pub returns : goal.returns
 returns c =
-    let e : c.wide-b.result ≡ get_or c.args.s.now c.args.at 0 = c.wide-b.ensures in
+    let e : c.from-b.result ≡ get_or c.args.s.now c.args.at 0 = c.from-b.ensures in
     let inside = c.if-s-at.false in
     let low : get_or c.args.s.now c.args.at 0 < 128 = omega arith in record {
       answer =

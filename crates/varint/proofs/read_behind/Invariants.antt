@@ -4,8 +4,8 @@ use Rattle.varint.proofs.GroupLaws.{Reading}
 use Rattle.varint.proofs.read_behind.Given as goal
 
 -- the flag is as it was until the last group
-abbrev pub invariant-loop-k : goal.invariant-loop-k
-invariant-loop-k l = Reading l.first l.s l.at l.value l.weight l.i l.k × (l.padded ≡ l.initial.padded)
+abbrev pub invariant-loop : goal.invariant-loop
+invariant-loop l = Reading l.first l.s l.at l.value l.weight l.i l.counter × (l.padded ≡ l.initial.padded)
 
-abbrev pub decreases-loop-k : goal.decreases-loop-k
-decreases-loop-k l = 9 - l.k
+abbrev pub decreases-loop : goal.decreases-loop
+decreases-loop l = 9 - l.counter

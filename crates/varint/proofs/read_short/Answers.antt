@@ -16,9 +16,9 @@ returns-then-n-at c = record {
 pub returns-then-low-lt128 : goal.returns-then-low-lt128
 returns-then-low-lt128 c =
     let inside = c.if-n-at.false in
-    let low = rw c.octet-low.ensures.answer at c.if-low-lt128.true in record {
+    let low = rw c.from-low.ensures at c.if-low-lt128.true in record {
       answer =
-          rw c.octet-low.ensures.answer (varint_one c.args.s.now c.args.at inside low);
+          rw c.from-low.ensures (varint_one c.args.s.now c.args.at inside low);
       told =
           or_none c.args.padded.now (padded_one c.args.s.now c.args.at inside low);
     }
@@ -26,11 +26,11 @@ returns-then-low-lt128 c =
 pub returns-then-n-at-lt2 : goal.returns-then-n-at-lt2
 returns-then-n-at-lt2 c =
     let inside = c.if-n-at.false in record {
-      answer = varint_cut c.args.s.now c.args.at c.octet-low.result inside c.octet-low.ensures.answer
+      answer = varint_cut c.args.s.now c.args.at c.from-low.result inside c.from-low.ensures
           c.if-low-lt128.false
           c.if-n-at-lt2.true;
       told = or_none c.args.padded.now (padded_cut c.args.s.now c.args.at inside
-          ((rw c.octet-low.ensures.answer at c.if-low-lt128.false)) c.if-n-at-lt2.true);
+          ((rw c.from-low.ensures at c.if-low-lt128.false)) c.if-n-at-lt2.true);
     }
 
 pub returns-then-high-lt128 : goal.returns-then-high-lt128
@@ -38,14 +38,14 @@ returns-then-high-lt128 c =
     let s = c.args.s.now in
     let inside = c.if-n-at.false in
     let two = c.if-n-at-lt2.false in
-    let high : c.wide-high.result ≡ get_or s (c.args.at + 1) 0 = c.wide-high.ensures in record {
-      answer = varint_two s c.args.at c.octet-low.result inside c.octet-low.ensures.answer c.if-low-lt128.false
-          c.wide-high.result high two c.if-high-lt128.true;
+    let high : c.from-high.result ≡ get_or s (c.args.at + 1) 0 = c.from-high.ensures in record {
+      answer = varint_two s c.args.at c.from-low.result inside c.from-low.ensures c.if-low-lt128.false
+          c.from-high.result high two c.if-high-lt128.true;
       told = c.mark.ensures
           ∙ or_same c.args.padded.now
           (rw high
-          (padded_two s c.args.at inside ((rw c.octet-low.ensures.answer at c.if-low-lt128.false))
-          (rw c.octet-low.ensures.answer at c.octet-low.ensures.small)
+          (padded_two s c.args.at inside ((rw c.from-low.ensures at c.if-low-lt128.false))
+          (omega (arith, c.type_inv.s c.args.at))
           (omega arith) (rw high at c.if-high-lt128.true)));
     }
 
@@ -57,9 +57,9 @@ returns c =
     let s = c.args.s.now in
     let inside = c.if-n-at.false in record {
       answer = c.read_behind.ensures.answer
-          ∙ behind_answer s c.args.at inside ((rw c.octet-low.ensures.answer at c.if-low-lt128.false))
+          ∙ behind_answer s c.args.at inside ((rw c.from-low.ensures at c.if-low-lt128.false))
           (take-length s);
-      told = c.read_behind.ensures.told ((rw c.octet-low.ensures.answer at c.if-low-lt128.false))
+      told = c.read_behind.ensures.told ((rw c.from-low.ensures at c.if-low-lt128.false))
           ∙ or_same c.args.padded.now (behind_flag s c.args.at inside
-          ((rw c.octet-low.ensures.answer at c.if-low-lt128.false)) (take-length s));
+          ((rw c.from-low.ensures at c.if-low-lt128.false)) (take-length s));
     }

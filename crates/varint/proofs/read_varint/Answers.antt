@@ -15,9 +15,9 @@ returns-then-n-at c = record {
 pub returns-then-b-lt128 : goal.returns-then-b-lt128
 returns-then-b-lt128 c =
     let inside = c.if-n-at.false in
-    let low = rw c.wide-b.ensures at c.if-b-lt128.true in record {
+    let low = rw c.from-b.ensures at c.if-b-lt128.true in record {
       answer =
-          rw c.wide-b.ensures (varint_one c.args.s.now c.args.at inside low);
+          rw c.from-b.ensures (varint_one c.args.s.now c.args.at inside low);
       told =
           or_none c.args.padded.now (padded_one c.args.s.now c.args.at inside low);
     }
@@ -29,7 +29,7 @@ pub returns : goal.returns
 returns c =
     let s = c.args.s.now in
     let inside = c.if-n-at.false in
-    let more : 128 ≤ get_or s c.args.at 0 = rw c.wide-b.ensures at c.if-b-lt128.false in record {
+    let more : 128 ≤ get_or s c.args.at 0 = rw c.from-b.ensures at c.if-b-lt128.false in record {
       answer =
           c.read_behind.ensures.answer ∙ behind_answer s c.args.at inside more (take-length s);
       told =

@@ -1,7 +1,7 @@
 -- `args::arguments::next_place` meets its contract: an args field is known by its tag; the rest is looked for. Assumes
 -- nothing.
-use Rattle.prelude.proofs.Basics.{ℕ, sym, ap, ◌∙◌, List, length, take-length}
-use Rattle.args.proofs.Names.{arg_place, place_of}
+use Rattle.prelude.proofs.Basics.{ap, ◌∙◌}
+use Rattle.args.proofs.Names.{place_of}
 use Rattle.args.proofs.PlaceLaws.{place_none, place_here}
 use Rattle.args.proofs.arguments.next_place.Goals as goal
 
@@ -13,10 +13,3 @@ returns-then-s-at-eq-ARGS_TAG c =
     c.place_of.ensures
     ∙ ap place_of c.length_value.ensures.answer
     ∙ place_here c.args.s.now c.args.at c.if-n-at.false c.if-s-at-eq-ARGS_TAG.true
-
-pub slice_bounds-seek_place-end : goal.slice_bounds-seek_place-end
-slice_bounds-seek_place-end c = sym (ap length (take-length c.args.s.now))
-
-pub returns : goal.returns
-returns c = c.seek_place.ensures ∙ ap
-    (λ (l : List ℕ). arg_place l c.args.at) (take-length c.args.s.now)

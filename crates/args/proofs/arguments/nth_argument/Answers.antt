@@ -1,6 +1,5 @@
 -- `args::arguments::nth_argument` meets its contract: each turn of the loop is one law on `Counting`. Assumes nothing.
 use Rattle.prelude.proofs.Basics.{arith, sym, ap, ◌∙◌}
-use native.Mathlib.Nat.{pos_of_ne-zero}
 use Rattle.args.proofs.Names.{handed_out}
 use Rattle.args.proofs.ArgumentsLaws.{count_starts, count_none, count_end, count_hit, count_on}
 use Rattle.args.proofs.ArgumentsLaws.{advances}
@@ -18,10 +17,7 @@ returns-then-left-eq0 c = c.handed_out.ensures ∙ ap handed_out (count_hit
     c.loop-p.invariant
     c.loop-p-test.true
     (sym c.next_argument.ensures
-    ∙ c.in-Found.is) c.if-left-eq0.true)
-
-pub overflow_sub-left : goal.overflow_sub-left
-overflow_sub-left c = pos_of_ne-zero c.if-left-eq0.false
+    ∙ c.in-Some.is) c.if-left-eq0.true)
 
 pub loop-p-smaller : goal.loop-p-smaller
 loop-p-smaller c = omega (
@@ -29,13 +25,13 @@ loop-p-smaller c = omega (
   c.loop-p-test.true,
   advances c.args.s.now
       c.loop-p.p
-      (sym c.next_argument.ensures ∙ c.in-Found.is),
+      (sym c.next_argument.ensures ∙ c.in-Some.is),
 )
 
 pub loop-p-preserved : goal.loop-p-preserved
 loop-p-preserved c = count_on c.loop-p.invariant
     c.loop-p-test.true
-    (sym c.next_argument.ensures ∙ c.in-Found.is)
+    (sym c.next_argument.ensures ∙ c.in-Some.is)
     c.if-left-eq0.false
 
 pub returns : goal.returns

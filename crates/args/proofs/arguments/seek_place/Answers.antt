@@ -12,28 +12,28 @@ returns-in_default c = no_field c.loop-p.invariant
     (sym c.long_field.ensures.answer
     ∙ c.in_default.is)
 
-pub returns-then-wire-eq-ARGS_WIRE : goal.returns-then-wire-eq-ARGS_WIRE
-returns-then-wire-eq-ARGS_WIRE c = found c.loop-p.invariant
+pub returns-then-field-eq-ARGS_WIRE : goal.returns-then-field-eq-ARGS_WIRE
+returns-then-field-eq-ARGS_WIRE c = found c.loop-p.invariant
     c.loop-p-test.true
     (sym c.long_field.ensures.answer
-    ∙ c.in-Good.is) c.if-number-eq-ARGS.true c.if-wire-eq-ARGS_WIRE.true
+    ∙ c.in-Some.is) c.if-field-eq-ARGS.true c.if-field-eq-ARGS_WIRE.true
 
-pub loop-p-smaller-else-wire-eq-ARGS_WIRE : goal.loop-p-smaller-else-wire-eq-ARGS_WIRE
-loop-p-smaller-else-wire-eq-ARGS_WIRE c = omega (
+pub loop-p-smaller-else-field-eq-ARGS_WIRE : goal.loop-p-smaller-else-field-eq-ARGS_WIRE
+loop-p-smaller-else-field-eq-ARGS_WIRE c = omega (
   arith,
   c.loop-p-test.true,
   advances
       c.loop-p.invariant
       c.loop-p-test.true
       (sym c.long_field.ensures.answer
-      ∙ c.in-Good.is),
+      ∙ c.in-Some.is),
 )
 
-pub loop-p-preserved-else-wire-eq-ARGS_WIRE : goal.loop-p-preserved-else-wire-eq-ARGS_WIRE
-loop-p-preserved-else-wire-eq-ARGS_WIRE c = other_wire c.loop-p.invariant
+pub loop-p-preserved-else-field-eq-ARGS_WIRE : goal.loop-p-preserved-else-field-eq-ARGS_WIRE
+loop-p-preserved-else-field-eq-ARGS_WIRE c = other_wire c.loop-p.invariant
     c.loop-p-test.true
     (sym c.long_field.ensures.answer
-    ∙ c.in-Good.is) c.if-number-eq-ARGS.true c.if-wire-eq-ARGS_WIRE.false
+    ∙ c.in-Some.is) c.if-field-eq-ARGS.true c.if-field-eq-ARGS_WIRE.false
 
 pub loop-p-smaller : goal.loop-p-smaller
 loop-p-smaller c = omega (
@@ -42,14 +42,14 @@ loop-p-smaller c = omega (
   advances
       c.loop-p.invariant
       c.loop-p-test.true
-      (sym c.long_field.ensures.answer ∙ c.in-Good.is),
+      (sym c.long_field.ensures.answer ∙ c.in-Some.is),
 )
 
 pub loop-p-preserved : goal.loop-p-preserved
 loop-p-preserved c = other_number c.loop-p.invariant
     c.loop-p-test.true
-    (sym c.long_field.ensures.answer ∙ c.in-Good.is)
-    c.if-number-eq-ARGS.false
+    (sym c.long_field.ensures.answer ∙ c.in-Some.is)
+    c.if-field-eq-ARGS.false
 
 pub returns : goal.returns
 returns c = ends c.loop-p.invariant c.loop-p-test.false

@@ -1,9 +1,10 @@
 -- `args::judge::judge_arguments` meets its contract: each turn judges the argument at the place, if there is one.
 -- Assumes nothing.
-use Rattle.prelude.proofs.Basics.{ℕ, arith, ◌≡◌, sym, ap, ◌∙◌, or_none, or_same}
+use Rattle.prelude.proofs.Basics.{ℕ, arith, not, ◌≡◌, sym, ap, ◌∙◌, or_none, or_same}
 use Rattle.args.proofs.Names.{any_type_of, marks, marked, marks_on}
 use Rattle.args.proofs.Names.{inside_args}
 use Rattle.layout.proofs.PaddedLaws.{field_ahead}
+use Rattle.args.proofs.ArgumentsLaws.{typed, untyped}
 use Rattle.args.proofs.BoundLaws.{inside_args_lem, inside_other}
 use Rattle.args.proofs.JudgeLaws.{judging, judged, judged_bad, judged_other, judged_spoilt, judged_good}
 use Rattle.args.proofs.judge.judge_arguments.Goals as goal
@@ -22,55 +23,56 @@ returns-in_default c = record {
       λ h. absurd (let z : ◌≡◌ {A = ℕ} 0 1 = cc in omega arith);
 }
 
-pub returns-then-any_type-eq-NONE : goal.returns-then-any_type-eq-NONE
-returns-then-any_type-eq-NONE c = record {
-  answer = judged_spoilt c.loop-p.invariant.0 (c.loop-p-test.true) (sym c.long_field.ensures.answer ∙ c.in-Good.is)
+pub returns-then-is_none : goal.returns-then-is_none
+returns-then-is_none c = record {
+  answer = judged_spoilt c.loop-p.invariant.0 (c.loop-p-test.true) (sym c.long_field.ensures.answer ∙ c.in-Some.is)
       (sym c.is_args.ensures ∙ c.if-is_args.true)
       (ap any_type_of (sym c.long_argument.ensures.answer) ∙ sym c.any_type.ensures
-      ∙ c.if-any_type-eq-NONE.true);
+      ∙ untyped c.any_type.result (c.is_none.ensures ∙ ap not c.if-is_none.true));
   told = λ h. absurd (let z : ◌≡◌ {A = ℕ} 0 1 = cc in omega arith);
 }
 
-pub loop-p-smaller-else-any_type-eq-NONE : goal.loop-p-smaller-else-any_type-eq-NONE
-loop-p-smaller-else-any_type-eq-NONE c =
+pub loop-p-smaller-else-is_none : goal.loop-p-smaller-else-is_none
+loop-p-smaller-else-is_none c =
     omega (
       arith,
       (field_ahead c.args.s.now c.loop-p.p (sym c.long_field.ensures.answer
-          ∙ c.in-Good.is)),
+          ∙ c.in-Some.is)),
       (c.loop-p-test.true),
     )
 
-pub loop-p-preserved-else-any_type-eq-NONE : goal.loop-p-preserved-else-any_type-eq-NONE
-loop-p-preserved-else-any_type-eq-NONE c = let args = sym c.is_args.ensures ∙ c.if-is_args.true in
-    let type = sym c.any_type.ensures in
+pub loop-p-preserved-else-is_none : goal.loop-p-preserved-else-is_none
+loop-p-preserved-else-is_none c = let args = sym c.is_args.ensures ∙ c.if-is_args.true in
+    let type = c.any_type.ensures in
+    let some = typed c.any_type.result (c.is_none.ensures ∙ ap not c.if-is_none.false) in
     let s = c.args.s.now in (
-      judged_good c.loop-p.invariant.0 (c.loop-p-test.true) (sym c.long_field.ensures.answer ∙ c.in-Good.is) args
-          (λ z. c.if-any_type-eq-NONE.false (sym type ∙ ap any_type_of c.long_argument.ensures.answer ∙ z)),
+      judged_good c.loop-p.invariant.0 (c.loop-p-test.true) (sym c.long_field.ensures.answer ∙ c.in-Some.is) args
+          (λ z. omega (arith, some, type, ap any_type_of c.long_argument.ensures.answer, z)),
       marks_on c.loop-p.invariant.1 (c.loop-p-test.true) (sym c.long_field.ensures.answer
-          ∙ c.in-Good.is) c.long_field.ensures.told
-          (c.long_argument.ensures.told (omega (arith, type, c.if-any_type-eq-NONE.false))
+          ∙ c.in-Some.is) c.long_field.ensures.told
+          (c.long_argument.ensures.told (omega (arith, type, some))
           ∙ or_same c.long_field.new.padded
-          (inside_args_lem s c.in-Good.number c.in-Good.wire c.in-Good.value c.in-Good.start c.in-Good.len
-          c.in-Good.next args)),
+          (inside_args_lem s c.in-Some.field.number c.in-Some.field.wire c.in-Some.field.value c.in-Some.field.start c.in-Some.field.len
+          c.in-Some.field.next args)),
     )
 
 pub loop-p-smaller : goal.loop-p-smaller
 loop-p-smaller c = omega (
   arith,
   (field_ahead c.args.s.now c.loop-p.p (sym c.long_field.ensures.answer
-      ∙ c.in-Good.is)),
+      ∙ c.in-Some.is)),
   (c.loop-p-test.true),
 )
 
 pub loop-p-preserved : goal.loop-p-preserved
 loop-p-preserved c = let other = sym c.is_args.ensures ∙ c.if-is_args.false in
     let s = c.args.s.now in (
-      judged_other c.loop-p.invariant.0 (c.loop-p-test.true) (sym c.long_field.ensures.answer ∙ c.in-Good.is) other,
+      judged_other c.loop-p.invariant.0 (c.loop-p-test.true) (sym c.long_field.ensures.answer ∙ c.in-Some.is) other,
       marks_on c.loop-p.invariant.1 (c.loop-p-test.true) (sym c.long_field.ensures.answer
-          ∙ c.in-Good.is) c.long_field.ensures.told
+          ∙ c.in-Some.is) c.long_field.ensures.told
           (or_none c.long_field.new.padded
-          (inside_other s c.in-Good.number c.in-Good.wire c.in-Good.value c.in-Good.start c.in-Good.len
-          c.in-Good.next other)),
+          (inside_other s c.in-Some.field.number c.in-Some.field.wire c.in-Some.field.value c.in-Some.field.start c.in-Some.field.len
+          c.in-Some.field.next other)),
     )
 
 pub returns : goal.returns

@@ -31,9 +31,9 @@ pub returns-then-first-ge128 : goal.returns-then-first-ge128
 returns-then-first-ge128 c =
     record {
       answer = at_long_first c.args.s.now c.args.at (omega arith)
-          (omega arith) c.wide-first.result c.wide-first.ensures c.if-first-ge128.true;
+          (omega arith) c.from-first.result c.from-first.ensures c.if-first-ge128.true;
       told = or_none c.args.padded.now
-          (flag_long_first c.args.s.now c.args.at (omega arith) (omega arith) c.wide-first.result c.wide-first.ensures
+          (flag_long_first c.args.s.now c.args.at (omega arith) (omega arith) c.from-first.result c.from-first.ensures
           c.if-first-ge128.true);
     }
 
@@ -41,24 +41,24 @@ pub returns-then-tag-ge128 : goal.returns-then-tag-ge128
 returns-then-tag-ge128 c =
     record {
       answer = at_long_tag c.args.s.now c.args.at (omega arith)
-          (omega arith) c.wide-first.result c.wide-first.ensures (omega arith)
-          c.wide-tag.result c.wide-tag.ensures c.if-tag-ge128.true;
+          (omega arith) c.from-first.result c.from-first.ensures (omega arith)
+          c.from-tag.result c.from-tag.ensures c.if-tag-ge128.true;
       told = or_none c.args.padded.now
           (flag_long_tag c.args.s.now c.args.at (omega arith)
-          (omega arith) c.wide-first.result c.wide-first.ensures (omega arith)
-          c.wide-tag.result c.wide-tag.ensures c.if-tag-ge128.true);
+          (omega arith) c.from-first.result c.from-first.ensures (omega arith)
+          c.from-tag.result c.from-tag.ensures c.if-tag-ge128.true);
     }
 
 pub returns : goal.returns
 returns c =
     record {
       answer = c.paired.ensures
-          ∙ at_pair c.args.s.now c.args.at (omega arith) (omega arith) c.wide-first.result c.wide-first.ensures
+          ∙ at_pair c.args.s.now c.args.at (omega arith) (omega arith) c.from-first.result c.from-first.ensures
           (omega arith)
-          c.wide-tag.result c.wide-tag.ensures (omega arith) _ c.value_at.ensures.answer;
+          c.from-tag.result c.from-tag.ensures (omega arith) _ c.value_at.ensures.answer;
       told = c.value_at.ensures.told
           ∙ or_same c.args.padded.now
-          (flag_pair c.args.s.now c.args.at (omega arith) (omega arith) c.wide-first.result c.wide-first.ensures
+          (flag_pair c.args.s.now c.args.at (omega arith) (omega arith) c.from-first.result c.from-first.ensures
           (omega arith)
-          c.wide-tag.result c.wide-tag.ensures (omega arith));
+          c.from-tag.result c.from-tag.ensures (omega arith));
     }

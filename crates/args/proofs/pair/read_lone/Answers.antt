@@ -20,11 +20,11 @@ returns-then-s-at-ne-FIRST_TAG c = lone_other c.args.s.now c.args.at c.args.n
 pub returns-then-first-ge128 : goal.returns-then-first-ge128
 returns-then-first-ge128 c =
     lone_long c.args.s.now c.args.at c.args.n (omega arith) (omega arith)
-    (omega arith) c.wide-first.result c.wide-first.ensures
+    (omega arith) c.from-first.result c.from-first.ensures
     c.if-first-ge128.true
 
 pub returns : goal.returns
 returns c =
     lone_found c.args.s.now c.args.at c.args.n (omega arith) (omega arith)
-    (omega arith) c.wide-first.result c.wide-first.ensures
+    (omega arith) c.from-first.result c.from-first.ensures
     (omega arith)

@@ -1,5 +1,5 @@
 -- The message is cut off behind its last byte.
-use Rattle.prelude.proofs.Basics.{◌+◌, arith, ◌∙◌, length-take, or_none, or_same}
+use Rattle.prelude.proofs.Basics.{arith, ◌∙◌, or_none, or_same}
 use Rattle.args.proofs.PairLaws.{in_past, in_cut}
 use Rattle.args.proofs.PaddedLaws.{pair_past, pair_cut}
 use Rattle.args.proofs.pair.read_pair.Goals as goal
@@ -17,9 +17,6 @@ returns-then-s-at-2 c = record {
   told =
       or_none c.args.padded.now (pair_past c.args.s.now c.args.at c.args.n (omega arith));
 }
-
-pub slice_bounds-pair_at-end : goal.slice_bounds-pair_at-end
-slice_bounds-pair_at-end c = omega (arith, length-take (c.args.at + c.args.n) c.args.s.now)
 
 pub returns : goal.returns
 returns c = record {

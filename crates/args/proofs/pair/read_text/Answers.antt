@@ -1,5 +1,5 @@
 -- The message is cut off behind its last byte.
-use Rattle.prelude.proofs.Basics.{◌+◌, arith, ◌∙◌, length-take, or_none, or_same}
+use Rattle.prelude.proofs.Basics.{arith, ◌∙◌, or_none, or_same}
 use Rattle.args.proofs.TextLaws.{text_past, text_cut}
 use Rattle.args.proofs.PaddedLaws.{text_flag_past, text_flag_cut}
 use Rattle.args.proofs.pair.read_text.Goals as goal
@@ -17,9 +17,6 @@ returns-then-s-at-2 c = record {
   told =
       or_none c.args.padded.now (text_flag_past c.args.s.now c.args.at c.args.n (omega arith));
 }
-
-pub slice_bounds-text_at-end : goal.slice_bounds-text_at-end
-slice_bounds-text_at-end c = omega (arith, length-take (c.args.at + c.args.n) c.args.s.now)
 
 pub returns : goal.returns
 returns c = record {

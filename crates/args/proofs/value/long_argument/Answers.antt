@@ -1,11 +1,11 @@
--- `args::value::long_argument` meets its contract: the arrays hold the fields of the Any, whose type decides. Assumes
+-- `args::value::long_argument` meets its contract: the fields of the Any are found, and its type decides. Assumes
 -- nothing.
 use Rattle.prelude.proofs.Basics.{arith, refl, sym, ap, ◌∙◌, or_none, or_same}
 use Rattle.prelude.proofs.Basics.{or_then}
-use Rattle.layout.proofs.ArrayLaws.{held_value}
+use Rattle.layout.proofs.FoundLaws.{held_value}
 use Rattle.args.proofs.Names.{any, rows_of, embedded, low32, part_padded, scalar_in, of_any_type, scalar_parts}
 use Rattle.args.proofs.Names.{scalar_padded}
-use Rattle.args.proofs.ArrayLaws.{present_held}
+use Rattle.args.proofs.FoundLaws.{present_held}
 use Rattle.args.proofs.ValueLaws.{any_bad, any_good, any_type_none}
 use Rattle.args.proofs.InsideLaws.{any_by_type, any_in}
 use Rattle.args.proofs.PartedLaws.{held_within, scalar_counted}

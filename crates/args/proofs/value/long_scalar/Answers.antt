@@ -1,8 +1,8 @@
--- `args::value::long_scalar` meets its contract: the arrays hold the fields of the Scalar. Assumes nothing.
-use Rattle.prelude.proofs.Basics.{◌+◌, arith, ◌||◌, sym, ap, ◌∙◌, length-take-le}
+-- `args::value::long_scalar` meets its contract: the fields of the Scalar are found. Assumes nothing.
+use Rattle.prelude.proofs.Basics.{◌+◌, arith, ◌||◌, ap, ◌∙◌, length-take-le}
 use Rattle.prelude.proofs.Basics.{or_same, or_then}
 use Rattle.args.proofs.Names.{scalar, rows_of, one_part, merged, part_padded, inside_scalar}
-use Rattle.args.proofs.ArrayLaws.{scalar_refused}
+use Rattle.args.proofs.FoundLaws.{scalar_refused}
 use Rattle.args.proofs.InsideLaws.{one_flag}
 use Rattle.args.proofs.PartedLaws.{held_good, held_one, held_within, held_cut, whole_cut, whole_inside}
 use Rattle.args.proofs.PartedLaws.{scalar_whole}
@@ -16,20 +16,6 @@ returns-then-not-fill_part c = record {
       (c.if-not-fill_part.true);
   told = λ h. absurd (omega (arith, h));
 }
-
-pub overflow_add-end : goal.overflow_add-end
-overflow_add-end c = omega (
-  arith,
-  (
-      held_within (rows_of scalar) c.args.s.now c.args.at c.args.n
-      (rw c.scalar_rows-rows.ensures at c.fill_part.ensures.holds) (c.if-not-fill_part.false)),
-)
-
-pub slice_bounds-scalar_value-end : goal.slice_bounds-scalar_value-end
-slice_bounds-scalar_value-end c =
-    sym (length-take-le (c.args.at + c.args.n) c.args.s.now (
-    held_within (rows_of scalar) c.args.s.now c.args.at c.args.n
-    (rw c.scalar_rows-rows.ensures at c.fill_part.ensures.holds) (c.if-not-fill_part.false)))
 
 pub scalar_value-requires : goal.scalar_value-requires
 scalar_value-requires c = record {

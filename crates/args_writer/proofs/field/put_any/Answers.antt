@@ -8,5 +8,5 @@ pub returns : goal.returns
 unfolding scalar_bytes any_bytes
 returns c =
     puts_then c.put_number-p.ensures
-    (puts_counted 2 (scalar_bytes c.args.f.kind (value_in c.args.f c.args.bytes.now)) c.scalar_len.ensures
+    (puts_counted 2 (scalar_bytes c.args.f.kind (value_in c.args.f.value)) c.scalar_len.ensures.count
     c.put_prefix-q.ensures (puts_then c.put_number-value_at.ensures c.put_value.ensures))

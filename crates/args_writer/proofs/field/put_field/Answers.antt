@@ -5,5 +5,5 @@ use Rattle.args_writer.proofs.field.put_field.Goals as goal
 
 pub returns : goal.returns
 returns c =
-    puts_counted 2 (any_bytes c.args.f.kind (value_in c.args.f c.args.bytes.now)) c.any_len.ensures
+    puts_counted 2 (any_bytes c.args.f.kind (value_in c.args.f.value)) c.any_len.ensures.count
     c.put_prefix-p.ensures c.put_any.ensures

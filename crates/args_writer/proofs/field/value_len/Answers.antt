@@ -1,53 +1,50 @@
--- `args_writer::field::value_len` meets its contract: a law of `SizeLaws` for each wire type. Assumes nothing.
-use Rattle.prelude.proofs.Basics.{ℕ, ◌+◌, ◌*◌, arith, sym, ap, ◌∙◌, length}
-use Rattle.args_writer.proofs.Names.{varint_length, prefix_of, bytes_field, prefix_short, bytes_sum, fixed_parts}
-use Rattle.args_writer.proofs.SizeLaws.{as_number, as_eight, as_bytes, as_four, as_none}
+-- `args_writer::field::value_len` meets its contract, value by value. Assumes nothing.
+use Rattle.prelude.proofs.Basics.{ℕ, arith, ap, length}
+use Rattle.args_writer.proofs.Names.{varint_length, prefix_of, bytes_field, number_short, prefix_short, bytes_sum}
+use Rattle.args_writer.proofs.Names.{fixed_parts}
 use Rattle.args_writer.proofs.field.value_len.Goals as goal
 
 pub overflow_add-result : goal.overflow_add-result
-overflow_add-result c = omega (arith, varint_length (c.args.f.num * 8 + 1))
+overflow_add-result c = omega (arith, varint_length 49)
 
-pub overflow_add-result-in-2 : goal.overflow_add-result-in-2
-overflow_add-result-in-2 c = omega (
-  arith,
-  prefix_short c.args.f.num
-      c.inner_len.result,
-  bytes_sum 1 c.args.bytes.now,
-  prefix_short 1 (length c.args.bytes.now),
-)
+pub overflow_add-result-in-Float : goal.overflow_add-result-in-Float
+overflow_add-result-in-Float c = omega (arith, varint_length 61)
 
-pub overflow_add-result-in-5 : goal.overflow_add-result-in-5
-overflow_add-result-in-5 c = omega (arith, varint_length (c.args.f.num * 8 + 5))
+pub overflow_add-result-in-Bytes : goal.overflow_add-result-in-Bytes
+overflow_add-result-in-Bytes c =
+    omega (arith, prefix_short c.in-Bytes.num c.inner_len-n.result, c.inner_len-n.ensures.short)
 
-pub returns-in-0 : goal.returns-in-0
-returns-in-0 c = c.number_len.ensures ∙ ap length
-    (sym (as_number c.args.f.num c.args.f.bits c.args.bytes.now c.in-0.is))
+pub returns-in-Number : goal.returns-in-Number
+returns-in-Number c =
+    record {
+      short = omega (arith, number_short c.in-Number.num c.in-Number.value);
+      count = rw c.in-Number.is c.number_len.ensures;
+    }
 
-pub returns-in-1 : goal.returns-in-1
-returns-in-1 c = omega (
-  arith,
-  fixed_parts c.args.f.num 1 8 c.args.f.bits,
-  ap length
-      (as_eight c.args.f.num c.args.f.bits c.args.bytes.now c.in-1.is),
-)
+pub returns-in-Double : goal.returns-in-Double
+returns-in-Double c =
+    record {
+      short = omega (arith, varint_length 49);
+      count = rw c.in-Double.is (omega (arith, fixed_parts 6 1 8 c.in-Double.field-0));
+    }
 
-pub returns-in-2 : goal.returns-in-2
-returns-in-2 c =
-    omega (
-      arith,
-      bytes_sum c.args.f.num (bytes_field 1 c.args.bytes.now),
-      ap (λ (n : ℕ). length (prefix_of c.args.f.num n)) c.inner_len.ensures,
-      ap length (as_bytes c.args.f.num c.args.f.bits c.args.bytes.now c.in-2.is),
-    )
+pub returns-in-Float : goal.returns-in-Float
+returns-in-Float c =
+    record {
+      short = omega (arith, varint_length 61);
+      count = rw c.in-Float.is (omega (arith, fixed_parts 7 5 4 c.in-Float.field-0));
+    }
 
-pub returns-in-5 : goal.returns-in-5
-returns-in-5 c = omega (
-  arith,
-  fixed_parts c.args.f.num 5 4 c.args.f.bits,
-  ap length
-      (as_four c.args.f.num c.args.f.bits c.args.bytes.now c.in-5.is),
-)
-
-pub returns-in_default : goal.returns-in_default
-returns-in_default c = let r = c.in_default.in_default-own.rest in ap length
-    (sym (as_none c.args.f.num c.args.f.bits c.args.bytes.now r.0.0.0.1 r.0.0.1 r.0.1 r.1))
+pub returns-in-Bytes : goal.returns-in-Bytes
+returns-in-Bytes c =
+    record {
+      short = omega (arith, prefix_short c.in-Bytes.num c.inner_len-n.result, c.inner_len-n.ensures.short);
+      count =
+          rw c.in-Bytes.is
+          (omega (
+            arith,
+            bytes_sum c.in-Bytes.num (bytes_field 1 c.in-Bytes.bytes.now),
+            ap (λ (n : ℕ). length (prefix_of c.in-Bytes.num n)) c.inner_len-n.ensures.count,
+            c.inner_len-n.ensures.count,
+          ));
+    }

@@ -5,4 +5,4 @@ use Rattle.encode.proofs.field.put_fixed_field.Goals as goal
 
 pub returns : goal.returns
 unfolding fixed_field
-returns c = puts_then c.put_varint-next.ensures c.put_fixed.ensures
+returns c = puts_then c.put_tag-next.ensures c.put_fixed.ensures

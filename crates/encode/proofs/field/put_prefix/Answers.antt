@@ -3,5 +3,5 @@ use Rattle.encode.proofs.PutsLaws.{puts_then}
 use Rattle.encode.proofs.field.put_prefix.Goals as goal
 
 pub returns : goal.returns
-returns c = puts_then c.put_varint-next.ensures
+returns c = puts_then c.put_tag-next.ensures
     c.put_varint.ensures

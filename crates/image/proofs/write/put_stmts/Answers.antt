@@ -1,56 +1,45 @@
 -- One place a turn, each behind the one before, until no live one is left. Assumes nothing.
-use Rattle.prelude.proofs.Basics.{◌<◌, arith, cond, ap, ◌∙◌}
+use Rattle.prelude.proofs.Basics.{arith, cond, ap, ◌∙◌}
 use Rattle.session.specs.Entry.{no_stmt, is_live_stmt}
 use Rattle.session.specs.Tables.{max_stmts}
 use Rattle.session.specs.Words.{stmt_in}
 use Rattle.session.proofs.BuildLaws.{get_d_build}
-use Rattle.session.proofs.SumLaws.{one_le}
+use Rattle.session.proofs.EntryLaws.{bit_of, bit_small}
 use Rattle.encode.proofs.PutsLaws.{puts_length}
 use Rattle.image_rules.specs.Listing.{stmt_entry}
 use Rattle.image_rules.specs.Image.{stmt_numbers}
 use Rattle.image_rules.specs.private.Parts.{stmt_bytes_at}
-use Rattle.image.proofs.WriteLaws.{fills, within, fills_on, filled}
+use Rattle.image.proofs.WriteLaws.{fills, fills_on, filled, all_filled}
 use Rattle.image.proofs.write.put_stmts.Goals as goal
 
-pub loop-left-init : goal.loop-left-init
-loop-left-init c = fills c.requires
+pub loop-i-init : goal.loop-i-init
+loop-i-init c = fills c.requires
 
-pub put_stmt-p-requires : goal.put_stmt-p-requires
-put_stmt-p-requires c =
-    let inside : c.loop-left.i < max_stmts = within c.loop-left.invariant c.loop-left-test.true in
-    inside
+pub shape_of-buf-then-left-eq0 : goal.shape_of-buf-then-left-eq0
+shape_of-buf-then-left-eq0 c = puts_length c.loop-i.invariant.put
+
+pub returns-then-left-eq0 : goal.returns-then-left-eq0
+returns-then-left-eq0 c =
+    let whole = filled is_live_stmt stmt_entry stmt_numbers (stmt_in c.args.words.now) c.loop-i.invariant
+    (omega (arith, c.if-left-eq0.true)) in
+    record { put = whole.0; short = whole.1 }
 
 -- where one is left one can go
 pub overflow_sub-left : goal.overflow_sub-left
-overflow_sub-left c = omega (
-  arith,
-  c.one-left.ensures,
-  one_le (is_live_stmt c.stmt_at-t.result),
-  c.loop-left-test.true,
-)
+overflow_sub-left c = omega (arith, c.from-left.ensures, bit_small (is_live_stmt c.stmt_at-t.result), c.if-left-eq0.false)
 
-pub overflow_add-i : goal.overflow_add-i
-overflow_add-i c =
-    let inside : c.loop-left.i < max_stmts = within c.loop-left.invariant c.loop-left-test.true in
-    omega (arith, inside)
-
-pub loop-left-smaller : goal.loop-left-smaller
-loop-left-smaller c =
-    let inside : c.loop-left.i < max_stmts = within c.loop-left.invariant c.loop-left-test.true in
-    omega (arith, inside)
-
-pub loop-left-preserved : goal.loop-left-preserved
-loop-left-preserved c =
-    let inside : c.loop-left.i < max_stmts = within c.loop-left.invariant c.loop-left-test.true in
-    let words = c.args.words.now in
-    let same = c.stmt_at-t.ensures ∙ get_d_build (stmt_in words) max_stmts c.loop-left.i no_stmt (inside) in
-    fills_on c.loop-left.invariant c.loop-left-test.true c.one-left.result
-    (c.one-left.ensures ∙ ap (λ x. cond (is_live_stmt x) 1 0) same) (ap (stmt_bytes_at c.loop-left.i) same)
+pub loop-i-preserved : goal.loop-i-preserved
+loop-i-preserved c =
+    let same = c.stmt_at-t.ensures ∙ get_d_build (stmt_in c.args.words.now) max_stmts c.loop-i.i no_stmt c.loop-i-test.true in
+    fills_on c.loop-i.invariant (omega (arith, c.if-left-eq0.false)) c.from-left.result
+    (c.from-left.ensures ∙ bit_of (is_live_stmt c.stmt_at-t.result) ∙ ap (λ x. cond (is_live_stmt x) 1 0) same) (ap (stmt_bytes_at c.loop-i.i) same)
     (c.put_stmt-p.ensures.put, c.put_stmt-p.ensures.short)
 
 pub shape_of-buf : goal.shape_of-buf
-shape_of-buf c = puts_length c.loop-left.invariant.put
+shape_of-buf c = puts_length c.loop-i.invariant.put
 
 pub returns : goal.returns
-returns c = let whole = filled is_live_stmt stmt_entry stmt_numbers (stmt_in c.args.words.now) c.loop-left.invariant
-    c.loop-left-test.false in record { put = whole.0; short = whole.1 }
+returns c =
+    let whole = all_filled is_live_stmt stmt_entry stmt_numbers (stmt_in c.args.words.now) c.loop-i.invariant
+    c.loop-i-test.false in
+    record { put = whole.0; short = whole.1 }

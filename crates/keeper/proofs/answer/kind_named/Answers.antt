@@ -1,9 +1,15 @@
--- `keeper::answer::kind_named` meets its contract: 8 alone names a type. Assumes nothing.
-use Rattle.keeper.proofs.AnswerLaws.{kind_told, kind_none}
+-- 8 alone names a type. Assumes nothing.
+use Rattle.protocol.specs.Reason.{number_of}
+use Rattle.protocol.specs.declared.reason.Reason.{Reason}
+use Rattle.protocol.proofs.ReasonLaws.{number_once}
+use Rattle.keeper.specs.private.Does.{kind_named}
+use Rattle.keeper.proofs.AnswerLaws.{kind_none}
 use Rattle.keeper.proofs.answer.kind_named.Goals as goal
 
-pub returns-then-reason-eq-NOT_SCALAR : goal.returns-then-reason-eq-NOT_SCALAR
-returns-then-reason-eq-NOT_SCALAR c = kind_told c.args.reason c.args.names c.if-reason-eq-NOT_SCALAR.true
+pub returns-in-NotScalar : goal.returns-in-NotScalar
+unfolding kind_named
+returns-in-NotScalar c = rw c.in-NotScalar.is
 
-pub returns : goal.returns
-returns c = kind_none c.args.reason c.args.names c.if-reason-eq-NOT_SCALAR.false
+pub returns-in_default : goal.returns-in_default
+returns-in_default c = kind_none (number_of c.args.reason) c.args.names
+    (λ e. c.in_default.not-NotScalar (number_once c.args.reason Reason.NotScalar e))

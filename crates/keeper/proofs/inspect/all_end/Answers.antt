@@ -1,4 +1,4 @@
--- `keeper::inspect::all_end` meets its contract: no entry is looked up. Assumes nothing.
+-- No entry is looked up. Assumes nothing.
 use Rattle.prelude.proofs.Basics.{◌∙◌}
 use Rattle.keeper.proofs.Names.{Request, session_of}
 use Rattle.keeper.proofs.RequestLaws.{reset_looks}
@@ -11,5 +11,5 @@ returns c = let s = session_of c.args.words.now in record {
   look =
       c.told.ensures.look ∙ closed_or_look s Request.Reset _ (reset_looks s) _ (reset_wants s);
   touches =
-      c.told.ensures.touches ∙ c.touches-all.ensures ∙ reset_touches s c.live.ensures;
+      c.told.ensures.touches ∙ c.touches-all.ensures ∙ reset_touches s c.passing.ensures;
 }

@@ -1,4 +1,4 @@
--- `keeper::inspect::inspect` meets its contract: what the frame is by itself comes first, then its request. Assumes
+-- What the frame is by itself comes first, then its request. Assumes
 -- nothing.
 use Rattle.prelude.proofs.Basics.{◌∙◌}
 use Rattle.keeper.proofs.Names.{session_of}

@@ -1,4 +1,4 @@
--- `keeper::look::look` meets its contract: what the frame is by itself comes first, then its request. Assumes nothing.
+-- What the frame is by itself comes first, then its request. Assumes nothing.
 use Rattle.prelude.proofs.Basics.{refl, ◌∙◌}
 use Rattle.keeper.proofs.Names.{session_of}
 use Rattle.keeper.proofs.LookLaws.{cut_look, length_look, unknown_look, payload_look, twice_look, look_any}

@@ -1,14 +1,13 @@
--- `keeper::look::look_at` meets its contract: closed comes first, then each request by its own entries. Assumes
--- nothing.
-use Rattle.prelude.proofs.Basics.{ℕ, false, cond, ◌≡◌, sym, ◌∙◌, eqb}
+-- Closed comes first, then each request by its own entries. Assumes nothing.
+use Rattle.prelude.proofs.Basics.{ℕ, false, cond, ◌≡◌, sym, ◌∙◌, eqb, inl, inr}
 use Rattle.protocol.specs.Reason as Reason
 use Rattle.message.specs.declared.request.Frame.TheVariants.{Good}
 use Rattle.keeper.proofs.Names.{Request, Session, is_closed, session_of, looked, look_refused, look_of, Look}
 use Rattle.keeper.specs.private.Reasons.{request_reason}
 use Rattle.keeper.proofs.RequestLaws.{reset_looks, session_close_looks, prepare_looks, deallocate_looks}
-use Rattle.keeper.proofs.RequestLaws.{close_looks}
+use Rattle.keeper.proofs.RequestLaws.{close_looks, cursor_found, fetch_looks}
 use Rattle.keeper.proofs.LookLaws.{closed_look, found_look, as_look, reset_wants, session_close_wants}
-use Rattle.keeper.proofs.LookLaws.{prepare_wants, execute_wants, deallocate_wants, close_wants}
+use Rattle.keeper.proofs.LookLaws.{prepare_wants, execute_wants, deallocate_wants, open_wants, close_wants, fetch_wants}
 use Rattle.keeper.proofs.look.look_at.Goals as goal
 
 told : (s : Session) (q : Request) → is_closed s ≡ false → {p : Request} {n : ℕ} {work l : Look} → q ≡ p →
@@ -20,31 +19,19 @@ pub returns-then-is_closed : goal.returns-then-is_closed
 returns-then-is_closed c = c.refused.ensures ∙ closed_look
     (session_of c.args.words.now) c.args.request (sym c.is_closed.ensures ∙ c.if-is_closed.true)
 
-pub look_open-requires : goal.look_open-requires
-look_open-requires c =
-    let unclosed : is_closed (session_of c.args.words.now) ≡ false = sym c.is_closed.ensures ∙ c.if-is_closed.false in
-    unclosed
-
-pub look_fetch-requires : goal.look_fetch-requires
-look_fetch-requires c =
-    let unclosed : is_closed (session_of c.args.words.now) ≡ false = sym c.is_closed.ensures ∙ c.if-is_closed.false in
-    unclosed
-
 pub returns-in-Reset : goal.returns-in-Reset
-returns-in-Reset c = let s = session_of c.args.words.now in
-    told (session_of c.args.words.now) c.args.request (sym c.is_closed.ensures ∙ c.if-is_closed.false)
-    c.in-Reset.is (reset_looks s) (reset_wants s) c.found.ensures
-
-pub returns-in-SessionClose : goal.returns-in-SessionClose
-returns-in-SessionClose c = let s =
-    session_of c.args.words.now in told (session_of c.args.words.now) c.args.request (sym c.is_closed.ensures
-    ∙ c.if-is_closed.false)
-    c.in-SessionClose.is (session_close_looks s) (session_close_wants s) c.found-in-SessionClose.ensures
+returns-in-Reset c =
+    let s = session_of c.args.words.now in
+    let opened : is_closed s ≡ false = sym c.is_closed.ensures ∙ c.if-is_closed.false in
+    elim c.in-Reset.is [
+      | inl e ↦ told s c.args.request opened e (reset_looks s) (reset_wants s) c.found.ensures
+      | inr e ↦ told s c.args.request opened e (session_close_looks s) (session_close_wants s) c.found.ensures
+    ]
 
 pub returns-in-Prepare : goal.returns-in-Prepare
 returns-in-Prepare c = let s = session_of c.args.words.now in
     told (session_of c.args.words.now) c.args.request (sym c.is_closed.ensures ∙ c.if-is_closed.false) c.in-Prepare.is
-    (prepare_looks s _ c.stmt_place-place.ensures c.full.ensures) (prepare_wants s _)
+    (prepare_looks s _ c.stmt_place-place.ensures c.room.ensures) (prepare_wants s _)
     c.found-in-Prepare.ensures
 
 pub returns-in-Execute : goal.returns-in-Execute
@@ -57,16 +44,25 @@ returns-in-Deallocate c = let s = session_of c.args.words.now in
     told (session_of c.args.words.now) c.args.request (sym c.is_closed.ensures
     ∙ c.if-is_closed.false) c.in-Deallocate.is
     (deallocate_looks s _ c.find_stmt-place.ensures c.stmt_at-entry.ensures
-    c.dead_stmt.ensures) (deallocate_wants s _) c.found-in-Deallocate.ensures
+    c.live.ensures) (deallocate_wants s _) c.found-in-Deallocate.ensures
+
+pub «open-requires» : goal.open-requires
+«open-requires» c = c.cursor_place-place.ensures
 
 pub returns-in-Open : goal.returns-in-Open
-returns-in-Open c = (as_look (session_of c.args.words.now) c.args.request) c.in-Open.is c.look_open.ensures
+returns-in-Open c = let s = session_of c.args.words.now in
+    told (session_of c.args.words.now) c.args.request (sym c.is_closed.ensures ∙ c.if-is_closed.false) c.in-Open.is
+    c.«open».ensures (open_wants s _) c.found-in-Open.ensures
 
 pub returns-in-Close : goal.returns-in-Close
 returns-in-Close c = let s = session_of c.args.words.now in
     told (session_of c.args.words.now) c.args.request (sym c.is_closed.ensures ∙ c.if-is_closed.false) c.in-Close.is
     (close_looks s _ c.find_cursor-place.ensures c.cursor_at-entry.ensures
-    c.dead_cursor.ensures) (close_wants s _) c.found-in-Close.ensures
+    c.live-in-Close.ensures) (close_wants s _) c.found-in-Close.ensures
 
 pub returns-in-Fetch : goal.returns-in-Fetch
-returns-in-Fetch c = (as_look (session_of c.args.words.now) c.args.request) c.in-Fetch.is c.look_fetch.ensures
+returns-in-Fetch c = let s = session_of c.args.words.now in
+    told (session_of c.args.words.now) c.args.request (sym c.is_closed.ensures ∙ c.if-is_closed.false) c.in-Fetch.is
+    (fetch_looks s _ (cursor_found s _ c.find_cursor-place-in-Fetch.ensures c.cursor_at-cursor.ensures)
+    c.fetch.ensures) (fetch_wants s _ (cursor_found s _ c.find_cursor-place-in-Fetch.ensures
+    c.cursor_at-cursor.ensures)) c.found_rows.ensures

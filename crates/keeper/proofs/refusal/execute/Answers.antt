@@ -5,5 +5,5 @@ use Rattle.keeper.proofs.refusal.execute.Goals as goal
 
 pub returns : goal.returns
 returns c =
-    execute_bound (session_of c.args.words.now) c.args.x c.find_stmt-place.result c.stmt_at.result c.binding.result
+    execute_bound (session_of c.args.words.now) c.args.x c.find_stmt-place.result c.stmt_at.result _
     c.find_stmt-place.ensures c.stmt_at.ensures c.binding.ensures

@@ -2,7 +2,8 @@
 use Rattle.prelude.proofs.Basics.{◌∙◌}
 use Rattle.keeper.proofs.ReasonLaws.{opening_other, opening_same, opening_none}
 use Rattle.keeper.proofs.refusal.opening.Goals as goal
-use Rattle.keeper.proofs.refusal.opening.Goals.{then-carried-ne0+else-carried-id, else-carried-ne0}
+use Rattle.keeper.proofs.refusal.opening.Goals.{else-carried-ne0-via-then-carried-ne0+else-carried-id}
+use Rattle.keeper.proofs.refusal.opening.Goals.{else-carried-ne0-via-else-carried-ne0}
 
 pub returns-then-carried-id : goal.returns-then-carried-id
 returns-then-carried-id c =
@@ -10,8 +11,10 @@ returns-then-carried-id c =
 
 pub returns : goal.returns
 returns c =
-    c.full.ensures
-    ∙ elim c.if-carried-ne0.branch [
-      | then-carried-ne0+else-carried-id w ↦ opening_same c.args.id c.args.carried c.args.place w.if-carried-id.false
-      | else-carried-ne0 w ↦ opening_none c.args.id c.args.carried c.args.place w.if-carried-ne0.false
+    c.room.ensures
+    ∙ elim c.else-carried-ne0.branch [
+      | else-carried-ne0-via-then-carried-ne0+else-carried-id w ↦
+          opening_same c.args.id c.args.carried c.args.place w.if-carried-id.false
+      | else-carried-ne0-via-else-carried-ne0 w ↦
+          opening_none c.args.id c.args.carried c.args.place w.if-carried-ne0.false
     ]

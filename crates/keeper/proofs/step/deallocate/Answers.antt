@@ -1,20 +1,22 @@
--- `keeper::step::deallocate` meets its contract: the entry looked up decides, and it is freed. Assumes nothing.
-use Rattle.keeper.proofs.Names.{session_of}
-use Rattle.keeper.proofs.StepLaws.{refuses, accepts}
-use Rattle.keeper.proofs.RequestLaws.{deallocate_decides, deallocate_sends, deallocate_after}
+-- The entry looked up decides, whatever the report. Assumes nothing.
+use Rattle.prelude.proofs.Basics.{refl}
+use Rattle.keeper.proofs.Names.{Request, session_of}
+use Rattle.keeper.proofs.ResultLaws.{handed_on}
+use Rattle.keeper.proofs.StepLaws.{look_refuses, decides, decides_err}
+use Rattle.keeper.proofs.RequestLaws.{deallocate_looks, deallocate_sends, deallocate_after}
 use Rattle.keeper.proofs.step.deallocate.Goals as goal
 
-pub returns-then-reason-ne-ACCEPTED : goal.returns-then-reason-ne-ACCEPTED
-returns-then-reason-ne-ACCEPTED c =
-    refuses (deallocate_decides c.args.used c.args.report c.requires c.find_stmt-place.ensures
-    c.stmt_at.ensures c.dead_stmt-reason.ensures)
-    c.if-reason-ne-ACCEPTED.true c.unbound.ensures c.refuse.ensures
+pub returns-in_err-live : goal.returns-in_err-live
+returns-in_err-live c r =
+    let s = session_of c.args.words.now in
+    decides_err (handed_on _ _ c.from_residual.ensures)
+    (look_refuses s (Request.Deallocate c.args.stmt) r c.requires
+    (deallocate_looks s c.args.stmt c.find_stmt-place.ensures c.stmt_at.ensures c.in_err-live.ensures))
 
 pub returns : goal.returns
-returns c =
+returns c r =
     let s = session_of c.args.words.now in
-    accepts (deallocate_decides c.args.used c.args.report c.requires c.find_stmt-place.ensures
-    c.stmt_at.ensures c.dead_stmt-reason.ensures)
-    c.if-reason-ne-ACCEPTED.false (deallocate_sends s c.args.stmt c.args.report)
-    (deallocate_after s c.args.stmt c.args.report c.find_stmt-place.ensures c.free.ensures)
-    c.accept.ensures
+    decides s (Request.Deallocate c.args.stmt) r c.requires
+    (deallocate_looks s c.args.stmt c.find_stmt-place.ensures c.stmt_at.ensures c.in_ok-live.ensures) refl
+    (deallocate_sends s c.args.stmt r)
+    (deallocate_after s c.args.stmt r c.find_stmt-place.ensures c.free.ensures)

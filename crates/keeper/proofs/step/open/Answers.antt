@@ -1,43 +1,26 @@
--- `keeper::step::open` meets its contract: the statement, the arguments and the cursors decide, and the cursor is
--- stored. Assumes nothing.
-use Rattle.prelude.proofs.Basics.{◌≤◌, arith}
-use Rattle.keeper.proofs.Names.{session_of, max_number}
-use Rattle.keeper.proofs.StepLaws.{refuses, accepts}
-use Rattle.keeper.proofs.RequestLaws.{open_decides, open_sends, open_after, open_within, result_within}
+-- The statement, the arguments and the cursors decide, and the report; the cursor is stored. Assumes nothing.
+use Rattle.keeper.proofs.Names.{Request, session_of}
+use Rattle.keeper.proofs.ResultLaws.{handed_on}
+use Rattle.keeper.proofs.StepLaws.{look_refuses, report_refuses, decides, decides_err}
+use Rattle.keeper.proofs.RequestLaws.{open_sends, open_after}
 use Rattle.keeper.proofs.step.open.Goals as goal
 
-pub returns-then-reason-ne-ACCEPTED : goal.returns-then-reason-ne-ACCEPTED
-returns-then-reason-ne-ACCEPTED c = refuses (open_decides c.args.used c.args.report c.requires c.open-looked.ensures
-    c.is_result.ensures c.report-suited.ensures c.or_else-reason.ensures)
-    c.if-reason-ne-ACCEPTED.true c.bound-names.ensures c.refuse.ensures
+pub returns-in_err-open : goal.returns-in_err-open
+returns-in_err-open c =
+    let s = session_of c.args.words.now in
+    decides_err (handed_on _ _ c.from_residual.ensures)
+    (look_refuses s (Request.Open c.args.o) c.args.report c.requires c.in_err-open.ensures)
 
-pub overflow_cast-report : goal.overflow_cast-report
-overflow_cast-report c =
-    let rows-within : c.args.report.rows ≤ max_number = result_within c.args.report c.open-looked.result
-    c.is_result.ensures c.report-suited.ensures c.or_else-reason.ensures c.if-reason-ne-ACCEPTED.false in
-    record { fits = omega (arith, rows-within) }
-
-pub overflow_cast-count : goal.overflow_cast-count
-overflow_cast-count c =
-    let rows-within : c.args.report.rows ≤ max_number = result_within c.args.report c.open-looked.result
-    c.is_result.ensures c.report-suited.ensures c.or_else-reason.ensures c.if-reason-ne-ACCEPTED.false in
-    record {
-      fits = omega (
-        arith,
-        open_within c.args.report c.args.o.rows c.open_count-count.ensures,
-        rows-within,
-      );
-    }
-
-pub opened-requires : goal.opened-requires
-opened-requires c =
-    open_within c.args.report c.args.o.rows c.open_count-count.ensures
+pub returns-in_err-set : goal.returns-in_err-set
+returns-in_err-set c =
+    let s = session_of c.args.words.now in
+    decides_err (handed_on _ _ c.from_residual-in_err-set.ensures)
+    (report_refuses s (Request.Open c.args.o) c.args.report c.requires c.in_ok-open.ensures c.in_err-set.ensures.reason)
 
 pub returns : goal.returns
 returns c =
     let s = session_of c.args.words.now in
-    accepts (open_decides c.args.used c.args.report c.requires c.open-looked.ensures c.is_result.ensures
-    c.report-suited.ensures c.or_else-reason.ensures)
-    c.if-reason-ne-ACCEPTED.false (open_sends s c.args.o c.args.report c.open_count-count.ensures c.opened.ensures)
-    (open_after s c.args.o c.args.report c.cursor_place-place.ensures c.open_count-count.ensures c.open.ensures)
-    c.accept.ensures
+    decides s (Request.Open c.args.o) c.args.report c.requires c.in_ok-open.ensures c.in_ok-set.ensures.reason
+    (open_sends s c.args.o c.args.report c.in_ok-set.ensures.found c.open_count-count.ensures c.opened.ensures)
+    (open_after s c.args.o c.args.report c.cursor_place-place.ensures c.in_ok-set.ensures.found
+    c.open_count-count.ensures c.open-2.ensures)

@@ -1,33 +1,33 @@
--- `keeper::step::prepare` meets its contract: the place that the statement takes decides, and it is stored there.
--- Assumes nothing.
-use Rattle.prelude.proofs.Basics.{arith}
-use Rattle.keeper.proofs.Names.{session_of}
-use Rattle.keeper.proofs.StepLaws.{refuses, accepts}
-use Rattle.keeper.proofs.RequestLaws.{prepare_decides, prepare_sends, prepare_after, prepared_within}
+-- The place that the statement takes decides, and the report; it is stored there. Assumes nothing.
+use Rattle.keeper.proofs.Names.{Request, session_of}
+use Rattle.keeper.proofs.ResultLaws.{handed_on}
+use Rattle.keeper.proofs.StepLaws.{look_refuses, report_refuses, decides, decides_err}
+use Rattle.keeper.proofs.RequestLaws.{prepare_looks, prepare_sends, prepare_after}
 use Rattle.keeper.proofs.step.prepare.Goals as goal
 
-pub returns-then-reason-ne-ACCEPTED : goal.returns-then-reason-ne-ACCEPTED
-returns-then-reason-ne-ACCEPTED c =
-    refuses (prepare_decides c.args.used c.args.report c.requires c.stmt_place-place.ensures
-    c.full-looked.ensures c.is_prepared.ensures c.report-suited.ensures
-    c.or_else-reason.ensures)
-    c.if-reason-ne-ACCEPTED.true c.bound-names.ensures c.refuse.ensures
+pub returns-in_err-room : goal.returns-in_err-room
+returns-in_err-room c =
+    let s = session_of c.args.words.now in
+    let q = Request.Prepare c.args.p in
+    decides_err (handed_on _ _ c.from_residual.ensures)
+    (look_refuses s q c.args.report c.requires
+    (prepare_looks s c.args.p c.stmt_place-place.ensures c.in_err-room.ensures))
 
-pub overflow_cast-report : goal.overflow_cast-report
-overflow_cast-report c = let r = c.args.report in
-    record {
-      fits = omega (
-        arith,
-        prepared_within r c.full-looked.result c.is_prepared.ensures
-            c.report-suited.ensures c.or_else-reason.ensures c.if-reason-ne-ACCEPTED.false,
-      );
-    }
+pub returns-in_err-placeholders : goal.returns-in_err-placeholders
+returns-in_err-placeholders c =
+    let s = session_of c.args.words.now in
+    let q = Request.Prepare c.args.p in
+    decides_err (handed_on _ _ c.from_residual-in_err-placeholders.ensures)
+    (report_refuses s q c.args.report c.requires
+    (prepare_looks s c.args.p c.stmt_place-place.ensures c.in_ok-room.ensures)
+    c.in_err-placeholders.ensures.reason)
 
 pub returns : goal.returns
-returns c = let s = session_of c.args.words.now in
-    accepts (prepare_decides c.args.used c.args.report c.requires c.stmt_place-place.ensures
-    c.full-looked.ensures c.is_prepared.ensures c.report-suited.ensures
-    c.or_else-reason.ensures)
-    c.if-reason-ne-ACCEPTED.false (prepare_sends s c.args.p c.args.report)
-    (prepare_after s c.args.p c.args.report c.stmt_place-place.ensures c.prepare.ensures)
-    c.accept.ensures
+returns c =
+    let s = session_of c.args.words.now in
+    let q = Request.Prepare c.args.p in
+    decides s q c.args.report c.requires
+    (prepare_looks s c.args.p c.stmt_place-place.ensures c.in_ok-room.ensures)
+    c.in_ok-placeholders.ensures.reason (prepare_sends s c.args.p c.args.report)
+    (prepare_after s c.args.p c.args.report c.stmt_place-place.ensures c.in_ok-placeholders.ensures.found
+    c.prepare.ensures)

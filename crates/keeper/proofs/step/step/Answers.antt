@@ -1,4 +1,4 @@
--- `keeper::step::step` meets its contract: room comes first, then what the frame is by itself, then its request.
+-- Room comes first, then what the frame is by itself, then its request.
 -- Assumes nothing.
 use Rattle.prelude.proofs.Basics.{refl}
 use Rattle.keeper.proofs.Names.{frame_of, padded_of, session_of}
@@ -40,7 +40,7 @@ returns-in-UnknownType c =
     let whole = clauses (does_unread (session_of c.args.words.now) c.args.frame.now c.args.report c.args.reply.now
     c.read_frame.ensures.answer c.in-UnknownType.is (λ _. refl) (unknown_refuses
     (session_of c.args.words.now) _ c.args.report c.args.reply.now c.if-reply-lt-MIN_BUFFER.false
-    c.closed_or-refusal.ensures c.refuse.ensures)) in record {
+    c.closed_or-reason.ensures c.refuse.ensures)) in record {
       answer = whole.0;
       session = whole.1.0;
       buffer =
@@ -52,7 +52,7 @@ returns-in-BadPayload c =
     let whole = clauses (does_unread (session_of c.args.words.now) c.args.frame.now c.args.report c.args.reply.now
     c.read_frame.ensures.answer c.in-BadPayload.is (λ _. refl) (payload_refuses
     (session_of c.args.words.now) _ c.args.report c.args.reply.now c.if-reply-lt-MIN_BUFFER.false _
-    c.closed_or-refusal-in-BadPayload.ensures c.refuse-in-BadPayload.ensures)) in record {
+    c.closed_or-reason-in-BadPayload.ensures c.refuse-in-BadPayload.ensures)) in record {
       answer =
           whole.0;
       session = whole.1.0;
@@ -64,7 +64,7 @@ returns-in-BodyTwice c = let whole =
     clauses (does_told (session_of c.args.words.now) c.args.frame.now c.args.report c.args.reply.now
     c.read_frame.ensures.answer _ c.in-BodyTwice.is (λ _ _ h. h) c.read_frame.ensures.told
     (twice_refuses (session_of c.args.words.now) _ c.args.report c.args.reply.now c.if-reply-lt-MIN_BUFFER.false _
-    c.closed_or-refusal-in-BodyTwice.ensures c.refuse-answer.ensures)
+    c.closed_or-reason-in-BodyTwice.ensures c.refuse-answer.ensures)
     c.said.ensures) in record { answer = whole.0; session = whole.1.0; buffer = whole.1.1 }
 
 pub returns-in-Good : goal.returns-in-Good

@@ -11,4 +11,4 @@ returns-then-v-ge-LISTED_BITS c = listed_high _ _ c.if-values-eq0.false c.if-v-g
 
 pub returns : goal.returns
 returns c = ap (λ (m : ℕ). eqb (m / 2 ^ (c.args.value % 2 ^ 32) % 2) 1)
-    c.wide.ensures ∙ listed_bit c.args.values c.args.value c.if-values-eq0.false c.if-v-ge-LISTED_BITS.false
+    c.from.ensures ∙ listed_bit c.args.values c.args.value c.if-values-eq0.false c.if-v-ge-LISTED_BITS.false

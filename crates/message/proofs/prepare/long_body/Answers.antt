@@ -1,30 +1,26 @@
 -- A StmtExecute's arguments are found in one pass; of any other body the answer alone counts.
-use Rattle.prelude.proofs.Basics.{arith, true, refl, ◌∙◌, [], not-false, not-true}
+use Rattle.prelude.proofs.Basics.{arith, true, refl, sym, ◌∙◌, []}
 use Rattle.message.proofs.Names.{embedded, held_good, bound_found}
 use Rattle.message.proofs.MessageLaws.{body_list_bad, body_list}
 use Rattle.message.proofs.BoundLaws.{body_lost, body_found}
 use Rattle.message.proofs.prepare.long_body.Goals as goal
 
-pub returns-then-not-b : goal.returns-then-not-b
-returns-then-not-b c =
+pub returns-in_default : goal.returns-in_default
+returns-in_default c =
     c.bad.ensures
     ∙ body_lost c.args.s.now c.args.operation c.args.at c.args.n c.if-operation-eq-STMT_EXECUTE.true
-    c.read_bound-b.result
-    c.read_bound-b.ensures.answer
-    (not-true _ c.if-not-b.true)
+    (sym c.in_default.is ∙ c.read_bound.ensures.answer)
 
 pub overflow_add-at : goal.overflow_add-at
 overflow_add-at c =
-    let f = bound_found true c.args.s.now c.args.at c.args.n c.read_bound-b.result c.read_bound-b.ensures.answer
-    (not-false _ c.if-not-b.false) in
+    let f = bound_found true c.args.s.now c.args.at c.args.n (sym c.in-Some.is ∙ c.read_bound.ensures.answer) in
     record { fits = omega (arith, f.inside) }
 
 pub returns-then-operation-eq-STMT_EXECUTE : goal.returns-then-operation-eq-STMT_EXECUTE
 returns-then-operation-eq-STMT_EXECUTE c =
     c.arguments.ensures
     ∙ body_found c.args.s.now c.args.operation c.args.at c.args.n c.if-operation-eq-STMT_EXECUTE.true
-    c.read_bound-b.result c.read_bound-b.ensures.answer
-    (not-false _ c.if-not-b.false)
+    (sym c.in-Some.is ∙ c.read_bound.ensures.answer)
 
 pub returns-then-not-fill_part : goal.returns-then-not-fill_part
 returns-then-not-fill_part c =

@@ -1,23 +1,25 @@
--- The arrays hold the message's fields.
+-- The id that is found, or none, is the one of the definition.
+use Rattle.prelude.proofs.Basics.{ℕ, List, sym, ◌∙◌}
 use Rattle.protocol.specs.Client as Client
-use Rattle.message.proofs.Names.{deallocate_frame, Request}
-use Rattle.message.proofs.ArrayLaws.{named_spoiled, named_held}
+use Rattle.message.proofs.Names.{deallocate_frame, fields_at, rows_of, payload, Request, Slots}
+use Rattle.message.proofs.MessageLaws.{id_bad, id_good}
 use Rattle.message.proofs.simple.read_deallocate.Goals as goal
 
-pub returns-then-not-fill_payload : goal.returns-then-not-fill_payload
+abbrev found : List ℕ → Slots
+found s = fields_at (rows_of Client.deallocate) s payload
+
+pub returns-in-Some : goal.returns-in-Some
 unfolding deallocate_frame
-returns-then-not-fill_payload c = let s = c.args.s.now in record {
-  answer = named_spoiled s Client.deallocate Request.Deallocate
-      (rw c.deallocate_rows-rows.ensures at c.fill_payload.ensures.holds) (c.if-not-fill_payload.true);
-  told = tt;
+returns-in-Some c = record {
+  answer = id_good c.args.s.now Client.deallocate Request.Deallocate (found c.args.s.now)
+      (sym c.in-Some.is ∙ rw c.deallocate_rows.ensures at c.read_id.ensures.answer);
+  told = c.read_id.ensures.told;
 }
 
-pub returns : goal.returns
+pub returns-in-None : goal.returns-in-None
 unfolding deallocate_frame
-returns c = let s = c.args.s.now in record {
-  answer = rw c.low.ensures
-      (named_held s Client.deallocate Request.Deallocate
-      (rw c.deallocate_rows-rows.ensures at c.fill_payload.ensures.holds)
-      (c.if-not-fill_payload.false));
-  told = c.fill_payload.ensures.told;
+returns-in-None c = record {
+  answer = id_bad c.args.s.now Client.deallocate Request.Deallocate (found c.args.s.now)
+      (sym c.in-None.is ∙ rw c.deallocate_rows.ensures at c.read_id.ensures.answer);
+  told = tt;
 }

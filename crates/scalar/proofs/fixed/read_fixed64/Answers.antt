@@ -1,15 +1,22 @@
--- Each of the two tests that the value passes the end; low and high four bytes by `little-add`.
-use Rattle.prelude.proofs.Basics.{◌+◌, ◌*◌, ◌^◌, arith}
-use Rattle.scalar.proofs.FixedLaws.{little_add, fixed_bad, fixed_whole}
+-- Low and high four bytes by `little-add`; where one of them is not there, the eight are not.
+use Rattle.prelude.proofs.Basics.{arith, sym, ◌∙◌}
+use Rattle.scalar.proofs.FixedLaws.{Pair, low_and_high}
 use Rattle.scalar.proofs.fixed.read_fixed64.Goals as goal
 
-pub returns-then-s-lt8 : goal.returns-then-s-lt8
-returns-then-s-lt8 c = fixed_bad 8 c.args.s.now c.args.at (omega arith)
+pair : (c : goal.After-struct_known-2-1) → Pair c.args.s.now c.args.at c.in_ok-low.low c.in_ok-high.high
+pair c =
+    low_and_high c.args.s.now c.args.at c.in_ok-low.low c.in_ok-high.high (λ i. omega (arith, c.type_inv.s i))
+    (sym c.in_ok-low.was ∙ c.read_fixed32.ensures) (sym c.in_ok-high.was ∙ c.read_fixed32-2.ensures)
 
-pub returns-then-s-at : goal.returns-then-s-at
-returns-then-s-at c = fixed_bad 8 c.args.s.now c.args.at (omega arith)
+pub overflow_mul-result : goal.overflow_mul-result
+overflow_mul-result c =
+    let both =
+    low_and_high c.args.s.now c.args.at c.in_ok-low.low c.in_ok-high.high (λ i. omega (arith, c.type_inv.s i))
+    (sym c.in_ok-low.was ∙ c.read_fixed32.ensures) (sym c.in_ok-high.was ∙ c.read_fixed32-2.ensures) in
+    omega (arith, both.high)
+
+pub overflow_add-result : goal.overflow_add-result
+overflow_add-result c = omega (arith, (pair c).low, (pair c).high)
 
 pub returns : goal.returns
-returns c = fixed_whole 8 c.args.s.now c.args.at
-    (c.four.result + 2 ^ 32 * c.four-2.result) (omega arith)
-    (omega (arith, little_add 4 4 c.args.s.now c.args.at))
+returns c = (pair c).whole

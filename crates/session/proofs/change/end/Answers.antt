@@ -1,5 +1,5 @@
 -- The cursors before the place that pass have ended; the others are as they were. Assumes nothing.
-use Rattle.prelude.proofs.Basics.{arith, sym, ◌∙◌}
+use Rattle.prelude.proofs.Basics.{sym, ◌∙◌}
 use Rattle.session.proofs.Names.{passes}
 use Rattle.session.proofs.ChangeLaws.{begins, all_ended, ends_it, leaves_it}
 use Rattle.session.proofs.change.end.Goals as goal
@@ -7,15 +7,6 @@ use Rattle.session.proofs.change.end.Goals.{then-passes, else-passes}
 
 pub loop-i-init : goal.loop-i-init
 loop-i-init c = begins (passes c.args.which) c.args.words.now
-
-pub passes-requires : goal.passes-requires
-passes-requires c = omega arith
-
-pub overflow_add-i : goal.overflow_add-i
-overflow_add-i c = omega arith
-
-pub loop-i-smaller : goal.loop-i-smaller
-loop-i-smaller c = omega arith
 
 pub loop-i-preserved : goal.loop-i-preserved
 loop-i-preserved c = let state = c.loop-i.invariant in

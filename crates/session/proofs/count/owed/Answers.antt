@@ -6,21 +6,12 @@ use Rattle.session.proofs.count.owed.Goals as goal
 pub loop-i-init : goal.loop-i-init
 loop-i-init c = sums
 
-pub owes-sum-requires : goal.owes-sum-requires
-owes-sum-requires c = omega arith
-
 pub overflow_add-sum : goal.overflow_add-sum
 overflow_add-sum c = omega (arith, c.owes-sum.ensures.1, c.loop-i.invariant.small)
 
-pub overflow_add-i : goal.overflow_add-i
-overflow_add-i c = omega arith
-
-pub loop-i-smaller : goal.loop-i-smaller
-loop-i-smaller c = omega arith
-
 pub loop-i-preserved : goal.loop-i-preserved
-loop-i-preserved c = sums_on c.loop-i.invariant c.owes-sum.result c.loop-i-test.true
-    c.owes-sum.ensures.0 c.owes-sum.ensures.1
+loop-i-preserved c =
+    sums_on c.loop-i.invariant c.owes-sum.result c.loop-i-test.true c.owes-sum.ensures.0 c.owes-sum.ensures.1
 
 pub returns : goal.returns
 returns c = summed c.loop-i.invariant c.loop-i-test.false

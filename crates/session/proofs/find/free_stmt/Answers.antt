@@ -1,28 +1,12 @@
--- The first free place from here on is the first of all. Assumes nothing.
-use Rattle.prelude.proofs.Basics.{arith, sym, ◌∙◌}
-use Rattle.session.proofs.EntryLaws.{free_yes, free_no}
-use Rattle.session.proofs.LoopLaws.{looks, looks_on, placed, no_place_lem}
+-- The first place that is found is the first of all. Assumes nothing.
+use Rattle.std.proofs.Common.{tests}
+use Rattle.prelude.proofs.Basics.{rules}
+use Rattle.session.specs.Entry.{free_stmt}
+use Rattle.session.proofs.Names.{max_stmts, stmt_in}
+use Rattle.session.proofs.LoopLaws.{finds}
 use Rattle.session.proofs.find.free_stmt.Goals as goal
 
-pub loop-i-init : goal.loop-i-init
-loop-i-init c = looks
-
-pub stmt_live-requires : goal.stmt_live-requires
-stmt_live-requires c = omega arith
-
-pub returns-then-stmt_live-eq0 : goal.returns-then-stmt_live-eq0
-returns-then-stmt_live-eq0 c = placed c.loop-i.invariant c.loop-i-test.true
-    (free_yes _ (sym c.stmt_live.ensures ∙ c.if-stmt_live-eq0.true))
-
-pub overflow_add-i : goal.overflow_add-i
-overflow_add-i c = omega arith
-
-pub loop-i-smaller : goal.loop-i-smaller
-loop-i-smaller c = omega arith
-
-pub loop-i-preserved : goal.loop-i-preserved
-loop-i-preserved c = looks_on c.loop-i.invariant c.loop-i-test.true
-    (free_no _ (λ e. c.if-stmt_live-eq0.false (c.stmt_live.ensures ∙ e)))
-
 pub returns : goal.returns
-returns c = no_place_lem c.loop-i.invariant c.loop-i-test.false
+returns c =
+    finds free_stmt (stmt_in c.args.words.now) 0 max_stmts _ _ c.find.result c.find.ensures.ran
+    (λ x b q k. search (rules, tests))

@@ -6,6 +6,3 @@ use Rattle.session.proofs.mask.passing.Given as goal
 
 abbrev pub invariant-loop-i : goal.invariant-loop-i
 invariant-loop-i l = Masking (passes l.which) (cursor_in l.words) max_cursors l.i l.mask
-
-abbrev pub decreases-loop-i : goal.decreases-loop-i
-decreases-loop-i l = l.i

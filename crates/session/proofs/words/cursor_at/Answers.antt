@@ -8,8 +8,8 @@ returns-then-i-lt-MAX_CURSORS c =
     let w = c.args.words.now in
     rw (c.cursor_id.ensures, c.cursor_stmt.ensures, c.cursor_rows.ensures)
     (rw (c.cursor_sent.ensures, c.cursor_live.ensures)
-    (read_there (cursor_in w) max_cursors c.args.place _ c.index-i.ensures no_cursor c.if-i-lt-MAX_CURSORS.true))
+    (read_there (cursor_in w) max_cursors c.args.place _ c.unwrap_or-i.ensures no_cursor c.if-i-lt-MAX_CURSORS.true))
 
 pub returns : goal.returns
 returns c = read_past (cursor_in c.args.words.now) max_cursors c.args.place _
-    c.index-i.ensures no_cursor c.if-i-lt-MAX_CURSORS.false
+    c.unwrap_or-i.ensures no_cursor c.if-i-lt-MAX_CURSORS.false

@@ -7,8 +7,8 @@ use Rattle.session.proofs.words.put_cursor.Goals as goal
 pub returns-then-i-lt-MAX_CURSORS : goal.returns-then-i-lt-MAX_CURSORS
 returns-then-i-lt-MAX_CURSORS c = let w = c.args.words.now in
     c.store_cursor.ensures ∙ ap (with_cursors (session_of w))
-    (put_there (cursor_in w) max_cursors c.args.place _ c.index-i.ensures c.args.c)
+    (put_there (cursor_in w) max_cursors c.args.place _ c.unwrap_or-i.ensures c.args.c)
 
 pub returns-else-i-lt-MAX_CURSORS : goal.returns-else-i-lt-MAX_CURSORS
 returns-else-i-lt-MAX_CURSORS c = let w = c.args.words.now in ap (with_cursors (session_of w))
-    (put_past (cursor_in w) max_cursors c.args.place _ c.index-i.ensures c.args.c c.if-i-lt-MAX_CURSORS.false)
+    (put_past (cursor_in w) max_cursors c.args.place _ c.unwrap_or-i.ensures c.args.c c.if-i-lt-MAX_CURSORS.false)

@@ -9,8 +9,8 @@ returns-then-i-lt-MAX_CURSORS c =
     let w = c.args.words.now in
     c.store_sent.ensures
     ∙ ap (with_cursors (session_of w))
-    (sent_there w c.args.place _ c.args.sent c.index-i.ensures c.if-i-lt-MAX_CURSORS.true)
+    (sent_there w c.args.place _ c.args.sent c.unwrap_or-i.ensures c.if-i-lt-MAX_CURSORS.true)
 
 pub returns-else-i-lt-MAX_CURSORS : goal.returns-else-i-lt-MAX_CURSORS
 returns-else-i-lt-MAX_CURSORS c = let w = c.args.words.now in ap (with_cursors (session_of w))
-    (put_past (cursor_in w) max_cursors c.args.place _ c.index-i.ensures _ c.if-i-lt-MAX_CURSORS.false)
+    (put_past (cursor_in w) max_cursors c.args.place _ c.unwrap_or-i.ensures _ c.if-i-lt-MAX_CURSORS.false)

@@ -1,28 +1,15 @@
--- Words before the place are 0, the others as they were. Assumes nothing.
-use Rattle.prelude.proofs.Basics.{arith}
-use Rattle.session.proofs.WordLaws.{wipes, wipes_on, wiped_all}
+-- Zeros stand before the flag, and the flag is as it was. Assumes nothing.
+use Rattle.prelude.proofs.Basics.{ℕ, arith, ◌≡◌, ap, ◌∙◌, ◌++◌, length, take, drop, replicate, length-take}
+use Rattle.session.proofs.Names.{closed_at, session_of}
+use Rattle.session.proofs.WordLaws.{zeros_in_front}
 use Rattle.session.proofs.words.wipe.Goals as goal
 
-pub loop-i-init : goal.loop-i-init
-loop-i-init c = wipes c.args.words.now c.requires
-
-pub offset_bounds-words-i : goal.offset_bounds-words-i
-offset_bounds-words-i c = omega arith
-
-pub bounds-words-i : goal.bounds-words-i
-bounds-words-i c = omega arith
-
-pub overflow_add-i : goal.overflow_add-i
-overflow_add-i c = omega arith
-
-pub loop-i-smaller : goal.loop-i-smaller
-loop-i-smaller c = omega arith
-
-pub loop-i-preserved : goal.loop-i-preserved
-loop-i-preserved c = wipes_on c.loop-i.invariant c.loop-i-test.true
-
-pub shape_of-words : goal.shape_of-words
-shape_of-words c = omega arith
+pub slice_bounds-fill-end-2 : goal.slice_bounds-fill-end-2
+slice_bounds-fill-end-2 c = omega (arith, length-take closed_at c.args.words.now, c.requires)
 
 pub returns : goal.returns
-returns c = wiped_all c.loop-i.invariant c.loop-i-test.false
+returns c =
+    let w = c.args.words.now in
+    let n : length (take closed_at w) ≡ closed_at = omega (arith, length-take closed_at w, c.requires) in
+    let zeros = c.fill.ensures.after (λ y e. e) ∙ ap (λ (k : ℕ). replicate k 0) n in
+    ap (λ zs. session_of (zs ++ drop closed_at w)) zeros ∙ zeros_in_front w

@@ -1,5 +1,4 @@
 -- `trace_line::line::put_line` meets its contract: its parts stand one behind the other. Assumes nothing.
-use Rattle.encode.proofs.PutsLaws.{puts_length}
 use Rattle.trace_line.proofs.Names.{puts_then, line_of}
 use Rattle.trace_line.proofs.line.put_line.Goals as goal
 
@@ -13,6 +12,3 @@ returns c = let four =
     (puts_then (puts_then (puts_then (puts_then four mark) c.put_column-at-5.ensures) c.put_column-at-6.ensures)
     c.put_decimal-at.ensures)
     c.put_byte.ensures
-
-pub shape_of-t : goal.shape_of-t
-shape_of-t c = puts_length (returns c)

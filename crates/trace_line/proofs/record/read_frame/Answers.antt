@@ -1,19 +1,17 @@
--- `trace_line::record::read_frame` meets its contract: it is too long, not all there, or whole. Assumes nothing.
-use Rattle.prelude.proofs.Basics.{arith, ◌∙◌}
-use Rattle.trace_line.proofs.RecordLaws.{frame_bad, frame_short, frame_whole}
+-- `trace_line::record::read_frame` meets its contract: a report stands behind it, or none. Assumes nothing.
+use Rattle.prelude.proofs.Basics.{arith}
+use Rattle.std.proofs.lemmas.Result.{err_from_is_err_and}
+use Rattle.trace_line.proofs.RecordLaws.{report_is}
 use Rattle.trace_line.proofs.record.read_frame.Goals as goal
 
-pub returns-then-len-gt-MAX_FRAME : goal.returns-then-len-gt-MAX_FRAME
-returns-then-len-gt-MAX_FRAME c = frame_bad c.args.s.now c.args.len c.args.start c.if-len-gt-MAX_FRAME.true
-
-pub returns-then-s-start : goal.returns-then-s-start
-returns-then-s-start c = frame_short c.args.s.now c.args.len c.args.start c.if-len-gt-MAX_FRAME.false
-    (omega arith)
-
-pub returns-then-s-start-2 : goal.returns-then-s-start-2
-returns-then-s-start-2 c = frame_short c.args.s.now c.args.len c.args.start
-    c.if-len-gt-MAX_FRAME.false (omega arith)
+pub returns-in_err-told : goal.returns-in_err-told
+returns-in_err-told c =
+    let p = err_from_is_err_and c.from_residual-in_err-told.result c.from_residual-in_err-told.ensures.1 in
+    rw (p.1, p.2)
+    (report_is c.args.s.now c.args.len c.args.start c.if-len-gt-MAX_FRAME.false (omega arith) c.in_ok-kind.ensures
+    c.in_err-told.ensures)
 
 pub returns : goal.returns
-returns c = c.read_kind.ensures ∙ frame_whole
-    c.args.s.now c.args.len c.args.start c.if-len-gt-MAX_FRAME.false (omega arith)
+returns c =
+    report_is c.args.s.now c.args.len c.args.start c.if-len-gt-MAX_FRAME.false (omega arith) c.in_ok-kind.ensures
+    c.in_ok-told.ensures

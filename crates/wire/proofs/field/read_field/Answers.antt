@@ -17,21 +17,21 @@ returns-then-n-at c = record {
 pub returns-then-tag-lt8 : goal.returns-then-tag-lt8
 returns-then-tag-lt8 c =
     let inside = c.if-n-at.false in record {
-      answer = quick_low c.args.s.now c.args.at c.wide-tag.result inside c.wide-tag.ensures
+      answer = quick_low c.args.s.now c.args.at c.from-tag.result inside c.from-tag.ensures
           (omega arith) c.if-tag-lt8.true;
       told = or_none c.args.padded.now
-          (quick_flag_low c.args.s.now c.args.at c.wide-tag.result inside c.wide-tag.ensures
+          (quick_flag_low c.args.s.now c.args.at c.from-tag.result inside c.from-tag.ensures
           (omega arith) c.if-tag-lt8.true);
     }
 
 pub returns-then-wire-eq-VARINT : goal.returns-then-wire-eq-VARINT
 returns-then-wire-eq-VARINT c = let inside = c.if-n-at.false in record {
   answer = (c.valued.ensures ∙ ap (of_value _ 0) c.number_value.ensures.answer)
-      ∙ quick_wire c.args.s.now c.args.at c.wide-tag.result inside c.wide-tag.ensures c.if-tag-lt128.true 0
+      ∙ quick_wire c.args.s.now c.args.at c.from-tag.result inside c.from-tag.ensures c.if-tag-lt128.true 0
       c.if-tag-lt8.false c.if-wire-eq-VARINT.true
       (omega arith);
   told = c.number_value.ensures.told ∙ or_same c.args.padded.now
-      (quick_flag c.args.s.now c.args.at c.wide-tag.result inside c.wide-tag.ensures c.if-tag-lt128.true 0
+      (quick_flag c.args.s.now c.args.at c.from-tag.result inside c.from-tag.ensures c.if-tag-lt128.true 0
       c.if-tag-lt8.false c.if-wire-eq-VARINT.true
       (omega arith));
 }
@@ -39,11 +39,11 @@ returns-then-wire-eq-VARINT c = let inside = c.if-n-at.false in record {
 pub returns-then-wire-eq-LEN : goal.returns-then-wire-eq-LEN
 returns-then-wire-eq-LEN c = let inside = c.if-n-at.false in record {
   answer = (c.valued-then-wire-eq-LEN.ensures ∙ ap (of_value _ 2) c.length_value.ensures.answer)
-      ∙ quick_wire c.args.s.now c.args.at c.wide-tag.result inside c.wide-tag.ensures c.if-tag-lt128.true 2
+      ∙ quick_wire c.args.s.now c.args.at c.from-tag.result inside c.from-tag.ensures c.if-tag-lt128.true 2
       c.if-tag-lt8.false c.if-wire-eq-LEN.true
       (omega arith);
   told = c.length_value.ensures.told ∙ or_same c.args.padded.now
-      (quick_flag c.args.s.now c.args.at c.wide-tag.result inside c.wide-tag.ensures c.if-tag-lt128.true 2
+      (quick_flag c.args.s.now c.args.at c.from-tag.result inside c.from-tag.ensures c.if-tag-lt128.true 2
       c.if-tag-lt8.false c.if-wire-eq-LEN.true
       (omega arith));
 }

@@ -9,18 +9,11 @@ use Rattle.wire.proofs.field.tagged.Goals as goal
 
 pub overflow_sub-result : goal.overflow_sub-result
 overflow_sub-result c = group_ends max_depth
-    c.args.s.now c.args.at c.args.n (sym c.skip_group.ensures ∙ c.in-At.is)
+    c.args.s.now c.args.at c.args.n (sym c.skip_group.ensures ∙ c.in_ok-next.was)
 
-pub returns-in-At : goal.returns-in-At
-returns-in-At c = record {
-  answer = ap (of_group c.args.n c.args.at) (sym c.in-At.is ∙ c.skip_group.ensures)
-      ∙ field_group c.args.s.now c.args.n c.args.wire c.args.at c.if-wire-eq-GROUP_START.true;
-  told = or_none c.args.padded.now (group_flag c.args.s.now c.args.wire c.args.at c.if-wire-eq-GROUP_START.true);
-}
-
-pub returns-in-Bad : goal.returns-in-Bad
-returns-in-Bad c = record {
-  answer = ap (of_group c.args.n c.args.at) (sym c.in-Bad.is ∙ c.skip_group.ensures)
+pub returns-then-wire-eq-GROUP_START : goal.returns-then-wire-eq-GROUP_START
+returns-then-wire-eq-GROUP_START c = record {
+  answer = ap (of_group c.args.n c.args.at) (sym c.in_ok-next.was ∙ c.skip_group.ensures)
       ∙ field_group c.args.s.now c.args.n c.args.wire c.args.at c.if-wire-eq-GROUP_START.true;
   told = or_none c.args.padded.now (group_flag c.args.s.now c.args.wire c.args.at c.if-wire-eq-GROUP_START.true);
 }

@@ -3,5 +3,5 @@ use Rattle.prelude.proofs.Basics.{sym, ap}
 use Rattle.wire.proofs.Names.{of_value}
 use Rattle.wire.proofs.field.valued.Goals as goal
 
-pub returns-in-Good : goal.returns-in-Good
-returns-in-Good c = ap (of_value c.args.n c.args.wire) (sym c.in-Good.is)
+pub returns : goal.returns
+returns c = ap (of_value c.args.n c.args.wire) (sym c.in_ok-value.was)

@@ -21,7 +21,7 @@ pub returns-then-tag-ge128 : goal.returns-then-tag-ge128
 returns-then-tag-ge128 c =
     let s = c.args.s.now in
     let inside = c.if-n-at.false in
-    let more : 128 ≤ get_or s c.args.at 0 = rw c.wide-tag.ensures at c.if-tag-ge128.true in record {
+    let more : 128 ≤ get_or s c.args.at 0 = rw c.from-tag.ensures at c.if-tag-ge128.true in record {
       answer =
           c.long_tag.ensures.answer ∙ ap tag_of (behind_answer s c.args.at inside more (take-length s));
       told =
@@ -32,35 +32,35 @@ returns-then-tag-ge128 c =
 pub returns-then-tag-lt8 : goal.returns-then-tag-lt8
 returns-then-tag-lt8 c =
     record {
-      answer = short_low c.args.s.now c.args.at c.wide-tag.result c.if-n-at.false c.wide-tag.ensures
+      answer = short_low c.args.s.now c.args.at c.from-tag.result c.if-n-at.false c.from-tag.ensures
           c.if-tag-ge128.false
           c.if-tag-lt8.true;
       told = (
           or_none c.args.padded.now
-          (one_flag c.args.s.now c.args.at c.wide-tag.result c.if-n-at.false c.wide-tag.ensures
+          (one_flag c.args.s.now c.args.at c.from-tag.result c.if-n-at.false c.from-tag.ensures
           c.if-tag-ge128.false));
     }
 
 pub returns-then-tag-ge6 : goal.returns-then-tag-ge6
 returns-then-tag-ge6 c =
     record {
-      answer = short_unlisted c.args.s.now c.args.at c.wide-tag.result c.if-n-at.false c.wide-tag.ensures
+      answer = short_unlisted c.args.s.now c.args.at c.from-tag.result c.if-n-at.false c.from-tag.ensures
           c.if-tag-ge128.false
           c.if-tag-lt8.false c.if-tag-ge6.true;
       told = (
           or_none c.args.padded.now
-          (one_flag c.args.s.now c.args.at c.wide-tag.result c.if-n-at.false c.wide-tag.ensures
+          (one_flag c.args.s.now c.args.at c.from-tag.result c.if-n-at.false c.from-tag.ensures
           c.if-tag-ge128.false));
     }
 
 pub returns : goal.returns
 returns c =
     record {
-      answer = short_good c.args.s.now c.args.at c.wide-tag.result c.if-n-at.false c.wide-tag.ensures
+      answer = short_good c.args.s.now c.args.at c.from-tag.result c.if-n-at.false c.from-tag.ensures
           c.if-tag-ge128.false
           c.if-tag-lt8.false c.if-tag-ge6.false;
       told = (
           or_none c.args.padded.now
-          (one_flag c.args.s.now c.args.at c.wide-tag.result c.if-n-at.false c.wide-tag.ensures
+          (one_flag c.args.s.now c.args.at c.from-tag.result c.if-n-at.false c.from-tag.ensures
           c.if-tag-ge128.false));
     }

@@ -3,5 +3,5 @@ use Rattle.prelude.proofs.Basics.{sym, ap}
 use Rattle.wire.proofs.Names.{of_fixed}
 use Rattle.wire.proofs.value.fixed_value.Goals as goal
 
-pub returns-in-Number : goal.returns-in-Number
-returns-in-Number c = ap (of_fixed c.args.width c.args.at) (sym c.in-Number.is)
+pub returns : goal.returns
+returns c = ap (of_fixed c.args.width c.args.at) (sym c.in_ok-fixed.was)

@@ -7,26 +7,19 @@ use Rattle.wire.proofs.value.length_value.Goals as goal
 pub overflow_sub-s : goal.overflow_sub-s
 overflow_sub-s c = omega (
   arith,
-  varint_ends c.args.s.now c.args.at (sym c.in-Number.is ∙ c.read_varint.ensures.answer),
+  varint_ends c.args.s.now c.args.at (sym c.in_ok-length.was ∙ c.read_varint.ensures.answer),
 )
 
-pub returns-then-s-next : goal.returns-then-s-next
-returns-then-s-next c = let s = c.args.s.now in record {
-  answer = length_long s _ _ c.if-s-next.true ∙ ap (of_length s)
-      (sym c.in-Number.is ∙ c.read_varint.ensures.answer);
+pub returns-then-s-length : goal.returns-then-s-length
+returns-then-s-length c = let s = c.args.s.now in record {
+  answer = length_long s _ _ c.if-s-length.true ∙ ap (of_length s)
+      (sym c.in_ok-length.was ∙ c.read_varint.ensures.answer);
   told = c.read_varint.ensures.told;
 }
 
-pub returns-else-s-next : goal.returns-else-s-next
-returns-else-s-next c = let s = c.args.s.now in record {
-  answer = length_good s _ _ c.if-s-next.false ∙ ap (of_length s)
-      (sym c.in-Number.is ∙ c.read_varint.ensures.answer);
-  told = c.read_varint.ensures.told;
-}
-
-pub returns-in-Bad : goal.returns-in-Bad
-returns-in-Bad c = record {
-  answer = ap (of_length c.args.s.now)
-      (sym c.in-Bad.is ∙ c.read_varint.ensures.answer);
+pub returns : goal.returns
+returns c = let s = c.args.s.now in record {
+  answer = length_good s _ _ c.if-s-length.false ∙ ap (of_length s)
+      (sym c.in_ok-length.was ∙ c.read_varint.ensures.answer);
   told = c.read_varint.ensures.told;
 }

@@ -7,19 +7,12 @@ use Rattle.wire.proofs.value.number_value.Goals as goal
 pub overflow_sub-result : goal.overflow_sub-result
 overflow_sub-result c = omega (
   arith,
-  varint_ends c.args.s.now c.args.at (sym c.in-Number.is ∙ c.read_varint.ensures.answer),
+  varint_ends c.args.s.now c.args.at (sym c.in_ok-read.was ∙ c.read_varint.ensures.answer),
 )
 
-pub returns-in-Number : goal.returns-in-Number
-returns-in-Number c = record {
+pub returns : goal.returns
+returns c = record {
   answer = ap (of_varint c.args.at)
-      (sym c.in-Number.is ∙ c.read_varint.ensures.answer);
-  told = c.read_varint.ensures.told;
-}
-
-pub returns-in-Bad : goal.returns-in-Bad
-returns-in-Bad c = record {
-  answer =
-      ap (of_varint c.args.at) (sym c.in-Bad.is ∙ c.read_varint.ensures.answer);
+      (sym c.in_ok-read.was ∙ c.read_varint.ensures.answer);
   told = c.read_varint.ensures.told;
 }

@@ -1,59 +1,43 @@
--- Each arm is accepted_as at its message type.
-use Rattle.prelude.proofs.Basics.{ℕ, Bool, ◌≡◌, refl, sym, ap, ◌∙◌, List}
-use Rattle.writer.proofs.Names.{accepted_as, accepted, Draft}
-use Rattle.writer.proofs.JudgeLaws.{kind_none}
+-- Each arm is accepted_as at its kind's message type. Assumes nothing.
+use Rattle.prelude.proofs.Basics.{ℕ, Bool, ◌≡◌, refl, List}
+use Rattle.writer.specs.declared.kind.Kind.{Kind}
+use Rattle.writer.specs.private.Kind.{type_of}
+use Rattle.writer.proofs.Names.{accepted_as}
 use Rattle.writer.proofs.judge.is_accepted.Goals as goal
 
--- what an arm answers at its message type it answers for the draft
-arm : (d : Draft) (body args : List ℕ) {k : ℕ} {b : Bool} → d.kind ≡ k → b ≡ accepted_as k d.operation body args →
-    b ≡ accepted d body args
-arm d body args e h = h ∙ ap (λ (k : ℕ). accepted_as k d.operation body args) (sym e)
+-- what an arm answers at its kind it answers for the kind that it is
+arm : (operation : ℕ) (body args : List ℕ) {k x : Kind} {b : Bool} → k ≡ x →
+    b ≡ accepted_as (type_of x) operation body args → b ≡ accepted_as (type_of k) operation body args
+arm operation body args e h = rw e h
 
-pub returns-in-6 : goal.returns-in-6
+pub returns-in-Prepare : goal.returns-in-Prepare
 unfolding accepted_as
-returns-in-6 c =
-    arm c.args.draft c.args.body.now c.args.args.now c.in-6.is refl
+returns-in-Prepare c = arm c.args.operation c.args.body.now c.args.args.now c.in-Prepare.is c.is_prepare.ensures
 
-pub returns-in-7 : goal.returns-in-7
+pub returns-in-Execute : goal.returns-in-Execute
 unfolding accepted_as
-returns-in-7 c =
-    arm c.args.draft c.args.body.now c.args.args.now c.in-7.is refl
+returns-in-Execute c = arm c.args.operation c.args.body.now c.args.args.now c.in-Execute.is c.is_stretch.ensures
 
-pub returns-in-40 : goal.returns-in-40
+pub returns-in-Deallocate : goal.returns-in-Deallocate
 unfolding accepted_as
-returns-in-40 c =
-    arm c.args.draft c.args.body.now c.args.args.now c.in-40.is c.is_prepare.ensures
+returns-in-Deallocate c = arm c.args.operation c.args.body.now c.args.args.now c.in-Deallocate.is refl
 
-pub returns-in-41 : goal.returns-in-41
+pub returns-in-Open : goal.returns-in-Open
 unfolding accepted_as
-returns-in-41 c =
-    arm c.args.draft c.args.body.now c.args.args.now c.in-41.is c.is_stretch.ensures
+returns-in-Open c = arm c.args.operation c.args.body.now c.args.args.now c.in-Open.is c.is_stretch-in-Open.ensures
 
-pub returns-in-42 : goal.returns-in-42
+pub returns-in-Close : goal.returns-in-Close
 unfolding accepted_as
-returns-in-42 c =
-    arm c.args.draft c.args.body.now c.args.args.now c.in-42.is refl
+returns-in-Close c = arm c.args.operation c.args.body.now c.args.args.now c.in-Close.is refl
 
-pub returns-in-43 : goal.returns-in-43
+pub returns-in-Fetch : goal.returns-in-Fetch
 unfolding accepted_as
-returns-in-43 c =
-    arm c.args.draft c.args.body.now c.args.args.now c.in-43.is c.is_stretch-in-43.ensures
+returns-in-Fetch c = arm c.args.operation c.args.body.now c.args.args.now c.in-Fetch.is refl
 
-pub returns-in-44 : goal.returns-in-44
+pub returns-in-Reset : goal.returns-in-Reset
 unfolding accepted_as
-returns-in-44 c =
-    arm c.args.draft c.args.body.now c.args.args.now c.in-44.is refl
+returns-in-Reset c = arm c.args.operation c.args.body.now c.args.args.now c.in-Reset.is refl
 
-pub returns-in-45 : goal.returns-in-45
+pub returns-in-SessionClose : goal.returns-in-SessionClose
 unfolding accepted_as
-returns-in-45 c =
-    arm c.args.draft c.args.body.now c.args.args.now c.in-45.is refl
-
-pub returns-in_default : goal.returns-in_default
-returns-in_default c =
-    kind_none c.args.draft.kind c.args.draft.operation c.args.body.now c.args.args.now
-    c.in_default.in_default-own.rest.0.0.0.0.0.0.0.1
-    c.in_default.in_default-own.rest.0.0.0.0.0.0.1 c.in_default.in_default-own.rest.0.0.0.0.0.1
-    c.in_default.in_default-own.rest.0.0.0.0.1
-    c.in_default.in_default-own.rest.0.0.0.1
-    c.in_default.in_default-own.rest.0.0.1 c.in_default.in_default-own.rest.0.1 c.in_default.in_default-own.rest.1
+returns-in-SessionClose c = arm c.args.operation c.args.body.now c.args.args.now c.in-SessionClose.is refl

@@ -1,6 +1,6 @@
 -- The sum of its fields' lengths.
 use Rattle.prelude.proofs.Basics.{ℕ, arith, ap, length}
-use Rattle.writer.proofs.Names.{prefix_of, number_short, optional_short, prefix_short}
+use Rattle.writer.proofs.Names.{prefix_of, number_short, optional_short, optional_told, prefix_short}
 use Rattle.writer.proofs.SizeLaws.{open-parts, open_stmt_short}
 use Rattle.writer.proofs.payload.open_len.Goals as goal
 
@@ -18,8 +18,11 @@ overflow_add-result-2 c = omega (
 
 pub overflow_add-result-3 : goal.overflow_add-result-3
 overflow_add-result-3 c =
+    let d = c.args.draft in
+    let rows = ap length (optional_told d.hasrows 5 d.rows c.rows_of.ensures) in
     omega (
       arith,
+      rows,
       number_short 1 c.args.draft.cursor,
       prefix_short 4 c.open_stmt_len-n.result,
       open_stmt_short
@@ -28,9 +31,12 @@ overflow_add-result-3 c =
     )
 
 pub returns : goal.returns
-returns c = omega (
-  arith,
-  open-parts c.args.draft
-      c.args.args.now,
-  ap (λ (n : ℕ). length (prefix_of 4 n)) c.open_stmt_len-n.ensures,
-)
+returns c =
+    let d = c.args.draft in
+    let rows = ap length (optional_told d.hasrows 5 d.rows c.rows_of.ensures) in
+    omega (
+      arith,
+      rows,
+      open-parts d c.args.args.now,
+      ap (λ (n : ℕ). length (prefix_of 4 n)) c.open_stmt_len-n.ensures,
+    )

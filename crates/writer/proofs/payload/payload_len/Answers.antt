@@ -1,36 +1,43 @@
--- Each arm is payload_as at its message type.
-use Rattle.prelude.proofs.Basics.{sym, ap, ◌∙◌, length}
-use Rattle.writer.proofs.PayloadLaws.{as_prepare, as_execute, as_deallocate, as_open, as_close, as_fetch}
-use Rattle.writer.proofs.PayloadLaws.{as_none}
+-- Each arm is payload_as at its kind's message type. Assumes nothing.
+use Rattle.prelude.proofs.Basics.{ℕ, ◌≡◌, refl, List, length}
+use Rattle.writer.specs.declared.kind.Kind.{Kind}
+use Rattle.writer.specs.private.Kind.{type_of}
+use Rattle.writer.proofs.Names.{payload_as, Draft}
 use Rattle.writer.proofs.payload.payload_len.Goals as goal
 
-pub returns-in-40 : goal.returns-in-40
-returns-in-40 c = c.prepare_len.ensures ∙ ap length
-    (sym (as_prepare c.args.draft c.args.body.now c.args.args.now c.in-40.is))
+-- what an arm answers at its kind it answers for the kind that it is
+arm : (d : Draft) (body args : List ℕ) {k x : Kind} {n : ℕ} → k ≡ x →
+    n ≡ length (payload_as (type_of x) d body args) → n ≡ length (payload_as (type_of k) d body args)
+arm d body args e h = rw e h
 
-pub returns-in-41 : goal.returns-in-41
-returns-in-41 c = c.execute_len.ensures ∙ ap length
-    (sym (as_execute c.args.draft c.args.body.now c.args.args.now c.in-41.is))
+pub returns-in-Prepare : goal.returns-in-Prepare
+unfolding payload_as
+returns-in-Prepare c = arm c.args.draft c.args.body.now c.args.args.now c.in-Prepare.is c.prepare_len.ensures
 
-pub returns-in-42 : goal.returns-in-42
-returns-in-42 c = c.number_len.ensures ∙ ap length
-    (sym (as_deallocate c.args.draft c.args.body.now c.args.args.now c.in-42.is))
+pub returns-in-Execute : goal.returns-in-Execute
+unfolding payload_as
+returns-in-Execute c = arm c.args.draft c.args.body.now c.args.args.now c.in-Execute.is c.execute_len.ensures
 
-pub returns-in-43 : goal.returns-in-43
-returns-in-43 c = c.open_len.ensures ∙ ap length
-    (sym (as_open c.args.draft c.args.body.now c.args.args.now c.in-43.is))
+pub returns-in-Deallocate : goal.returns-in-Deallocate
+unfolding payload_as
+returns-in-Deallocate c = arm c.args.draft c.args.body.now c.args.args.now c.in-Deallocate.is c.number_len.ensures
 
-pub returns-in-44 : goal.returns-in-44
-returns-in-44 c = c.number_len-in-44.ensures ∙ ap length
-    (sym (as_close c.args.draft c.args.body.now c.args.args.now c.in-44.is))
+pub returns-in-Open : goal.returns-in-Open
+unfolding payload_as
+returns-in-Open c = arm c.args.draft c.args.body.now c.args.args.now c.in-Open.is c.open_len.ensures
 
-pub returns-in-45 : goal.returns-in-45
-returns-in-45 c = c.fetch_len.ensures ∙ ap length
-    (sym (as_fetch c.args.draft c.args.body.now c.args.args.now c.in-45.is))
+pub returns-in-Close : goal.returns-in-Close
+unfolding payload_as
+returns-in-Close c = arm c.args.draft c.args.body.now c.args.args.now c.in-Close.is c.number_len-in-Close.ensures
 
-pub returns-in_default : goal.returns-in_default
-returns-in_default c =
-    ap length (sym (as_none c.args.draft c.args.body.now c.args.args.now c.in_default.in_default-own.rest.0.0.0.0.0.1
-    c.in_default.in_default-own.rest.0.0.0.0.1
-    c.in_default.in_default-own.rest.0.0.0.1 c.in_default.in_default-own.rest.0.0.1
-    c.in_default.in_default-own.rest.0.1 c.in_default.in_default-own.rest.1))
+pub returns-in-Fetch : goal.returns-in-Fetch
+unfolding payload_as
+returns-in-Fetch c = arm c.args.draft c.args.body.now c.args.args.now c.in-Fetch.is c.fetch_len.ensures
+
+pub returns-in-Reset : goal.returns-in-Reset
+unfolding payload_as
+returns-in-Reset c = arm c.args.draft c.args.body.now c.args.args.now c.in-Reset.is refl
+
+pub returns-in-SessionClose : goal.returns-in-SessionClose
+unfolding payload_as
+returns-in-SessionClose c = arm c.args.draft c.args.body.now c.args.args.now c.in-SessionClose.is refl
