@@ -13,7 +13,7 @@ use Rattle.args.proofs.Names.{bad_arguments, with_type, arguments_in, argument_p
 use Rattle.args.proofs.Names.{found_argument, Bound}
 use Rattle.args.specs.Padded.{bound_padded, execute_padded}
 use Rattle.args.specs.private.Bound.{rows_by, wire_by, tests_args, nothing, with_field, own_of, found}
-use Rattle.args.specs.private.Bound.{kept_in, good_bound}
+use Rattle.args.specs.private.Bound.{kept_in}
 use Rattle.args.specs.private.Bound.{bound_of, bound_at, bound_in, args_of}
 use Rattle.std.specs.Prelude.{Option, Some, None, IsSome, option_map}
 use Rattle.args.specs.declared.bound.Own.{Own}
@@ -240,7 +240,7 @@ bad_args : (x : Slots) (a : Arguments) → a.good ≡ false → None ≡ bound_o
 unfolding bound_of
 bad_args x a h = both (λ (b : Option Bound). None ≡ b) x.good _ _ (λ _. no _ None h) (λ _. refl)
 
-good_both : (x : Slots) (a : Arguments) → x.good ≡ true → a.good ≡ true → found (own_of x) a ≡ bound_of x a
+good_both : (x : Slots) (a : Arguments) → x.good ≡ true → a.good ≡ true → Some (found (own_of x) a) ≡ bound_of x a
 unfolding bound_of
 good_both x a g h = yes _ None h ∙ yes _ None g
 
@@ -248,11 +248,11 @@ module _ {text : Bool} {s : List ℕ} {from p : ℕ} {x : Arguments} {k : Own} (
   abbrev fields : Slots
   fields = field_list (rows_by text) s from
 
-  pub done : length s ≤ p → found k x ≡ bound_at text s from
+  pub done : length s ≤ p → Some (found k x) ≡ bound_at text s from
   done h =
       let y = Fields.ends b.listing h in
       let a = Walk.ends b.walking h in
-      ap (λ (o : Own). found o x) b.holding.own
+      ap (λ (o : Own). Some (found o x)) b.holding.own
       ∙ good_both b.slots x b.holding.sound b.walking.good
       ∙ ap (λ (z : Slots). bound_of z x) y
       ∙ ap (bound_of fields) a
@@ -390,10 +390,9 @@ module _ (text : Bool) (s : List ℕ) (at n : ℕ) where
 
   pub record Found (b : Bound) : Type 0 where
     pub inside : at + n ≤ length s
-    pub fields : part ≡ list
     pub sound : list.good ≡ true
     pub good : read.good ≡ true
-    pub is : b ≡ good_bound read (kept_in list 3) (value_of list 1)
+    pub is : b ≡ found (own_of list) read
 
   -- where there is none, fields or arguments are bad
   Says : Option Bound → Type 0
@@ -403,27 +402,6 @@ module _ (text : Bool) (s : List ℕ) (at n : ℕ) where
   unlisted : {A : Type 0} → part.good ≡ false → part.good ≡ true → A
   unlisted h g = absurd (let z : ◌≡◌ {A = ℕ} 0 1 = cc in omega arith)
 
-  -- by whether field 1 is there
-  by-one : at + n ≤ length s → list.good ≡ true → read.good ≡ true → (b : Bool) → eqb (get_or list.count 1 0) 0 ≡ b →
-      Says (option_map (good_bound read (kept_in list 3)) (cond b None (Some (value_of list 1))))
-  unfolding Says
-  by-one within g h true e =
-      unlisted
-      (ap (λ (y : Slots). y.good)
-      (sym
-      (Fields.checked_bad (rows_by text) list (required text list.count e) ∙ part_within (rows_by text) s at n within)))
-  by-one within g h false e =
-      record {
-        inside = within;
-        fields =
-            sym
-            (Fields.checked_good (rows_by text) list (required text list.count e)
-            ∙ part_within (rows_by text) s at n within);
-        sound = g;
-        good = h;
-        is = refl;
-      }
-
   says : Says (bound_in text s at n)
   unfolding bound_in bound_of Says
   says =
@@ -431,8 +409,8 @@ module _ (text : Bool) (s : List ℕ) (at n : ℕ) where
       (λ i.
       let within = leb-true (at + n) (length s) i in
       both Says list.good _ _
-      (λ g. both Says read.good (found (own_of list) read) None
-      (λ h. by-one within g h (eqb (get_or list.count 1 0) 0) refl)
+      (λ g. both Says read.good (Some (found (own_of list) read)) None
+      (λ h. record { inside = within; sound = g; good = h; is = refl })
       (λ h _. h))
       (λ g.
       unlisted
@@ -447,6 +425,36 @@ module _ (text : Bool) (s : List ℕ) (at n : ℕ) where
   pub bound_lost : None ≡ bound_in text s at n → part.good ≡ true → read.good ≡ false
   unfolding Says
   bound_lost e = subst Says (sym e) says
+
+  -- what one of the two says of field 1: the message is good where it is there, and only there
+  With : Option ℕ → Type 0
+  With (Some one) = (part ≡ list) × (one ≡ value_of list 1)
+  With None = part.good ≡ false
+
+  told_by : at + n ≤ length s → (b : Bool) → eqb (get_or list.count 1 0) 0 ≡ b → With (cond b None (Some (value_of list 1)))
+  unfolding With
+  told_by within true e =
+      ap (λ (y : Slots). y.good)
+      (sym
+      (Fields.checked_bad (rows_by text) list (required text list.count e) ∙ part_within (rows_by text) s at n within))
+  told_by within false e = (
+    sym
+        (Fields.checked_good (rows_by text) list (required text list.count e) ∙ part_within (rows_by text) s at n within),
+    refl,
+  )
+
+  one_told : {b : Bound} → Found b → With b.one
+  one_told f =
+      subst With (sym (ap (λ (c : Bound). c.one) f.is))
+      (told_by f.inside (eqb (get_or list.count 1 0) 0) refl)
+
+  pub has_one : {b : Bound} {one : ℕ} → Found b → b.one ≡ Some one → (part ≡ list) × (one ≡ value_of list 1)
+  unfolding With
+  has_one f e = subst With e (one_told f)
+
+  pub lacks_one : {b : Bound} → Found b → b.one ≡ None → part.good ≡ false
+  unfolding With
+  lacks_one f e = subst With e (one_told f)
 
   -- the arguments of what is found
   pub found_arguments : {b : Bound} → Found b → args_of b at (at + n) ≡ read

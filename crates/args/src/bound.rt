@@ -18,13 +18,13 @@ pub struct Own {
     pub three: Option<u64>,
 }
 
-// A good message: field 1, which is required, and field 3, beside the arguments, as they are in `Arguments`. The
-// numbers stand in such an order that no two are copied at once right after they were written one by one, for which a
-// processor waits.
+// A message whose fields and arguments are good: field 1, which is required, and field 3, beside the arguments, as they
+// are in `Arguments`. The numbers stand in such an order that no two are copied at once right after they were written
+// one by one, for which a processor waits.
 #[derive(Clone, Copy)]
 pub struct Bound {
     pub count: usize,
-    pub one: u64,
+    pub one: Option<u64>,
     pub kind: u64,
     pub three: Option<u64>,
     pub index: usize,
@@ -37,7 +37,8 @@ pub enum Message {
     StmtExecute,
 }
 
-// The message in `n` bytes of s from `at` on, if it is good.
+// The message in `n` bytes of s from `at` on, if its fields and arguments are good. Whether field 1 is there is asked
+// of the answer.
 pub fn read_bound(
     s: &[u8],
     at: usize,
@@ -125,17 +126,16 @@ impl Own {
     }
 }
 
-fn bound_of(k: Own, x: Arguments) -> Option<Bound>
+fn bound_of(k: Own, x: Arguments) -> Bound
     ensures { result ≡ found k x }
 {
-    let one = k.one?;
-    Some(Bound {
+    Bound {
         count: x.count,
-        one,
+        one: k.one,
         kind: x.kind,
         three: k.three,
         index: x.index,
-    })
+    }
 }
 
 // The message whose bytes go from `from` to the end of s.
@@ -162,7 +162,7 @@ fn bound_at(s: &[u8], from: usize, message: Message, padded: &mut bool) -> Optio
             p = field.next;
         }
     }
-    bound_of(k, x)
+    Some(bound_of(k, x))
 }
 
 impl Bound {

@@ -8,7 +8,7 @@ use Rattle.std.specs.Prelude.{Some, None}
 use Rattle.layout.specs.Fields.{field_list}
 use Rattle.message.specs.private.Parts.{execute_by}
 use Rattle.args.proofs.TextLaws.{text_kept, text_arguments}
-use Rattle.args.proofs.BoundLaws.{bound_lost, found_arguments, lost_arguments}
+use Rattle.args.proofs.BoundLaws.{bound_lost, found_arguments, lost_arguments, has_one, lacks_one}
 use Rattle.message.proofs.Names.{Part, stmt_execute, rows_of, row_for, has_required, embedded, value_of, low32, Slots}
 use Rattle.message.proofs.Names.{good_list, no_arguments, bad_arguments, arguments_in, Arguments, told, bound_found}
 use Rattle.message.proofs.Names.{optional_of, truth_of, bad_execute, arguments_within, execute_of}
@@ -25,9 +25,9 @@ module _ (text : Bool) (s : List ℕ) (at n : ℕ) where
   there : slots.good ≡ true → arguments_in (take (at + n) s) at ≡ arguments_within s at n
   there g = within_there s at n (good_list (rows_by text) s at (at + n) g).0
 
-  module _ {b : Bound} (e : Some b ≡ bound_in text s at n) where
+  module _ {b : Bound} {one : ℕ} (e : Some b ≡ bound_in text s at n) (o : b.one ≡ Some one) where
     found-good : slots.good ≡ true
-    found-good = let f = bound_found text s at n e in ap (λ (x : Slots). x.good) f.fields ∙ f.sound
+    found-good = let f = bound_found text s at n e in ap (λ (x : Slots). x.good) (has_one text s at n f o).0 ∙ f.sound
 
     found-args : args_of b at (at + n) ≡ arguments_within s at n
     found-args = found_arguments text s at n (bound_found text s at n e) ∙ there found-good
@@ -55,15 +55,23 @@ module _ (s : List ℕ) (at n : ℕ) where
   abbrev list : Slots
   list = field_list (rows_by false) (take (at + n) s) at
 
-  pub run_found : {b : Bound} → Some b ≡ bound_in false s at n → execute_by b at (at + n) ≡ execute_in s at n
+  pub run_lacks : {b : Bound} → Some b ≡ bound_in false s at n → b.one ≡ None → bad_execute ≡ execute_in s at n
   unfolding execute_in
-  run_found {b} e =
+  run_lacks e o =
+      execute_bad run (arguments_within s at n) (lacks_one false s at n (bound_found false s at n e) o)
+
+  pub run_found : {b : Bound} {one : ℕ} → Some b ≡ bound_in false s at n → b.one ≡ Some one →
+      execute_by b one at (at + n) ≡ execute_in s at n
+  unfolding execute_in
+  run_found {b} {one} e o =
       let f = bound_found false s at n e in
-      let a = found-args false s at n e in
-      ap (λ (c : Bound). made c.one c.three (args_of b at (at + n))) f.is
-      ∙ ap (λ (x : Slots). made (value_of x 1) (optional_of x 3) (args_of b at (at + n))) (sym f.fields)
+      let h = has_one false s at n f o in
+      let a = found-args false s at n e o in
+      ap (λ (c : Bound). made one c.three (args_of b at (at + n))) f.is
+      ∙ ap (λ (v : ℕ). made v (optional_of list 3) (args_of b at (at + n))) h.1
+      ∙ ap (λ (x : Slots). made (value_of x 1) (optional_of x 3) (args_of b at (at + n))) (sym h.0)
       ∙ ap (made (value_of run 1) (optional_of run 3)) a
-      ∙ execute_good run (arguments_within s at n) (found-good false s at n e)
+      ∙ execute_good run (arguments_within s at n) (found-good false s at n e o)
       (sym (ap (λ (c : Arguments). c.good) a))
 
 module _ (s : List ℕ) (t at n : ℕ) (stmt : t ≡ Operation.stmt_execute) where
@@ -77,8 +85,12 @@ module _ (s : List ℕ) (t at n : ℕ) (stmt : t ≡ Operation.stmt_execute) whe
       go false d = body_stmt_bad s t at n body stmt refl d
       go true d = lost-args true s at n e d ∙ body_stmt s t at n body stmt refl d
 
-  pub body_found : {b : Bound} → Some b ≡ bound_in true s at n → args_of b at (at + n) ≡ body_in s t at n
-  body_found e = found-args true s at n e ∙ body_stmt s t at n body stmt refl (found-good true s at n e)
+  pub body_lacks : {b : Bound} → Some b ≡ bound_in true s at n → b.one ≡ None → bad_arguments ≡ body_in s t at n
+  body_lacks e o = body_stmt_bad s t at n body stmt refl (lacks_one true s at n (bound_found true s at n e) o)
+
+  pub body_found : {b : Bound} {one : ℕ} → Some b ≡ bound_in true s at n → b.one ≡ Some one →
+      args_of b at (at + n) ≡ body_in s t at n
+  body_found e o = found-args true s at n e o ∙ body_stmt s t at n body stmt refl (found-good true s at n e o)
 
 -- a text alone: a body without arguments
 pub body_text : (s : List ℕ) (t at n : ℕ) → t ≡ Operation.stmt_execute → {p : Part} →

@@ -62,7 +62,13 @@ fn execute_from(s: &[u8], n: usize, padded: &mut bool) -> Frame
             kind: client::EXECUTE,
         };
     };
-    let execute = execute_of(b, PAYLOAD, PAYLOAD + n);
+    let Some(id) = b.one else {
+        return Frame::BadPayload {
+            used: s.len(),
+            kind: client::EXECUTE,
+        };
+    };
+    let execute = execute_of(b, id, PAYLOAD, PAYLOAD + n);
     Frame::Good {
         used: s.len(),
         request: Request::Execute(execute),
@@ -70,11 +76,11 @@ fn execute_from(s: &[u8], n: usize, padded: &mut bool) -> Frame
 }
 
 // A good Execute in the bytes from `start` to `end`. Field 1 is stmt_id, 3 compact_metadata.
-fn execute_of(b: Bound, start: usize, end: usize) -> Execute
-    ensures { result ≡ execute_by b start end }
+fn execute_of(b: Bound, id: u64, start: usize, end: usize) -> Execute
+    ensures { result ≡ execute_by b id start end }
 {
     Execute {
-        stmt: low(b.one),
+        stmt: low(id),
         compact: read_truth(b.three),
         args: b.arguments(start, end),
     }
@@ -139,11 +145,17 @@ fn open_from(s: &[u8], id: u64, rows: Option<u64>, body: Part, padded: &mut bool
             kind: client::OPEN,
         };
     };
+    let Some(stmt) = b.one else {
+        return Frame::BadPayload {
+            used: s.len(),
+            kind: client::OPEN,
+        };
+    };
     let open = Open {
         cursor: low(id),
         rows,
         body,
-        execute: execute_of(b, body.start, body.start + body.len),
+        execute: execute_of(b, stmt, body.start, body.start + body.len),
     };
     Frame::Good {
         used: s.len(),

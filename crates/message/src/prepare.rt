@@ -227,6 +227,9 @@ pub fn long_body(s: &[u8], operation: u64, at: usize, n: usize) -> Arguments
         let Some(b) = args::bound::read_bound(s, at, n, Message::StmtExecute, &mut unread) else {
             return Arguments::bad();
         };
+        let Some(_text) = b.one else {
+            return Arguments::bad();
+        };
         return b.arguments(at, at + n);
     }
     let rows = layout::rows::stmt_execute_rows();

@@ -1,6 +1,6 @@
 -- A message with arguments in one pass: an Execute or a StmtExecute. Its fields 1 and 3, of which field 1 is required,
 -- and its arguments. For contracts inside the library; what is promised does not cite it.
-use Rattle.std.specs.Prelude.{ℕ, ◌+◌, Bool, true, false, cond, List, Option, Some, None, option_map}
+use Rattle.std.specs.Prelude.{ℕ, ◌+◌, Bool, true, false, cond, List, Option, Some, None}
 use Rattle.std.specs.Prelude.{length, take, leb, eqb}
 use Rattle.protocol.specs.WireType as WireType
 use Rattle.protocol.specs.Client as Client
@@ -52,15 +52,11 @@ kept_in x k = cond (absent x k) None (Some (value_of x k))
 abbrev pub own_of : Slots → Own
 own_of x = record { one = kept_in x Fields.id; three = kept_in x Fields.compact }
 
--- with field 1, which is required
-abbrev pub good_bound : Arguments → Option ℕ → ℕ → Bound
-good_bound a three one = record { count = a.count; one = one; kind = a.kind; three = three; index = a.index }
-
-abbrev pub found : Own → Arguments → Option Bound
-found k a = option_map (good_bound a k.three) k.one
+abbrev pub found : Own → Arguments → Bound
+found k a = record { count = a.count; one = k.one; kind = a.kind; three = k.three; index = a.index }
 
 unfoldable pub bound_of : Slots → Arguments → Option Bound
-bound_of x a = cond x.good (cond a.good (found (own_of x) a) None) None
+bound_of x a = cond x.good (cond a.good (Some (found (own_of x) a)) None) None
 
 -- the message whose bytes go from the place `from` to the end of s
 abbrev pub bound_at : Bool → List ℕ → ℕ → Option Bound

@@ -93,10 +93,10 @@ abbrev pub Runs : List ℕ → List Part → Option Inner → Type 0
 Runs s ps r = (id : ℕ) (rows : Option ℕ) → of_inner s ps id rows r ≡ open_inside s id rows ps
 
 -- a good Execute, by what one pass over its bytes finds
-abbrev pub execute_by : Bound → ℕ → ℕ → Execute
-execute_by b start end =
+abbrev pub execute_by : Bound → ℕ → ℕ → ℕ → Execute
+execute_by b stmt start end =
     record {
-      stmt = low32 b.one;
+      stmt = low32 stmt;
       compact = truth_of b.three;
       args = args_of b start end;
     }

@@ -1,6 +1,6 @@
 -- Each turn of the loop is one law on `Binding` and one on `Marking`.
 use Rattle.prelude.proofs.Basics.{ℕ, arith, ◌<◌, refl, sym, ap, subst, ◌∙◌}
-use Rattle.prelude.proofs.Basics.{or_none, or_same}
+use Rattle.prelude.proofs.Basics.{or_none, or_same, Some}
 use Rattle.std.specs.Option.{IsSome}
 use Rattle.args.specs.private.Bound.{is_text}
 use Rattle.args.proofs.Names.{type_number, marks, marked, marks_on, inside_args}
@@ -79,7 +79,7 @@ loop-p-preserved c = let other = sym c.is_args.ensures ∙ c.if-is_args.false in
 
 pub returns : goal.returns
 returns c = record {
-  answer = c.bound_of.ensures ∙ done c.loop-p.invariant.0 c.loop-p-test.false;
+  answer = ap Some c.bound_of.ensures ∙ done c.loop-p.invariant.0 c.loop-p-test.false;
   told = λ _. marked
       c.loop-p.invariant.1 c.loop-p-test.false;
 }

@@ -2,13 +2,21 @@
 use Rattle.prelude.proofs.Basics.{arith, false, sym, ap, ◌∙◌}
 use Rattle.std.specs.Option.{is_some}
 use Rattle.message.proofs.Names.{bound_found, open_from}
-use Rattle.message.proofs.BoundLaws.{run_lost, run_found}
+use Rattle.message.proofs.BoundLaws.{run_lost, run_lacks, run_found}
 use Rattle.message.proofs.execute.open_from.Goals as goal
 
 pub returns-in_default : goal.returns-in_default
 returns-in_default c = record {
   answer = ap (open_from c.args.s.now c.args.id c.args.rows c.args.body)
       (run_lost c.args.s.now c.args.body.start c.args.body.len (sym c.in_default.is ∙ c.read_bound.ensures.answer));
+  told = tt;
+}
+
+pub returns-in_default-one : goal.returns-in_default-one
+returns-in_default-one c = record {
+  answer = ap (open_from c.args.s.now c.args.id c.args.rows c.args.body)
+      (run_lacks c.args.s.now c.args.body.start c.args.body.len (sym c.in-Some.is ∙ c.read_bound.ensures.answer)
+      c.in_default-one.is);
   told = tt;
 }
 
@@ -23,6 +31,6 @@ returns c =
       answer = rw c.execute_of.ensures
           (rw c.low.ensures
           (ap (open_from c.args.s.now c.args.id c.args.rows c.args.body)
-          (run_found c.args.s.now c.args.body.start c.args.body.len (sym c.in-Some.is ∙ c.read_bound.ensures.answer))));
+          (run_found c.args.s.now c.args.body.start c.args.body.len (sym c.in-Some.is ∙ c.read_bound.ensures.answer) c.in-Some-one.is)));
       told = c.read_bound.ensures.told (ap is_some c.in-Some.is);
     }

@@ -2,7 +2,7 @@
 use Rattle.prelude.proofs.Basics.{arith, true, refl, sym, ◌∙◌, []}
 use Rattle.message.proofs.Names.{embedded, held_good, bound_found}
 use Rattle.message.proofs.MessageLaws.{body_list_bad, body_list}
-use Rattle.message.proofs.BoundLaws.{body_lost, body_found}
+use Rattle.message.proofs.BoundLaws.{body_lost, body_lacks, body_found}
 use Rattle.message.proofs.prepare.long_body.Goals as goal
 
 pub returns-in_default : goal.returns-in_default
@@ -10,6 +10,12 @@ returns-in_default c =
     c.bad.ensures
     ∙ body_lost c.args.s.now c.args.operation c.args.at c.args.n c.if-operation-eq-STMT_EXECUTE.true
     (sym c.in_default.is ∙ c.read_bound.ensures.answer)
+
+pub returns-in_default-one : goal.returns-in_default-one
+returns-in_default-one c =
+    c.bad-in_default-one.ensures
+    ∙ body_lacks c.args.s.now c.args.operation c.args.at c.args.n c.if-operation-eq-STMT_EXECUTE.true
+    (sym c.in-Some.is ∙ c.read_bound.ensures.answer) c.in_default-one.is
 
 pub overflow_add-at : goal.overflow_add-at
 overflow_add-at c =
@@ -20,7 +26,7 @@ pub returns-then-operation-eq-STMT_EXECUTE : goal.returns-then-operation-eq-STMT
 returns-then-operation-eq-STMT_EXECUTE c =
     c.arguments.ensures
     ∙ body_found c.args.s.now c.args.operation c.args.at c.args.n c.if-operation-eq-STMT_EXECUTE.true
-    (sym c.in-Some.is ∙ c.read_bound.ensures.answer)
+    (sym c.in-Some.is ∙ c.read_bound.ensures.answer) c.in-Some-one.is
 
 pub returns-then-not-fill_part : goal.returns-then-not-fill_part
 returns-then-not-fill_part c =
