@@ -2,7 +2,8 @@
 use Rattle.prelude.proofs.Basics.{ℕ, suc, ◌+◌, ◌-◌, ◌≤◌, ◌<◌, arith, add-zero, zero-add, ◌≡◌, refl, sym, ap}
 use Rattle.prelude.proofs.Basics.{subst, ◌∙◌, List, [], ◌∷◌, ◌++◌, append-nil, append_assoc, length, set, take}
 use Rattle.prelude.proofs.Basics.{drop, drop_of_length-le, length-append, length-drop, drop-drop, length-take-le, take-append-drop}
-use Rattle.prelude.proofs.Basics.{length-sets, sets, sets-eq, take_all, take_at, leb, le-leb, lt-leb, less_or_not}
+use Rattle.prelude.proofs.Basics.{length-set, length-sets, get_or, sets, sets-eq, take_all, take_at, leb, le-leb, lt-leb}
+use Rattle.prelude.proofs.Basics.{add-one, drop-cons, less_or_not}
 use lib.Seq.{set_out}
 use borrow.Rule.Slice.PartMut.{mid_of, put_mid}
 use Rattle.std.specs.Prelude.{Option, Some, None}
@@ -161,6 +162,33 @@ puts_rest {b} {ys} {part} {p} {m} {k} h e f =
         ∙ sets-eq ys (drop p b) 0 (rw length-drop (omega arith))
         ∙ ap (λ (l : List ℕ). ys ++ l) (drop-drop (0 + length ys) p b)
         ∙ ap (λ (i : ℕ). ys ++ drop (p + i) b) (zero-add (length ys))
+
+-- ---- bytes copied over others, as many, one a turn: those that are left, stored from here on, give what is to be
+
+pub record Copying (from to : List ℕ) (i : ℕ) : Type 0 where
+  pub same : length to ≡ length from
+  pub left : sets to i (drop i from) ≡ from
+
+pub copy_starts : (from to : List ℕ) → length to ≡ length from → Copying from to 0
+copy_starts from to h =
+    record {
+      same = h;
+      left =
+          sets-eq from to 0 (omega arith)
+          ∙ ap (λ (l : List ℕ). from ++ l) (drop_of_length-le to (omega arith))
+          ∙ append-nil from;
+    }
+
+pub copy_goes_on : {from to : List ℕ} {i : ℕ} → Copying from to i → i < length from →
+    Copying from (set to i (get_or from i 0)) (i + 1)
+copy_goes_on {from} {to} {i} r h =
+    record {
+      same = rw length-set r.same;
+      left = rw (add-one i) (sym (ap (sets to i) (drop-cons from i 0 h)) ∙ r.left);
+    }
+
+pub copy_ends : {from to : List ℕ} {i : ℕ} → Copying from to i → length from ≤ i → to ≡ from
+copy_ends {from} {to} {i} r h = sym (ap (sets to i) (drop_of_length-le from h)) ∙ r.left
 
 -- ---- bytes copied over a part of the buffer
 

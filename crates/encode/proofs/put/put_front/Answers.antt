@@ -9,4 +9,4 @@ returns-then-buf-at c = past_end c.args.buf.now c.args.at c.args.src.now c.if-bu
 
 pub returns : goal.returns
 returns c = puts_cut (omega (arith, c.if-buf-at.false)) (omega (arith, c.requires, c.if-buf-at.false))
-    c.copy_from_slice.ensures.after
+    c.copy_over.ensures

@@ -7,4 +7,4 @@ pub returns : goal.returns
 returns c =
     let room = leb-true (c.args.at + length c.args.src.now) (length c.args.buf.now)
     (sym c.has_room.ensures ∙ c.if-not-has_room.false) in
-    puts_copied room (omega arith) c.copy_from_slice.ensures.after
+    puts_copied room (omega arith) c.copy_over.ensures
