@@ -25,12 +25,11 @@ module _ (row : List ℕ) (number wire value : ℕ) where
   pub use_unknown : takes row number wire value ≡ false → Use.Unknown ≡ use_by row number wire value
   use_unknown e = simp e
 
-module _ (row : Row) (number wire value : ℕ) (e : takes (columns row) number wire value ≡ true) where
-  pub use_counted : row.repeated ≡ true → Use.Counted ≡ use_by (columns row) number wire value
-  use_counted h = simp (e, h)
+  pub use_counted : takes row number wire value ≡ true → get_or row 4 0 ≡ 1 → Use.Counted ≡ use_by row number wire value
+  use_counted e h = simp (e, eq-eqb (get_or row 4 0) 1 h)
 
-  pub use_kept : row.repeated ≡ false → Use.Kept ≡ use_by (columns row) number wire value
-  use_kept h = simp (e, h)
+  pub use_kept : takes row number wire value ≡ true → (get_or row 4 0 ≡ 1 → ⊥) → Use.Kept ≡ use_by row number wire value
+  use_kept e h = simp (e, ne_eqb (get_or row 4 0) 1 h)
 
 -- the row that no number has takes no field
 pub use_none : (number wire value : ℕ) → 0 < number → Use.Unknown ≡ use_by no_row number wire value

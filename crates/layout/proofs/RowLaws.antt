@@ -7,7 +7,7 @@ use Rattle.layout.proofs.Names.{number_of, wire_of, listed_of, no_row, row_for, 
 
 -- what stands past the last row
 abbrev pub past_row : Row
-past_row = record { message = 0; listed = 0; number = 0; wire = 0; required = false; repeated = false }
+past_row = record { message = 0; listed = 0; number = 0; wire = 0; required = 0; repeated = 0 }
 
 module _ (rows : List Row) (number i : ℕ) where
   pub row_hit : i < length rows → (get_or rows i past_row).number ≡ number →

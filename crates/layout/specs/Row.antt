@@ -23,7 +23,7 @@ listed_of row = get_or row 5 0
 -- the columns of a row of the code, and of some
 abbrev pub columns : Row → List ℕ
 columns row =
-    row.message ∷ row.number ∷ row.wire ∷ cond row.required 1 0 ∷ cond row.repeated 1 0 ∷ row.listed ∷ []
+    row.message ∷ row.number ∷ row.wire ∷ row.required ∷ row.repeated ∷ row.listed ∷ []
 
 abbrev pub columns_of : List Row → List (List ℕ)
 columns_of rows = map columns rows

@@ -8,7 +8,7 @@ ghost use Rattle.wire.specs.Padded.{field_padded};
 ghost use Rattle.layout.specs.private.Found.{Adds, Holds, Settles, found_times};
 
 use crate::found::Found;
-use crate::row::Row;
+use crate::row::{MANY, MUST, Row};
 use wire::field::Field;
 
 // What a message makes of a field: it is skipped, only counted (a repeated field, whose occurrences are
@@ -27,7 +27,7 @@ fn use_by(row: Row, number: u64, wire: u64, value: u64) -> Use
     if !row.takes(number, wire, value) {
         return Use::Unknown;
     }
-    if row.repeated {
+    if row.repeated == MANY {
         return Use::Counted;
     }
     Use::Kept
@@ -50,7 +50,7 @@ fn use_of(rows: &[Row], number: u64, wire: u64, value: u64) -> Use
 fn row_met(row: Row, found: &Found) -> bool
     ensures { result ≡ met (columns row) (found_times found.now) }
 {
-    if !row.required {
+    if row.required != MUST {
         return true;
     }
     match found.slots.get(usize::from(row.number)) {

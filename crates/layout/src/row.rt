@@ -13,9 +13,18 @@ pub struct Row {
     pub listed: u16,
     pub number: u16,
     pub wire: u16,
-    pub required: bool,
-    pub repeated: bool,
+    pub required: u16,
+    pub repeated: u16,
 }
+
+// Required or optional; repeated or not. A column may hold any number, and what is not 1 is not required, not repeated.
+pub(crate) const MUST: u16 = 1;
+
+pub(crate) const MAY: u16 = 0;
+
+pub(crate) const MANY: u16 = 1;
+
+pub(crate) const ONCE: u16 = 0;
 
 // The values that `listed` can list.
 const LISTED_BITS: u64 = 16;

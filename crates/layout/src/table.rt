@@ -1,5 +1,5 @@
 // The layout table: a row for each message and field number.
-use crate::row::Row;
+use crate::row::{MANY, MAY, MUST, ONCE, Row};
 use protocol::{client, wire_type};
 
 // Messages: the client messages by their type, the embedded ones by numbers of our own that no
@@ -36,15 +36,6 @@ const F64: u16 = wire_type::I64 as u16;
 const LEN: u16 = wire_type::LEN as u16;
 
 const F32: u16 = wire_type::I32 as u16;
-
-// Required or optional; repeated or not.
-const MUST: bool = true;
-
-const MAY: bool = false;
-
-const MANY: bool = true;
-
-const ONCE: bool = false;
 
 // Listed values of the enums: types of a prepared statement, of an Open's statement, of an Any and of a
 // Scalar.

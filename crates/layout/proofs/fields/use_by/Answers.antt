@@ -8,10 +8,10 @@ pub returns-then-not-takes : goal.returns-then-not-takes
 returns-then-not-takes c = use_unknown (columns c.args.row) c.args.number c.args.wire c.args.value
     (sym c.takes.ensures ∙ c.if-not-takes.true)
 
-pub returns-then-row : goal.returns-then-row
-returns-then-row c = use_counted c.args.row c.args.number c.args.wire c.args.value
-    (sym c.takes.ensures ∙ c.if-not-takes.false) c.if-row.true
+pub returns-then-row-eq-MANY : goal.returns-then-row-eq-MANY
+returns-then-row-eq-MANY c = use_counted (columns c.args.row) c.args.number c.args.wire c.args.value
+    (sym c.takes.ensures ∙ c.if-not-takes.false) c.if-row-eq-MANY.true
 
 pub returns : goal.returns
-returns c = use_kept c.args.row c.args.number c.args.wire c.args.value
-    (sym c.takes.ensures ∙ c.if-not-takes.false) c.if-row.false
+returns c = use_kept (columns c.args.row) c.args.number c.args.wire c.args.value
+    (sym c.takes.ensures ∙ c.if-not-takes.false) c.if-row-eq-MANY.false
