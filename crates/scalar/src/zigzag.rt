@@ -35,6 +35,6 @@ pub fn zigzag_encode(v: i64) -> u64
     if bits < 0x8000_0000_0000_0000 {
         twice
     } else {
-        u64::MAX - twice
+        u64::MAX.wrapping_sub(twice)
     }
 }

@@ -13,6 +13,6 @@ returns-then-bits-lt9223372036854775808 c =
 pub returns-else-bits-lt9223372036854775808 : goal.returns-else-bits-lt9223372036854775808
 returns-else-bits-lt9223372036854775808 c =
     let b = c.to_bits-bits.result in
-    encode_high b ((b + b) % 2 ^ 64) refl c.args.v (2 ^ 64 - 1 - (b + b) % 2 ^ 64) c.ranges.v
+    encode_high b ((b + b) % 2 ^ 64) refl c.args.v ((2 ^ 64 - 1 + (2 ^ 64 - (b + b) % 2 ^ 64)) % 2 ^ 64) c.ranges.v
     (c.to_bits-bits.ensures ∙ same_bits c.args.v c.ranges.v) c.if-bits-lt9223372036854775808.false
     (omega arith) (omega arith)
