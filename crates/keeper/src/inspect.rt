@@ -10,13 +10,14 @@ ghost use Rattle.session.specs.Session.{is_closed};
 ghost use Rattle.session.specs.Words.{session_of};
 ghost use Rattle.rules.specs.Decision.{look_of, look_refused};
 ghost use Rattle.rules.specs.Inspect.{touches, touches_in, touches_of};
-ghost use Rattle.rules.specs.Report.{work_number};
+ghost use Rattle.keeper.specs.Work.{work_number};
 ghost use Rattle.keeper.specs.private.Reasons.{closed_or, look_or, look_work};
 
+use crate::work::Work;
 use crate::{look, refusal};
 use message::request::{Fetch, Frame, Open, Request};
 use protocol::reason::Reason;
-use rules::{Look, Touches, Work};
+use rules::{Look, Touches};
 use session::{MAX_CURSORS, MAX_STMTS, WORDS, Which, find, mask};
 
 #[derive(Clone, Copy)]

@@ -11,3 +11,4 @@ mod report;
 mod rows;
 pub mod step;
 pub mod value;
+pub mod work;

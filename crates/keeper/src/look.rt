@@ -5,15 +5,16 @@ ghost use Rattle.message.specs.declared.request.Frame.{Frame};
 ghost use Rattle.message.specs.declared.request.Request.{Request};
 ghost use Rattle.session.specs.Words.{session_of};
 ghost use Rattle.rules.specs.Decision.{look_of, look_refused};
-ghost use Rattle.rules.specs.Report.{work_number};
 ghost use Rattle.rules.specs.Step.{look_at};
+ghost use Rattle.keeper.specs.Work.{work_number};
 ghost use Rattle.keeper.specs.private.Reasons.{look_or, look_rows, look_work};
 
+use crate::work::Work;
 use crate::{padded, refusal, rows};
 use message::request::{Frame, Request};
 use protocol::reason;
 use protocol::reason::Reason;
-use rules::{Look, Work};
+use rules::Look;
 use session::{Cursor, WORDS};
 
 pub fn look(words: &[u32; WORDS], frame: &[u8]) -> Look

@@ -5,7 +5,6 @@ use Rattle.message.specs.declared.request.Request.TheVariants.{Reset, SessionClo
 use Rattle.message.specs.declared.request.Request.TheVariants.{Close, Fetch}
 use Rattle.session.specs.Sound.{max_number, max_placeholders}
 use Rattle.rules.specs.declared.Report.{Report}
-use Rattle.rules.specs.declared.Work.{Work}
 
 -- ---- work
 
@@ -23,14 +22,6 @@ to_open = 3
 
 abbrev pub to_fetch : ℕ
 to_fetch = 4
-
--- the number that hosts know each by
-abbrev pub work_number : Work → ℕ
-work_number Work.Nothing = no_work
-work_number Work.Prepare = to_prepare
-work_number Work.Execute = to_execute
-work_number Work.Open = to_open
-work_number Work.Fetch = to_fetch
 
 abbrev pub work_of : Request → ℕ
 work_of Reset = no_work

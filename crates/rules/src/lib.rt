@@ -1,9 +1,6 @@
 // What a look and a step take and what they answer. Every struct is of numbers and bools, so that a
-// host can pass it; `Work` names the numbers of one of them.
+// host can pass it.
 #![tactic(auto)]
-
-ghost use Rattle.std.specs.Prelude.{◌≡◌};
-ghost use Rattle.rules.specs.Report.{work_number};
 
 // The kinds of an engine report.
 pub const NONE: u64 = 0;
@@ -15,30 +12,6 @@ pub const RESULT: u64 = 2;
 pub const DONE: u64 = 3;
 
 pub const FAILED: u64 = 4;
-
-// The work that a look wants of the engine.
-#[derive(Clone, Copy, Debug, PartialEq, Eq)]
-pub enum Work {
-    Nothing,
-    Prepare,
-    Execute,
-    Open,
-    Fetch,
-}
-
-impl From<Work> for u64 {
-    ghost from_gives = { λ work n. n ≡ work_number work };
-
-    fn from(work: Work) -> u64 {
-        match work {
-            Work::Nothing => 0,
-            Work::Prepare => 1,
-            Work::Execute => 2,
-            Work::Open => 3,
-            Work::Fetch => 4,
-        }
-    }
-}
 
 // The limits of what a report says.
 pub const MAX_PLACEHOLDERS: u64 = 65535;
