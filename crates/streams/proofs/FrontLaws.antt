@@ -101,13 +101,16 @@ pub first_is : (b : List ℕ) {h : HeadResult} → head_of b ≡ h → stands_fi
 unfolding stands_first
 first_is b e = ap head_reason e
 
--- where no whole frame stands first, the head is a refusal
-pub refusal : (b : List ℕ) → (stands_first b ≡ Reason.accepted → ⊥) → (reason : Declared.Reason) × (head_of b ≡ Err reason)
+-- where no whole frame stands first, the head is a refusal, by the reason told of it
+abbrev pub Refusing : List ℕ → Declared.Reason → Type 0
+Refusing b reason = (head_of b ≡ Err reason) × (stands_first b ≡ Reason.number_of reason)
+
+pub refusal : (b : List ℕ) → (stands_first b ≡ Reason.accepted → ⊥) → (reason : Declared.Reason) × Refusing b reason
 refusal b none = go (head_of b) refl
   where
-    go : (h : HeadResult) → head_of b ≡ h → (reason : Declared.Reason) × (head_of b ≡ Err reason)
+    go : (h : HeadResult) → head_of b ≡ h → (reason : Declared.Reason) × Refusing b reason
     go (Ok head) e = absurd (none (first_is b e))
-    go (Err reason) e = (reason, e)
+    go (Err reason) e = (reason, (e, first_is b e))
 
 pub is_bad : (b : List ℕ) → BadFirst b → bad_first b ≡ true
 is_bad b w = eq-eqb (stands_first b) Reason.bad_length (first_is b (bad_known b w))

@@ -17,7 +17,7 @@ use Rattle.streams.specs.Stream.{joined, Stream, stream, less_dropped}
 use Rattle.streams.specs.Arrivals.{Always, Conserved, HandsOutFrames, Drained, ReadInOrder, goes_on, Refuses}
 use Rattle.streams.specs.Arrivals.{Stays, StaysBad, StartsEmpty, Drains, Offered, FramesArrive}
 use Rattle.streams.proofs.HeldLaws.{stands_kept, pushes_behind, hands_first}
-use Rattle.streams.proofs.FrontLaws.{frame_told, refused_some, refused_none, bad_told, bad_known, refusal, first_is}
+use Rattle.streams.proofs.FrontLaws.{frame_told, refused_some, refused_none, bad_told, bad_known, refusal}
 use Rattle.streams.proofs.FrontLaws.{whole_told, kept_both, nothing_kept}
 use Rattle.streams.proofs.StreamLaws.{Holds, holds_as, joined_holds, more_comes, one_out, four_left, stream_is}
 use Rattle.streams.proofs.StreamLaws.{whole_stream, dropped_alike, behind_alike}
@@ -281,7 +281,7 @@ stays_drained (suc n) x none =
     same : HandsNone x.reader x.store (stands_first (left x)) (next_of x.reader x.store)
     same =
         let f = refusal (left x) none in
-        rw (first_is (left x) f.1) (rw f.1 at (hands_first x.reader x.store))
+        rw f.1.1 (rw f.1.0 at (hands_first x.reader x.store))
 
 -- a hand-out leaves no frame, or fewer bytes
 drains_on : (n : ℕ) (x : Reading) → length (left x) ≤ suc n → (t : HeadResult) → head_of (left x) ≡ t →

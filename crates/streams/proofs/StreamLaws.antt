@@ -108,7 +108,7 @@ none_first : (n : ℕ) (b : List ℕ) → (stands_first b ≡ Reason.accepted �
     stream_from n b ≡ record { frames = []; left = kept b }
 unfolding stream_from
 none_first zero b none = refl
-none_first (suc n) b none = ap (stream_by (stream_from n) b) (refusal b none).1
+none_first (suc n) b none = ap (stream_by (stream_from n) b) (refusal b none).1.0
 
 frames_first : (fs : List (List ℕ)) (n : ℕ) → All Whole fs → length fs ≤ n → (b : List ℕ) →
     (stands_first b ≡ Reason.accepted → ⊥) →
