@@ -2,9 +2,9 @@
 // out is held in a store that the caller lends and that only these functions write.
 #![tactic(auto)]
 
-ghost use Rattle.std.specs.Prelude.{◌≡◌, ◌-◌, ◌≤◌, [], length};
-ghost use Rattle.streams.specs.Reader.{bad_first, next_at, next_of, push_at, push_of, settled};
-ghost use Rattle.streams.specs.Reader.{stands_first, start_over, store_size, usable};
+ghost use Rattle.std.specs.Prelude.{◌≡◌, ◌-◌, ◌≤◌, [], false, length};
+ghost use Rattle.streams.specs.Reader.{bad_first, next_at, next_of, part, push_at, push_of, settled};
+ghost use Rattle.streams.specs.Reader.{stands_first, start_over, store_size, taken_count, usable};
 
 use encode::put::write_bytes;
 use message::head::{LENGTH_BYTES, read_head};
@@ -122,6 +122,17 @@ fn room_beside(held: Reader, size: usize) -> usize
     size - (held.end - held.start)
 }
 
+// How much of an arrival is taken, where no bad length stands first.
+fn taken(held: Reader, arrival: &[u8], store: &[u8]) -> usize
+    requires inside { (held.start ≤ held.end) × (held.end ≤ length store.now) }
+    requires good { bad_first (part store.now held) ≡ false }
+    ensures count { result ≡ taken_count (length store.now) (part store.now held) arrival.now }
+    ensures arrived { result ≤ length arrival.now }
+    ensures room { result ≤ length store.now - (held.end - held.start) }
+{
+    arrival.len().min(room_beside(held, store.len()))
+}
+
 // An arrival behind the bytes held, which are a part of the store.
 #[tactic(auto, unfolding(streams::specs::Reader::push_at))]
 fn push_at(held: Reader, arrival: &[u8], store: &mut [u8]) -> Pushed
@@ -139,7 +150,7 @@ fn push_at(held: Reader, arrival: &[u8], store: &mut [u8]) -> Pushed
             count: 0,
         };
     }
-    let n = arrival.len().min(room_beside(held, store.len()));
+    let n = taken(held, arrival, store);
     let room = make_room(held, n, store);
     write_bytes(store, room.end, &arrival[..n]);
     let filled = Reader {
