@@ -8,17 +8,18 @@ ghost use Rattle.layout.specs.private.Found.{Noted, Notes, up_to_two};
 use crate::slots::SLOTS;
 
 // Of a field number: whether it occurs never (0), once or more often (2), and of the occurrence that counts the value
-// and the place of its bytes.
+// and the place of its bytes. These two stand apart, and not as in a `Field`: else they are copied from one at once,
+// right after they were written one by one, for which a processor waits.
 #[derive(Clone, Copy)]
 pub struct Slot {
-    pub times: u8,
     pub value: u64,
+    pub times: u8,
     pub start: usize,
 }
 
 const EMPTY: Slot = Slot {
-    times: 0,
     value: 0,
+    times: 0,
     start: 0,
 };
 
