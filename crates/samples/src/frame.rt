@@ -6,8 +6,8 @@ use scalar::argument::Argument;
 use std::io::Write;
 use std::{fmt, io};
 
-// A double or a float that the samples use, as it stands among these, its name and a space in one piece; of any other
-// nothing is printed.
+// A double or a float that the samples use, its name and a space in one piece; of any other nothing is printed. A zero
+// has a text of its own, in one piece whatever its sign.
 fn real<T: Copy + PartialEq + fmt::Debug>(
     output: &mut impl Write,
     name: &str,
@@ -26,9 +26,11 @@ fn value(output: &mut impl Write, a: Argument) -> io::Result<()> {
         Argument::Unsigned(n) => write!(output, "uint {n}"),
         Argument::Null => write!(output, "null"),
         Argument::Octets { start, len } => write!(output, "octets {start}+{len}"),
-        Argument::Double(d) => real(output, "double ", d, &[0.0, 1.0, -2.5, 25.4]),
+        Argument::Double(d) if d == 0.0 => write!(output, "double 0.0"),
+        Argument::Double(d) => real(output, "double ", d, &[1.0, -2.5, 25.4]),
         Argument::DoubleNan(n) => write!(output, "double nan {n}"),
-        Argument::Float(d) => real(output, "float ", d, &[0.0, 1.0, -2.5]),
+        Argument::Float(d) if d == 0.0 => write!(output, "float 0.0"),
+        Argument::Float(d) => real(output, "float ", d, &[1.0, -2.5]),
         Argument::FloatNan(n) => write!(output, "float nan {n}"),
         Argument::Bool(b) => write!(output, "bool {b}"),
         Argument::String { start, len } => write!(output, "string {start}+{len}"),
